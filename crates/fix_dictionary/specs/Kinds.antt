@@ -1,0 +1,47 @@
+-- The type that the text of a type stands for.
+use Rattle.std.specs.Prelude.{◌≡◌, ℕ, Bool, true, false, List, codes, if◌then◌else◌}
+use Rattle.std.specs.Str.{bytes_eq}
+use Rattle.fix_dictionary.specs.declared.table.MessageType.{MessageType}
+use Rattle.fix_dictionary.specs.declared.table.MessageType.TheVariants as types
+use Rattle.fix_dictionary.specs.Values.{IsText}
+
+-- A type that is not listed yet, or not at all, is unsupported.
+abbrev pub type_of : List ℕ → MessageType
+type_of kind =
+    if bytes_eq kind (codes "0") then types.Heartbeat else (
+    if bytes_eq kind (codes "1") then types.TestRequest else (
+    if bytes_eq kind (codes "2") then types.ResendRequest else (
+    if bytes_eq kind (codes "3") then types.Reject else (
+    if bytes_eq kind (codes "4") then types.SequenceReset else (
+    if bytes_eq kind (codes "5") then types.Logout else (
+    if bytes_eq kind (codes "A") then types.Logon else (
+    if bytes_eq kind (codes "Z") then types.QuoteCancel else (
+    if bytes_eq kind (codes "AJ") then types.QuoteResponse else (
+    if bytes_eq kind (codes "AI") then types.QuoteStatusReport else (
+    if bytes_eq kind (codes "D") then types.NewOrderSingle else (
+    if bytes_eq kind (codes "F") then types.OrderCancelRequest else (
+    if bytes_eq kind (codes "G") then types.OrderCancelReplaceRequest else (
+    if bytes_eq kind (codes "8") then types.ExecutionReport else (
+    if bytes_eq kind (codes "9") then types.OrderCancelReject else (
+    if bytes_eq kind (codes "Y") then types.MarketDataRequestReject else (
+    if bytes_eq kind (codes "j") then types.BusinessMessageReject else (
+    types.Unsupported)))))))))))))))))
+
+-- the types of the session's own messages
+abbrev pub is_session : MessageType → Bool
+is_session types.Heartbeat = true
+is_session types.TestRequest = true
+is_session types.ResendRequest = true
+is_session types.Reject = true
+is_session types.SequenceReset = true
+is_session types.Logout = true
+is_session types.Logon = true
+is_session _ = false
+
+abbrev pub is_resend_request : MessageType → Bool
+is_resend_request types.ResendRequest = true
+is_resend_request _ = false
+
+-- what the type of an unsupported message may be
+abbrev pub IsOtherKind : List ℕ → Type 0
+IsOtherKind kind = IsText 64 kind × (type_of kind ≡ types.Unsupported)

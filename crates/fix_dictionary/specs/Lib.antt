@@ -1,0 +1,14 @@
+pub mod Applications
+pub mod Faults
+pub mod Fits
+pub mod Holding
+pub mod Kinds
+pub mod Messages
+pub mod Places
+pub mod Printed
+pub mod Table
+pub mod Tables
+pub mod Text
+pub mod Told
+pub mod UtcTest
+pub mod Values

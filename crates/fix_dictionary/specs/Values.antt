@@ -1,0 +1,82 @@
+-- The values that fields may have, as tests on bytes.
+use Rattle.std.specs.Prelude.{◌≡◌, ℕ, ◌≤◌, ℤ, unsigned_abs, ◌==◌, Bool, true, false, ◌&&◌, ◌||◌, nat_lt, nat_le, if◌then◌else◌, List, [], ◌∷◌, length}
+use Rattle.std.specs.List.{list_all}
+
+-- a byte from 32 to 126
+abbrev pub is_printable : ℕ → Bool
+is_printable c = nat_le 32 c && nat_le c 126
+
+-- one or more such bytes, at most so many
+abbrev pub is_text : ℕ → List ℕ → Bool
+is_text longest bytes = nat_lt 0 (length bytes) && (nat_le (length bytes) longest && list_all is_printable bytes)
+
+-- a byte from 33 to 126
+abbrev pub is_graphic : ℕ → Bool
+is_graphic c = nat_le 33 c && nat_le c 126
+
+-- one such byte
+abbrev pub is_character : List ℕ → Bool
+is_character [] = false
+is_character (c ∷ []) = is_graphic c
+is_character (c ∷ d ∷ more) = false
+
+-- one byte, one of the two
+abbrev pub is_either : ℕ → ℕ → List ℕ → Bool
+is_either a b [] = false
+is_either a b (c ∷ []) = (c == a) || (c == b)
+is_either a b (c ∷ d ∷ more) = false
+
+abbrev pub IsText : ℕ → List ℕ → Type 0
+IsText longest bytes = is_text longest bytes ≡ true
+
+-- a number of millionths, at most 10^18 to either side
+abbrev pub IsPrice : ℤ → Type 0
+IsPrice p = unsigned_abs p ≤ 1_000_000_000_000_000_000
+
+abbrev pub IsQuantity : ℕ → Type 0
+IsQuantity q = (1 ≤ q) × (q ≤ 1_000_000_000_000_000)
+
+-- what is left, or filled, of a quantity
+abbrev pub IsAmount : ℕ → Type 0
+IsAmount n = n ≤ 1_000_000_000_000_000
+
+abbrev pub IsNumber : ℕ → ℕ → ℕ → Type 0
+IsNumber low high n = (low ≤ n) × (n ≤ high)
+
+-- an integer of which nothing else is said
+abbrev pub IsFixInt : ℕ → Type 0
+IsFixInt n = IsNumber 0 999_999_999 n
+
+-- the number of a message
+abbrev pub IsSequenceNumber : ℕ → Type 0
+IsSequenceNumber n = IsNumber 1 999_999_999 n
+
+-- the number that comes behind some message
+abbrev pub IsNewSequenceNumber : ℕ → Type 0
+IsNewSequenceNumber n = IsNumber 1 1_000_000_000 n
+
+-- seconds between heartbeats
+abbrev pub IsInterval : ℕ → Type 0
+IsInterval n = IsNumber 0 3600 n
+
+-- how many instances a group may have; a group of parties may be absent
+abbrev pub FitsParties : ℕ → Type 0
+FitsParties n = n ≤ 64
+
+abbrev pub FitsEntryTypes : ℕ → Type 0
+FitsEntryTypes n = IsNumber 1 64 n
+
+abbrev pub FitsEntries : ℕ → Type 0
+FitsEntries n = IsNumber 1 400 n
+
+-- the numbers of a resend request: from one, to another or to the last
+pub record Resend : Type 0 where
+  pub begin : ℕ
+  pub end : ℕ
+
+-- the other is 0, which is the last, or not below the one
+abbrev pub ends : ℕ → ℕ → Bool
+ends begin end = (end == 0) || nat_le begin end
+
+abbrev pub IsResend : ℕ → ℕ → Type 0
+IsResend begin end = ends begin end ≡ true

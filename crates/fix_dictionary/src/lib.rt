@@ -1,0 +1,33 @@
+//! The messages of the venue: what the fields of a body say, and how a message is printed.
+#![tactic(auto)]
+
+mod copy;
+mod faults;
+mod forms;
+mod lists;
+mod messages;
+mod parts;
+mod print;
+mod read;
+mod reading;
+mod table;
+mod values;
+
+pub use faults::DictFault;
+pub use lists::{EntryTypes, MarketDataEntries, Parties};
+pub use messages::{
+    Admin, App, Body, BusinessMessageReject, CrossSide, ExecutionReport, Header, Heartbeat, Item,
+    Logon, Logout, MarketDataEntry, MarketDataRequest, MarketDataRequestReject, MarketDataSnapshot,
+    Message, NewOrderCross, NewOrderSingle, OrderCancelReject, OrderCancelReplaceRequest,
+    OrderCancelRequest, Party, Quote, QuoteCancel, QuoteRequest, QuoteRequestReject, QuoteResponse,
+    QuoteStatusReport, Reject, ResendRequest, SequenceReset, TestRequest,
+};
+pub use print::{print_app, print_message};
+pub use read::{printed_is_read, printed_is_short, read_app, read_message, spelled_or_faulty};
+pub use values::{
+    Amount, FixChar, FixInt, HeartbeatInterval, Identifier, NewSequenceNumber, OtherKind, Price,
+    Quantity, SequenceNumber, Side, Text,
+};
+
+#[cfg(test)]
+mod tests;

@@ -1,0 +1,215 @@
+//! Reads messages.
+ghost use Rattle.std.specs.Prelude.{◌≡◌, ◌++◌, ◌⊎◌, ◌≤◌, true, List, length, IfOk, MatchResult};
+ghost use Rattle.fix_fields.specs.Fields.{Entry, value_of, AreFields, fields_text};
+ghost use Rattle.fix_dictionary.specs.Tables.{header_rows, rows_of};
+ghost use Rattle.fix_dictionary.specs.Holding.{Holds};
+ghost use Rattle.fix_dictionary.specs.Kinds.{type_of};
+ghost use Rattle.fix_dictionary.specs.Faults.{first_fault};
+ghost use Rattle.fix_dictionary.specs.Told.{bytes_at};
+ghost use Rattle.fix_dictionary.specs.Values.{IsText};
+ghost use Rattle.fix_dictionary.specs.Messages.{body_in, type_in, begin_in, fault_in, message_in, Spells, HasFault, IsFault};
+ghost use Rattle.fix_dictionary.specs.Applications.{IsApp, plain_header, app_fault_in, SpellsApp};
+ghost use Rattle.fix_fields.specs.Views.{entries};
+ghost use Rattle.fix_dictionary.specs.declared.messages.Message.{Message};
+ghost use Rattle.fix_dictionary.specs.declared.messages.App.{App};
+ghost use Rattle.fix_dictionary.specs.Fits.{FitsMessage, FitsBody, is_read};
+ghost use Rattle.fix_dictionary.specs.Text.{fields_of, message_slots, message_text, app_text};
+
+use crate::faults::{DictFault, first_fault};
+use crate::messages::{Admin, App, Body, Message};
+use crate::parts;
+use crate::reading::{begin_in, bytes_at};
+use crate::table::{MessageType, header, is_session, resend_request_rows, rows_of, type_of};
+use crate::values::OtherKind;
+use fix_fields::{Field, Fields};
+use std::alloc::{AllocError, Global};
+
+fn body_in(
+    alloc: Global,
+    kind: MessageType,
+    begin: u32,
+    fields: &[Field],
+) -> Result<Body, AllocError>
+    requires holds { Holds (rows_of kind begin) (entries fields.now) }
+    requires kind { kind ≡ type_in (entries fields.now) }
+    requires begin { begin ≡ begin_in (entries fields.now) }
+    requires text { IsText 64 (bytes_at 35 (entries fields.now)) }
+    ensures { IfOk result (λ b. b ≡ body_in kind (entries fields.now)) }
+{
+    Ok(match kind {
+        MessageType::Heartbeat => Body::Admin(Admin::Heartbeat(parts::heartbeat(alloc, fields)?)),
+        MessageType::TestRequest => Body::Admin(Admin::TestRequest(parts::test_request(
+            alloc, fields,
+        )?)),
+        MessageType::ResendRequest => Body::Admin(Admin::ResendRequest(parts::resend_request(
+            begin, fields,
+        ))),
+        MessageType::Reject => Body::Admin(Admin::Reject(parts::reject(alloc, fields)?)),
+        MessageType::SequenceReset => Body::Admin(Admin::SequenceReset(parts::sequence_reset(
+            fields,
+        ))),
+        MessageType::Logout => Body::Admin(Admin::Logout(parts::logout(alloc, fields)?)),
+        MessageType::Logon => Body::Admin(Admin::Logon(parts::logon(fields))),
+        MessageType::QuoteCancel => Body::App(App::QuoteCancel(parts::quote_cancel(
+            alloc, fields,
+        )?)),
+        MessageType::QuoteResponse => Body::App(App::QuoteResponse(parts::quote_response(
+            alloc, fields,
+        )?)),
+        MessageType::QuoteStatusReport => Body::App(App::QuoteStatusReport(
+            parts::quote_status_report(alloc, fields)?,
+        )),
+        MessageType::NewOrderSingle => Body::App(App::NewOrderSingle(parts::new_order_single(
+            alloc, fields,
+        )?)),
+        MessageType::OrderCancelRequest => Body::App(App::OrderCancelRequest(
+            parts::order_cancel_request(alloc, fields)?,
+        )),
+        MessageType::OrderCancelReplaceRequest => Body::App(App::OrderCancelReplaceRequest(
+            parts::order_cancel_replace_request(alloc, fields)?,
+        )),
+        MessageType::ExecutionReport => Body::App(App::ExecutionReport(parts::execution_report(
+            alloc, fields,
+        )?)),
+        MessageType::OrderCancelReject => Body::App(App::OrderCancelReject(
+            parts::order_cancel_reject(alloc, fields)?,
+        )),
+        MessageType::MarketDataRequestReject => Body::App(App::MarketDataRequestReject(
+            parts::market_data_request_reject(alloc, fields)?,
+        )),
+        MessageType::BusinessMessageReject => Body::App(App::BusinessMessageReject(
+            parts::business_message_reject(alloc, fields)?,
+        )),
+        MessageType::Unsupported => Body::App(App::Unsupported(OtherKind::from_slice(
+            alloc,
+            bytes_at(fields, 35),
+        )?)),
+    })
+}
+
+fn message_in(
+    alloc: Global,
+    kind: MessageType,
+    begin: u32,
+    fields: &[Field],
+) -> Result<Message, AllocError>
+    requires holds { Holds (header_rows ++ rows_of kind begin) (entries fields.now) }
+    requires kind { kind ≡ type_in (entries fields.now) }
+    requires begin { begin ≡ begin_in (entries fields.now) }
+    ensures { IfOk result (λ m. m ≡ message_in (entries fields.now)) }
+{
+    Ok(Message {
+        header: parts::header(alloc, fields)?,
+        body: body_in(alloc, kind, begin, fields)?,
+    })
+}
+
+// The first fault, by the header's table and that of the type.
+fn fault_in(kind: MessageType, begin: u32, fields: &[Field]) -> Option<DictFault>
+    ensures { result ≡ first_fault (header_rows ++ rows_of kind begin) (entries fields.now) }
+{
+    match kind {
+        MessageType::ResendRequest => first_fault(header(), &resend_request_rows(begin), fields),
+        _ => first_fault(header(), rows_of(kind), fields),
+    }
+}
+
+fn read_fields(alloc: Global, fields: &[Field]) -> Result<Message, DictFault>
+    ensures { MatchResult result (λ m. Spells m (entries fields.now)) (IsFault (fault_in (entries fields.now))) }
+{
+    let kind = type_of(bytes_at(fields, 35));
+    let begin = begin_in(fields);
+    match fault_in(kind, begin, fields) {
+        Some(fault) => Err(fault),
+        None => match message_in(alloc, kind, begin, fields) {
+            Ok(message) => Ok(message),
+            Err(_) => Err(DictFault::NoMemory),
+        },
+    }
+}
+
+/// The message that the fields of a body spell, or their first fault.
+pub fn read_message(alloc: Global, fields: &Fields) -> Result<Message, DictFault>
+    ensures { MatchResult result (λ m. Spells m fields.now) (IsFault (fault_in fields.now)) }
+{
+    read_fields(alloc, fields.as_slice())
+}
+
+// A right header, with nothing in it but what each header has.
+const PLAIN_HEADER: [Field<'static>; 4] = [
+    Field {
+        tag: 49,
+        value: b"S",
+    },
+    Field {
+        tag: 56,
+        value: b"T",
+    },
+    Field {
+        tag: 34,
+        value: b"1",
+    },
+    Field {
+        tag: 52,
+        value: b"19700101-00:00:00.000",
+    },
+];
+
+fn with_header<'a>(alloc: Global, fields: &[Field<'a>]) -> Result<Vec<Field<'a>>, AllocError>
+    ensures { IfOk result (λ all. entries all.items ≡ plain_header ++ entries fields.now) }
+{
+    let mut all = Vec::new(alloc);
+    all.extend_from_slice(&PLAIN_HEADER)?;
+    all.extend_from_slice(fields)?;
+    Ok(all)
+}
+
+// The application message that a message is.
+fn application(message: Message) -> App
+    requires { IsApp message.body }
+    ensures { message.body ≡ Body.App result }
+{
+    let Message { header: _, body } = message;
+    match body {
+        Body::App(app) => app,
+        Body::Admin(_) => unreachable!(),
+    }
+}
+
+/// The application message that fields without a header spell, as `print_app` writes them, or their first fault. The
+/// header's optional fields may stand there, and are left aside.
+pub fn read_app(alloc: Global, fields: &Fields) -> Result<App, DictFault>
+    ensures { MatchResult result (λ a. SpellsApp a fields.now) (IsFault (app_fault_in fields.now)) }
+{
+    if is_session(type_of(bytes_at(fields.as_slice(), 35))) {
+        return Err(DictFault::Format(35));
+    }
+    let Ok(all) = with_header(alloc, fields.as_slice()) else {
+        return Err(DictFault::NoMemory);
+    };
+    match read_fields(alloc, &all) {
+        Ok(message) => Ok(application(message)),
+        Err(fault) => Err(fault),
+    }
+}
+
+/// What is printed of a message are fields, and whatever fields the text has spell the message. So it is for the text of
+/// an application message without header.
+pub fn printed_is_read()
+    ensures fields { (m : Message) → is_read m.body ≡ true → FitsMessage m → AreFields (fields_of (message_slots m)) }
+    ensures message { (m : Message) (fields : List Entry) → is_read m.body ≡ true → FitsMessage m
+        → AreFields fields → message_text m ≡ fields_text fields → Spells m fields }
+    ensures app { (a : App) (fields : List Entry) → is_read (Body.App a) ≡ true → FitsBody (Body.App a)
+        → AreFields fields → app_text a ≡ fields_text fields → SpellsApp a fields }
+{}
+
+/// The text of a message has at most 65,536 bytes, as much as a frame's body may have.
+pub fn printed_is_short()
+    ensures { (m : Message) → is_read m.body ≡ true → FitsMessage m → length (message_text m) ≤ 65_536 }
+{}
+
+/// Fields spell a message or have a first fault, and not both.
+pub fn spelled_or_faulty()
+    ensures either { (fields : List Entry) → ((m : Message) × Spells m fields) ⊎ ((fault : DictFault) × HasFault fault fields) }
+    ensures not_both { (fields : List Entry) (m : Message) (fault : DictFault) → Spells m fields → HasFault fault fields → ⊥ }
+{}

@@ -1,0 +1,430 @@
+//! The values of single fields.
+ghost use Rattle.std.specs.Prelude.{◌≡◌, ℕ, IfOk, IsTrue, bytes_eq};
+ghost use Rattle.fix_dictionary.specs.Kinds.{IsOtherKind};
+ghost use Rattle.fix_dictionary.specs.Values.{IsText, is_graphic, IsFixInt, IsSequenceNumber, IsNewSequenceNumber, IsInterval, IsQuantity, IsAmount, IsPrice};
+
+use std::alloc::{AllocError, Global};
+use std::marker::Model;
+
+/// An identifier: 1 to 64 bytes, each from 32 to 126.
+#[derive(Drop)]
+pub struct Identifier {
+    bytes: Vec<u8>,
+}
+
+impl Model for Identifier {
+    ghost use Rattle.std.specs.Prelude.{ℕ, List};
+    ghost use Rattle.fix_dictionary.specs.Values.{IsText};
+
+    ghost Value = { List ℕ };
+
+    ghost view = { λ a. a.bytes.items };
+
+    ghost invariant = { λ a. IsText 64 a.bytes.items };
+}
+
+impl Identifier {
+    /// The identifier with these bytes.
+    pub fn from_slice(alloc: Global, bytes: &[u8]) -> Result<Identifier, AllocError>
+        requires { IsText 64 bytes.now }
+        ensures { IfOk result (λ id. id ≡ bytes.now) }
+    {
+        Ok(Identifier {
+            bytes: Vec::from_slice(alloc, bytes)?,
+        })
+    }
+
+    pub fn as_slice(&self) -> &[u8]
+        ensures value { result.now ≡ self.now }
+        ensures range { IsText 64 result.now }
+    {
+        &self.bytes
+    }
+
+    /// Whether the other has the same bytes.
+    pub fn is(&self, other: &Identifier) -> bool
+        ensures { result ≡ bytes_eq self.now other.now }
+    {
+        self.bytes.as_slice() == other.bytes.as_slice()
+    }
+
+    /// The same again.
+    pub fn copy(&self, alloc: Global) -> Result<Identifier, AllocError>
+        ensures { IfOk result (λ copy. copy ≡ self.now) }
+    {
+        Identifier::from_slice(alloc, &self.bytes)
+    }
+}
+
+/// A text: 1 to 200 bytes, each from 32 to 126.
+#[derive(Drop)]
+pub struct Text {
+    bytes: Vec<u8>,
+}
+
+impl Model for Text {
+    ghost use Rattle.std.specs.Prelude.{ℕ, List};
+    ghost use Rattle.fix_dictionary.specs.Values.{IsText};
+
+    ghost Value = { List ℕ };
+
+    ghost view = { λ a. a.bytes.items };
+
+    ghost invariant = { λ a. IsText 200 a.bytes.items };
+}
+
+impl Text {
+    /// The text with these bytes.
+    pub fn from_slice(alloc: Global, bytes: &[u8]) -> Result<Text, AllocError>
+        requires { IsText 200 bytes.now }
+        ensures { IfOk result (λ text. text ≡ bytes.now) }
+    {
+        Ok(Text {
+            bytes: Vec::from_slice(alloc, bytes)?,
+        })
+    }
+
+    pub fn as_slice(&self) -> &[u8]
+        ensures value { result.now ≡ self.now }
+        ensures range { IsText 200 result.now }
+    {
+        &self.bytes
+    }
+
+    /// The same again.
+    pub fn copy(&self, alloc: Global) -> Result<Text, AllocError>
+        ensures { IfOk result (λ copy. copy ≡ self.now) }
+    {
+        Text::from_slice(alloc, &self.bytes)
+    }
+}
+
+/// A character: one byte from 33 to 126.
+#[derive(Clone, Copy, PartialEq, Eq)]
+pub struct FixChar {
+    value: u8,
+}
+
+impl Model for FixChar {
+    ghost use Rattle.std.specs.Prelude.{ℕ, ◌≡◌, true};
+    ghost use Rattle.fix_dictionary.specs.Values.{is_graphic};
+
+    ghost Value = { ℕ };
+
+    ghost view = { λ a. a.value };
+
+    ghost invariant = { λ a. is_graphic a.value ≡ true };
+
+    ghost inverse = { λ n. record { value = n } };
+}
+
+impl FixChar {
+    pub fn new(value: u8) -> FixChar
+        requires { IsTrue (is_graphic value) }
+        ensures { result ≡ value }
+    {
+        FixChar { value }
+    }
+
+    pub fn get(self) -> u8
+        ensures value { result ≡ self }
+        ensures range { IsTrue (is_graphic result) }
+    {
+        self.value
+    }
+}
+
+/// An integer, from 0 to 999,999,999.
+#[derive(Clone, Copy, PartialEq, Eq)]
+pub struct FixInt {
+    value: u32,
+}
+
+impl Model for FixInt {
+    ghost use Rattle.std.specs.Prelude.{ℕ};
+    ghost use Rattle.fix_dictionary.specs.Values.{IsFixInt};
+
+    ghost Value = { ℕ };
+
+    ghost view = { λ a. a.value };
+
+    ghost invariant = { λ a. IsFixInt a.value };
+
+    ghost inverse = { λ n. record { value = n } };
+}
+
+impl FixInt {
+    pub fn new(value: u32) -> FixInt
+        requires { IsFixInt value }
+        ensures { result ≡ value }
+    {
+        FixInt { value }
+    }
+
+    pub fn get(self) -> u32
+        ensures value { result ≡ self }
+        ensures range { IsFixInt result }
+    {
+        self.value
+    }
+}
+
+/// The number of a message (34, 7), from 1 to 999,999,999.
+#[derive(Clone, Copy, PartialEq, Eq)]
+pub struct SequenceNumber {
+    value: u32,
+}
+
+impl Model for SequenceNumber {
+    ghost use Rattle.std.specs.Prelude.{ℕ};
+    ghost use Rattle.fix_dictionary.specs.Values.{IsSequenceNumber};
+
+    ghost Value = { ℕ };
+
+    ghost view = { λ a. a.value };
+
+    ghost invariant = { λ a. IsSequenceNumber a.value };
+
+    ghost inverse = { λ n. record { value = n } };
+}
+
+impl SequenceNumber {
+    pub fn new(value: u32) -> SequenceNumber
+        requires { IsSequenceNumber value }
+        ensures { result ≡ value }
+    {
+        SequenceNumber { value }
+    }
+
+    pub fn get(self) -> u32
+        ensures value { result ≡ self }
+        ensures range { IsSequenceNumber result }
+    {
+        self.value
+    }
+}
+
+/// The number that comes next (36), from 1 to 1,000,000,000: one past the greatest number too.
+#[derive(Clone, Copy, PartialEq, Eq)]
+pub struct NewSequenceNumber {
+    value: u32,
+}
+
+impl Model for NewSequenceNumber {
+    ghost use Rattle.std.specs.Prelude.{ℕ};
+    ghost use Rattle.fix_dictionary.specs.Values.{IsNewSequenceNumber};
+
+    ghost Value = { ℕ };
+
+    ghost view = { λ a. a.value };
+
+    ghost invariant = { λ a. IsNewSequenceNumber a.value };
+
+    ghost inverse = { λ n. record { value = n } };
+}
+
+impl NewSequenceNumber {
+    pub fn new(value: u32) -> NewSequenceNumber
+        requires { IsNewSequenceNumber value }
+        ensures { result ≡ value }
+    {
+        NewSequenceNumber { value }
+    }
+
+    pub fn get(self) -> u32
+        ensures value { result ≡ self }
+        ensures range { IsNewSequenceNumber result }
+    {
+        self.value
+    }
+}
+
+/// Seconds between heartbeats (108), from 0 to 3600.
+#[derive(Clone, Copy, PartialEq, Eq)]
+pub struct HeartbeatInterval {
+    value: u32,
+}
+
+impl Model for HeartbeatInterval {
+    ghost use Rattle.std.specs.Prelude.{ℕ};
+    ghost use Rattle.fix_dictionary.specs.Values.{IsInterval};
+
+    ghost Value = { ℕ };
+
+    ghost view = { λ a. a.value };
+
+    ghost invariant = { λ a. IsInterval a.value };
+
+    ghost inverse = { λ n. record { value = n } };
+}
+
+impl HeartbeatInterval {
+    pub fn new(value: u32) -> HeartbeatInterval
+        requires { IsInterval value }
+        ensures { result ≡ value }
+    {
+        HeartbeatInterval { value }
+    }
+
+    pub fn get(self) -> u32
+        ensures value { result ≡ self }
+        ensures range { IsInterval result }
+    {
+        self.value
+    }
+}
+
+/// A price in whole millionths, from -10^18 to 10^18.
+#[derive(Clone, Copy, PartialEq, Eq)]
+pub struct Price {
+    value: i64,
+}
+
+impl Model for Price {
+    ghost use Rattle.std.specs.Prelude.{ℤ};
+    ghost use Rattle.fix_dictionary.specs.Values.{IsPrice};
+
+    ghost Value = { ℤ };
+
+    ghost view = { λ a. a.value };
+
+    ghost invariant = { λ a. IsPrice a.value };
+
+    ghost inverse = { λ n. record { value = n } };
+}
+
+impl Price {
+    pub fn new(value: i64) -> Price
+        requires { IsPrice value }
+        ensures { result ≡ value }
+    {
+        Price { value }
+    }
+
+    pub fn get(self) -> i64
+        ensures value { result ≡ self }
+        ensures range { IsPrice result }
+    {
+        self.value
+    }
+}
+
+/// A quantity, from 1 to 10^15.
+#[derive(Clone, Copy, PartialEq, Eq)]
+pub struct Quantity {
+    value: u64,
+}
+
+impl Model for Quantity {
+    ghost use Rattle.std.specs.Prelude.{ℕ};
+    ghost use Rattle.fix_dictionary.specs.Values.{IsQuantity};
+
+    ghost Value = { ℕ };
+
+    ghost view = { λ a. a.value };
+
+    ghost invariant = { λ a. IsQuantity a.value };
+
+    ghost inverse = { λ n. record { value = n } };
+}
+
+impl Quantity {
+    pub fn new(value: u64) -> Quantity
+        requires { IsQuantity value }
+        ensures { result ≡ value }
+    {
+        Quantity { value }
+    }
+
+    pub fn get(self) -> u64
+        ensures value { result ≡ self }
+        ensures range { IsQuantity result }
+    {
+        self.value
+    }
+}
+
+/// What is left, or filled, of a quantity: from 0 to 10^15.
+#[derive(Clone, Copy, PartialEq, Eq)]
+pub struct Amount {
+    value: u64,
+}
+
+impl Model for Amount {
+    ghost use Rattle.std.specs.Prelude.{ℕ};
+    ghost use Rattle.fix_dictionary.specs.Values.{IsAmount};
+
+    ghost Value = { ℕ };
+
+    ghost view = { λ a. a.value };
+
+    ghost invariant = { λ a. IsAmount a.value };
+
+    ghost inverse = { λ n. record { value = n } };
+}
+
+impl Amount {
+    pub fn new(value: u64) -> Amount
+        requires { IsAmount value }
+        ensures { result ≡ value }
+    {
+        Amount { value }
+    }
+
+    pub fn get(self) -> u64
+        ensures value { result ≡ self }
+        ensures range { IsAmount result }
+    {
+        self.value
+    }
+}
+
+/// Side (54).
+#[derive(Clone, Copy, PartialEq, Eq)]
+pub enum Side {
+    Buy,
+    Sell,
+}
+
+/// A message type that is none of the venue or of the session.
+#[derive(Drop)]
+pub struct OtherKind {
+    bytes: Vec<u8>,
+}
+
+impl Model for OtherKind {
+    ghost use Rattle.std.specs.Prelude.{ℕ, List};
+    ghost use Rattle.fix_dictionary.specs.Kinds.{IsOtherKind};
+
+    ghost Value = { List ℕ };
+
+    ghost view = { λ a. a.bytes.items };
+
+    ghost invariant = { λ a. IsOtherKind a.bytes.items };
+}
+
+impl OtherKind {
+    /// The type with this text.
+    pub fn from_slice(alloc: Global, bytes: &[u8]) -> Result<OtherKind, AllocError>
+        requires { IsOtherKind bytes.now }
+        ensures { IfOk result (λ kind. kind ≡ bytes.now) }
+    {
+        Ok(OtherKind {
+            bytes: Vec::from_slice(alloc, bytes)?,
+        })
+    }
+
+    pub fn as_slice(&self) -> &[u8]
+        ensures value { result.now ≡ self.now }
+        ensures range { IsOtherKind result.now }
+    {
+        &self.bytes
+    }
+
+    /// The same again.
+    pub fn copy(&self, alloc: Global) -> Result<OtherKind, AllocError>
+        ensures { IfOk result (λ copy. copy ≡ self.now) }
+    {
+        OtherKind::from_slice(alloc, &self.bytes)
+    }
+}

@@ -1,0 +1,101 @@
+//! The instrument file as it is read.
+
+ghost use Rattle.std.specs.Prelude.{◌≡◌, ◌<◌, true, length, slice_get, Some, position, bytes_eq, IfOk};
+ghost use Rattle.std.specs.List.{position_or_len};
+ghost use Rattle.instruments.specs.Listing.{delay_of, is_off_tick, least_of, request_life_of, symbol_of, tick_of};
+ghost use Rattle.instruments.specs.Rows.{is_instrument, is_instrument_file};
+
+use crate::symbol::Symbol;
+use std::alloc::{AllocError, Global};
+use std::marker::Model;
+
+/// One listed instrument.
+#[derive(Drop)]
+pub struct Instrument {
+    pub symbol: Symbol,
+    /// the least difference of two prices, in millionths: 1 to 10^12
+    pub tick: u64,
+    /// the least quantity of an order or a request: 1 to 10^15
+    pub least: u64,
+    /// how long a request for quotes stays open, in seconds: 1 to 86,400
+    pub request_life: u64,
+    /// the delay between the entries of linked orders, in milliseconds: at most 3,600,000
+    pub delay: u64,
+}
+
+/// The instruments of the instrument file, in the file's order.
+#[derive(Drop)]
+pub struct Instruments {
+    rows: Vec<Instrument>,
+}
+
+impl Model for Instruments {
+    ghost use Rattle.std.specs.Prelude.{◌≡◌, true, List};
+    ghost use Rattle.instruments.specs.declared.instruments.Instrument.{Instrument};
+    ghost use Rattle.instruments.specs.Rows.{is_instrument_file};
+
+    ghost Value = { List Instrument };
+
+    ghost view = { λ a. a.rows.items };
+
+    ghost invariant = { λ a. is_instrument_file a.rows.items ≡ true };
+}
+
+/// The first place of a symbol, or their count where it is not there.
+fn place_of(rows: &[Instrument], symbol: &[u8]) -> usize
+    ensures { result ≡ position_or_len (λ row. bytes_eq row.symbol symbol.now) rows.now }
+{
+    for (place, row) in rows.iter().enumerate() {
+        if row.symbol.is(symbol) {
+            return place;
+        }
+    }
+    rows.len()
+}
+
+impl Instruments {
+    /// The file of these rows, which keep its rules.
+    pub fn from_rows(_alloc: Global, rows: Vec<Instrument>) -> Result<Instruments, AllocError>
+        requires { is_instrument_file rows.items ≡ true }
+        ensures { IfOk result (λ file. file ≡ rows.items) }
+    {
+        Ok(Instruments { rows })
+    }
+
+    /// How many instruments there are: 1 to 256.
+    pub fn len(&self) -> usize
+        ensures count { result ≡ length self.now }
+        ensures rule { is_instrument_file self.now ≡ true }
+    {
+        self.rows.len()
+    }
+
+    /// The instrument of this symbol, by its place in the file, from 0.
+    pub fn find(&self, symbol: &[u8]) -> Option<u32>
+        ensures { result ≡ position (λ row. bytes_eq row.symbol symbol.now) self.now }
+    {
+        let place = place_of(&self.rows, symbol);
+        if place < self.rows.len() {
+            Some(place as u32)
+        } else {
+            None
+        }
+    }
+
+    /// The row at a place.
+    pub fn get(&self, instrument: u32) -> &Instrument
+        requires { instrument < length self.now }
+        ensures row { slice_get self.now instrument ≡ Some result.now }
+        ensures rule { is_instrument result.now ≡ true }
+    {
+        &self.rows[instrument as usize]
+    }
+
+    /// The delay between the entries of linked orders, in milliseconds.
+    pub fn delay(&self, instrument: u32) -> u64
+        requires { instrument < length self.now }
+        ensures { result ≡ delay_of self.now instrument }
+    {
+        self.get(instrument).delay
+    }
+}

@@ -1,0 +1,10 @@
+use Rattle.std.specs.Prelude.{ℕ, Bool, not, ◌&&◌, ◌==◌, nat_le, List, length}
+use Rattle.std.specs.List.{list_all}
+
+-- a byte that a name may have: from 33 to 126, the comma excluded
+abbrev pub is_name_byte : ℕ → Bool
+is_name_byte b = nat_le 33 b && (nat_le b 126 && not (b == 44))
+
+-- a name has 1 to 64 such bytes
+abbrev pub is_name : List ℕ → Bool
+is_name bytes = nat_le 1 (length bytes) && (nat_le (length bytes) 64 && list_all is_name_byte bytes)

@@ -1,0 +1,158 @@
+//! The participant file as it is read.
+
+ghost use Rattle.std.specs.Prelude.{◌≡◌, ◌<◌, true, length, bytes_eq, IfOk};
+ghost use Rattle.std.specs.List.{list_any, position_or_len};
+ghost use Rattle.participants.specs.Names.{is_name};
+ghost use Rattle.participants.specs.ParticipantFile.{ParticipantFile};
+ghost use Rattle.participants.specs.Rows.{is_participant_file};
+ghost use Rattle.participants.specs.Relations.{apart, are_unrelated, find_participant, name_of, related, three_unrelated};
+
+use crate::name::Name;
+use crate::who::Who;
+use std::alloc::{AllocError, Global};
+use std::marker::Model;
+
+/// The venue's name, the participants in the file's order, and the related pairs by their places.
+#[derive(Drop)]
+pub struct Participants {
+    venue: Name,
+    names: Vec<Name>,
+    pairs: Vec<(Who, Who)>,
+}
+
+impl Model for Participants {
+    ghost use Rattle.std.specs.Prelude.{◌≡◌, true};
+    ghost use Rattle.participants.specs.ParticipantFile.{ParticipantFile};
+    ghost use Rattle.participants.specs.Rows.{is_participant_file};
+
+    ghost Value = { ParticipantFile };
+
+    ghost view = { λ p. record { venue = p.venue; names = p.names.items; pairs = p.pairs.items } };
+
+    ghost invariant = { λ p. is_participant_file (record { venue = p.venue; names = p.names.items; pairs = p.pairs.items }) ≡ true };
+}
+
+/// The first place of a name, or their count where it is not there.
+fn place_of(names: &[Name], name: &[u8]) -> usize
+    ensures { result ≡ position_or_len (λ n. bytes_eq n name.now) names.now }
+{
+    for (place, other) in names.iter().enumerate() {
+        if other.is(name) {
+            return place;
+        }
+    }
+    names.len()
+}
+
+impl Participants {
+    /// The file of these rows, which keep its rules.
+    pub fn from_rows(
+        _alloc: Global,
+        venue: Name,
+        names: Vec<Name>,
+        pairs: Vec<(Who, Who)>,
+    ) -> Result<Participants, AllocError>
+        requires { is_participant_file (record { venue = venue; names = names.items; pairs = pairs.items }) ≡ true }
+        ensures { IfOk result (λ p. p ≡ record { venue = venue; names = names.items; pairs = pairs.items }) }
+    {
+        Ok(Participants {
+            venue,
+            names,
+            pairs,
+        })
+    }
+
+    /// How many participants there are: 1 to 32.
+    pub fn len(&self) -> usize
+        ensures count { result ≡ length self.now.names }
+        ensures rule { is_participant_file self.now ≡ true }
+    {
+        self.names.len()
+    }
+
+    /// The related pairs, in the file's order.
+    pub fn pairs(&self) -> &[(Who, Who)]
+        ensures { result.now ≡ self.now.pairs }
+    {
+        &self.pairs
+    }
+
+    /// The venue's name.
+    pub fn venue(&self) -> &[u8]
+        ensures value { result.now ≡ self.now.venue }
+        ensures form { is_name result.now ≡ true }
+    {
+        self.venue.as_slice()
+    }
+
+    /// A participant's name.
+    pub fn name(&self, who: Who) -> &[u8]
+        requires { who < length self.now.names }
+        ensures value { result.now ≡ name_of self.now who }
+        ensures form { is_name result.now ≡ true }
+    {
+        self.names[who.place() as usize].as_slice()
+    }
+
+    /// The participant of this name.
+    pub fn find(&self, name: &[u8]) -> Option<Who>
+        ensures { result ≡ find_participant self.now name.now }
+    {
+        let place = place_of(&self.names, name);
+        if place < self.names.len() {
+            Some(Who::of(place as u32))
+        } else {
+            None
+        }
+    }
+
+    /// Whether the file lists the pair, in either order.
+    pub fn related(&self, a: Who, b: Who) -> bool
+        ensures { result ≡ related self.now a b }
+    {
+        self.pairs.iter().any(|p| {
+            (p.0.place() == a.place() && p.1.place() == b.place())
+                || (p.0.place() == b.place() && p.1.place() == a.place())
+        })
+    }
+
+    /// Whether two are different and not related.
+    fn apart(&self, a: Who, b: Who) -> bool
+        ensures { result ≡ apart self.now a b }
+    {
+        a.place() != b.place() && !self.related(a, b)
+    }
+
+    /// Whether one of the recipients makes up three with two others.
+    fn has_third(&self, requester: Who, a: Who, b: Who, recipients: &[Who]) -> bool
+        ensures { result ≡ list_any (λ c. are_unrelated self.now requester a b c) recipients.now }
+    {
+        recipients.iter().any(|c| {
+            self.apart(requester, a)
+                && self.apart(requester, b)
+                && self.apart(requester, *c)
+                && self.apart(a, b)
+                && self.apart(a, *c)
+                && self.apart(b, *c)
+        })
+    }
+
+    /// Whether two of the recipients make up three with another.
+    fn has_second(&self, requester: Who, a: Who, recipients: &[Who]) -> bool
+        ensures { result ≡ list_any (λ b. list_any (λ c. are_unrelated self.now requester a b c) recipients.now) recipients.now }
+    {
+        recipients
+            .iter()
+            .any(|b| self.has_third(requester, a, *b, recipients))
+    }
+
+    /// Whether three of the recipients are pairwise different and unrelated, and each is so to the requester
+    /// (17 CFR 37.9(a)(3)).
+    pub fn three_unrelated(&self, requester: Who, recipients: &[Who]) -> bool
+        ensures { result ≡ three_unrelated self.now requester recipients.now }
+    {
+        recipients
+            .iter()
+            .any(|a| self.has_second(requester, *a, recipients))
+    }
+}

@@ -1,0 +1,38 @@
+-- Worked examples of the definitions of specs/, and the proof that every list of inputs is lawful.
+-- how the examples spell messages
+pub mod Spelling
+-- the venue and the messages of the examples
+pub mod ExampleInputs
+pub mod BookExamples
+pub mod DelayExamples
+pub mod RoomExamples
+pub mod LimitExamples
+pub mod LawfulExamples
+pub mod RefusalExamples
+-- members of lists, and numbers that are places
+pub mod Members
+-- what may follow what has happened
+pub mod Follows
+-- the ranked list of resting orders, its filters and its order
+pub mod Ranks
+-- what rests after one more fact
+pub mod Lefts
+-- an order that enters trades with the best resting order, time after time
+pub mod Fills
+-- what is left after the trades of an order that entered
+pub mod Own
+-- the first of the ranked orders is the best
+pub mod Best
+-- an order that comes to rest is put before the first that it is better than
+pub mod Puts
+-- a quote found in place is live
+pub mod Hits
+-- what the answer to each message adds follows what has happened
+pub mod FollowsEach
+-- all recipients of a request are sent it in one answer
+pub mod Together
+pub mod TogetherEach
+-- over every list of inputs each fact follows those before it; the laws
+pub mod EveryRun
+pub mod AmountLemmas
+pub mod NameLemmas

@@ -1,0 +1,51 @@
+//! A small market: five participants and two instruments, for first runs and for tests.
+
+ghost use Rattle.std.specs.Prelude.{◌≡◌, ◌≤◌, IfOk};
+ghost use Rattle.venue_rules.specs.Fixture.{fixture_instrument, fixture_instruments, fixture_participants};
+
+use instruments::{Instrument, Instruments, Symbol};
+use participants::{Name, Participants, Who};
+use std::alloc::{AllocError, Global};
+
+/// The venue SEF with ALPHA, BETA, GAMMA, DELTA and EPSILON, of whom BETA and GAMMA are related.
+pub fn fixture_participants(alloc: Global) -> Result<Participants, AllocError>
+    ensures { IfOk result (λ file. file ≡ fixture_participants) }
+{
+    let venue = Name::from_slice(alloc, b"SEF")?;
+    let names = vec![in alloc;
+        Name::from_slice(alloc, b"ALPHA")?,
+        Name::from_slice(alloc, b"BETA")?,
+        Name::from_slice(alloc, b"GAMMA")?,
+        Name::from_slice(alloc, b"DELTA")?,
+        Name::from_slice(alloc, b"EPSILON")?,
+    ]?;
+    let pairs = vec![in alloc; (Who::of(1), Who::of(2))]?;
+    Participants::from_rows(alloc, venue, names, pairs)
+}
+
+/// An instrument with a tick of 0.0025 and a least quantity of 1, whose requests stay open for 30 seconds.
+fn fixture_instrument(symbol: Symbol, delay: u64) -> Instrument
+    ensures { result ≡ fixture_instrument symbol delay }
+{
+    Instrument {
+        symbol,
+        tick: 2_500,
+        least: 1,
+        request_life: 30,
+        delay,
+    }
+}
+
+/// IRS5Y and BASIS1Y, with this delay between linked orders, in milliseconds.
+pub fn fixture_instruments(alloc: Global, delay: u64) -> Result<Instruments, AllocError>
+    requires { delay ≤ 3600000 }
+    ensures { IfOk result (λ file. file ≡ fixture_instruments delay) }
+{
+    let swap = Symbol::from_slice(alloc, b"IRS5Y")?;
+    let basis = Symbol::from_slice(alloc, b"BASIS1Y")?;
+    let rows = vec![in alloc;
+        fixture_instrument(swap, delay),
+        fixture_instrument(basis, delay),
+    ]?;
+    Instruments::from_rows(alloc, rows)
+}

@@ -1,0 +1,35 @@
+//! The words in which the venue's rules are written: facts, replies and refusals.
+//!
+//! The rules themselves are the definitions of `specs/`, which are read in the order of `specs/Lib.antt`.
+#![tactic(auto)]
+
+mod facts;
+mod fixture;
+mod identifiers;
+mod laws;
+mod lists;
+mod refusals;
+mod replies;
+mod trail;
+
+pub use facts::{
+    Closing, Entry, Fact, HeldSide, Life, OrderFact, Place, Release, Removal, Room, RoomQuote,
+    Trade, Withdrawal,
+};
+pub use fixture::{fixture_instruments, fixture_participants};
+pub use identifiers::{name_identifier, symbol_identifier};
+pub use laws::{
+    amounts_stay_within, every_run_is_lawful, fills_are_within, printed_numbers_are_identifiers,
+};
+pub use lists::{PictureEntries, Recipients, RowText, Shown};
+pub use participants::Who;
+pub use refusals::{
+    BusinessRefusal, ChangeRefusal, CrossRefusal, MarketDataRefusal, OrderRefusal, QuoteRefusal,
+    RequestRefusal, ResponseRefusal,
+};
+pub use replies::{
+    ChangeKind, ChangeRefused, ChangedReport, CrossRefused, FilledReport, OrderRefused,
+    OrderReport, PictureEntry, Prices, PricesRefused, QuoteSent, QuoteState, QuoteStatus, Reply,
+    RequestRefused, RequestSent, RoomReport, Standing, Unprocessed, What,
+};
+pub use trail::{EventFault, Keep, RoomFact, ShownOrder, Taken, TradeFact, TrailFault, TrailRow};

@@ -1,0 +1,202 @@
+//! What the venue answers.
+
+use crate::lists::PictureEntries;
+use crate::refusals::{
+    BusinessRefusal, ChangeRefusal, CrossRefusal, MarketDataRefusal, OrderRefusal, QuoteRefusal,
+    RequestRefusal, ResponseRefusal,
+};
+use fix_dictionary::{Amount, Identifier, Price, Quantity, SequenceNumber, Side};
+use participants::Who;
+use sef_moment::Moment;
+
+/// What every report on an order says. `order` is none where no order of the book is spoken of.
+#[derive(Drop)]
+pub struct OrderReport {
+    pub report: u64,
+    pub order: Option<u64>,
+    pub symbol: Identifier,
+    pub side: Side,
+    pub left: Amount,
+    pub filled: Amount,
+    pub id: Identifier,
+}
+
+/// A report of a fill: its price, quantity and trade.
+#[derive(Drop)]
+pub struct FilledReport {
+    pub order: OrderReport,
+    pub price: Price,
+    pub quantity: Quantity,
+    pub trade: u64,
+}
+
+/// A report of a cancel or a replacement, with the identifier (41) that the request named.
+#[derive(Drop)]
+pub struct ChangedReport {
+    pub order: OrderReport,
+    pub original_id: Identifier,
+}
+
+/// A report that refuses an order.
+#[derive(Drop)]
+pub struct OrderRefused {
+    pub order: OrderReport,
+    pub cause: OrderRefusal,
+}
+
+/// A report that refuses one side of a cross.
+#[derive(Drop)]
+pub struct CrossRefused {
+    pub order: OrderReport,
+    pub cause: CrossRefusal,
+}
+
+/// Which request a refusal speaks of.
+#[derive(Clone, Copy, PartialEq, Eq)]
+pub enum ChangeKind {
+    Cancel,
+    Replace,
+}
+
+/// The resting order that a cancel or replacement named, and what of it is filled.
+#[derive(Drop)]
+pub struct Standing {
+    pub order: u64,
+    pub filled: Amount,
+}
+
+/// A refusal of a cancel or a replacement.
+#[derive(Drop)]
+pub struct ChangeRefused {
+    pub standing: Option<Standing>,
+    pub id: Identifier,
+    pub original_id: Identifier,
+    pub kind: ChangeKind,
+    pub cause: ChangeRefusal,
+}
+
+/// A refusal of a request for quotes.
+#[derive(Drop)]
+pub struct RequestRefused {
+    pub id: Identifier,
+    pub symbol: Identifier,
+    pub cause: RequestRefusal,
+}
+
+/// A request for quotes as a recipient sees it.
+#[derive(Drop)]
+pub struct RequestSent {
+    pub room: u64,
+    pub symbol: Identifier,
+    pub side: Option<Side>,
+    pub quantity: Quantity,
+}
+
+/// What a status report says of a quote.
+#[derive(Drop)]
+pub enum QuoteState {
+    Accepted,
+    Refused(QuoteRefusal),
+    ResponseRefused(ResponseRefusal),
+    CancelUnsupported,
+    Expired,
+    NotFound,
+    Passed,
+    Withdrawn,
+}
+
+/// A status report of a quote, by the identifiers that its receiver knows.
+#[derive(Drop)]
+pub struct QuoteStatus {
+    pub quote_id: Option<Identifier>,
+    pub request_id: Option<Identifier>,
+    pub response_id: Option<Identifier>,
+    pub symbol: Option<Identifier>,
+    pub state: QuoteState,
+}
+
+/// A quote as the requester sees it.
+#[derive(Drop)]
+pub struct QuoteSent {
+    pub quote: u64,
+    pub request_id: Identifier,
+    pub maker: Identifier,
+    pub symbol: Identifier,
+    pub bid: Option<Price>,
+    pub offer: Option<Price>,
+    pub quantity: Quantity,
+    pub end: Moment,
+}
+
+/// A report of a trade in a room.
+#[derive(Drop)]
+pub struct RoomReport {
+    pub report: u64,
+    pub room: u64,
+    pub symbol: Identifier,
+    pub side: Side,
+    pub quantity: Quantity,
+    pub price: Price,
+    pub trade: u64,
+    pub response_id: Option<Identifier>,
+}
+
+/// One resting order of a picture.
+#[derive(Drop)]
+pub struct PictureEntry {
+    pub side: Side,
+    pub price: Price,
+    pub left: Amount,
+    pub order: u64,
+}
+
+/// The picture of an instrument.
+#[derive(Drop)]
+pub struct Prices {
+    pub request_id: Identifier,
+    pub symbol: Identifier,
+    pub entries: PictureEntries,
+}
+
+/// A refusal of a request for market data.
+#[derive(Drop)]
+pub struct PricesRefused {
+    pub request_id: Identifier,
+    pub cause: MarketDataRefusal,
+}
+
+/// A message that was read and not processed: its number and type.
+#[derive(Drop)]
+pub struct Unprocessed {
+    pub number: SequenceNumber,
+    pub kind: Identifier,
+    pub cause: BusinessRefusal,
+}
+
+/// An answer of the venue.
+#[derive(Drop)]
+pub enum What {
+    OrderRefused(OrderRefused),
+    CrossRefused(CrossRefused),
+    OrderEntered(OrderReport),
+    OrderFilled(FilledReport),
+    OrderUnfilled(OrderReport),
+    OrderCancelled(ChangedReport),
+    OrderReplaced(ChangedReport),
+    ChangeRefused(ChangeRefused),
+    RequestRefused(RequestRefused),
+    RequestSent(RequestSent),
+    QuoteStatus(QuoteStatus),
+    QuoteSent(QuoteSent),
+    RoomTraded(RoomReport),
+    Prices(Prices),
+    PricesRefused(PricesRefused),
+    Unprocessed(Unprocessed),
+}
+
+/// An answer and whom it goes to.
+#[derive(Drop)]
+pub struct Reply {
+    pub to: Who,
+    pub what: What,
+}
