@@ -116,7 +116,7 @@ module _ {M : Type 0} where
   IsLeft hands takes left = (k : ℕ) (h : HandEnd M) (t : TakeEnd M) (x : Option M) → slice_get hands k ≡ Some h → slice_get takes k ≡ Some t → slice_get left k ≡ Some x → h.given ≡ t.taken ++ option_to_list x
 
   abbrev pub with_handers : List (HandEnd M) → View M → View M
-  with_handers hands v = record { handers = map resting_hander hands ++ v.handers; takers = v.takers }
+  with_handers hands v = record v { handers = map resting_hander hands ++ v.handers }
 
   abbrev pub with_takers : List (TakeEnd M) → View M → View M
-  with_takers takes v = record { handers = v.handers; takers = map resting_taker takes ++ v.takers }
+  with_takers takes v = record v { takers = map resting_taker takes ++ v.takers }

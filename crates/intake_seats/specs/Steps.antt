@@ -47,21 +47,21 @@ module _ {M : Type 0} where
 
   abbrev pub looked : ℕ → View M → View M
   looked found v = record {
-    handers = map (λ (h : Hander M). record { number = h.number; given = h.given; claiming = h.claiming; last = found; looks = h.looks + 1 }) v.handers;
-    takers = map (λ (t : Taker M). record { number = t.number; taken = t.taken; in_hand = t.in_hand; last = found; looks = t.looks + 1 }) v.takers;
+    handers = map (λ (h : Hander M). record h { last = found; looks = h.looks + 1 }) v.handers;
+    takers = map (λ (t : Taker M). record t { last = found; looks = t.looks + 1 }) v.takers;
   }
 
   abbrev pub with_claim : View M → View M
-  with_claim v = record { handers = map (λ (h : Hander M). record { number = h.number; given = h.given; claiming = true; last = h.last; looks = h.looks }) v.handers; takers = v.takers }
+  with_claim v = record v { handers = map (λ (h : Hander M). record h { claiming = true }) v.handers }
 
   abbrev pub with_given : List M → View M → View M
-  with_given xs v = record { handers = map (λ (h : Hander M). record { number = h.number; given = h.given ++ xs; claiming = false; last = h.last; looks = h.looks }) v.handers; takers = v.takers }
+  with_given xs v = record v { handers = map (λ (h : Hander M). record h { given = h.given ++ xs; claiming = false }) v.handers }
 
   abbrev pub with_hand : Option M → View M → View M
-  with_hand x v = record { handers = v.handers; takers = map (λ (t : Taker M). record { number = t.number; taken = t.taken; in_hand = x; last = t.last; looks = t.looks }) v.takers }
+  with_hand x v = record v { takers = map (λ (t : Taker M). record t { in_hand = x }) v.takers }
 
   abbrev pub with_taken : View M → View M
-  with_taken v = record { handers = v.handers; takers = map (λ (t : Taker M). record { number = t.number; taken = t.taken ++ option_to_list t.in_hand; in_hand = None; last = t.last; looks = t.looks }) v.takers }
+  with_taken v = record v { takers = map (λ (t : Taker M). record t { taken = t.taken ++ option_to_list t.in_hand; in_hand = None }) v.takers }
 
   abbrev pub hander_looked : Step (Option M) → Own M → ℕ → Own M → Type 0
   hander_looked st m found m' = (m' ≡ (looked found m.0, m.1)) × (found % 4 ≡ 0 → found ≡ 4 * length (given_of m.0))
@@ -96,13 +96,13 @@ module _ {M : Type 0} where
   only_first_hander v = record { handers = front v.handers; takers = [] }
 
   abbrev pub after_first_hander : View M → View M
-  after_first_hander v = record { handers = behind v.handers; takers = v.takers }
+  after_first_hander v = record v { handers = behind v.handers }
 
   abbrev pub only_first_taker : View M → View M
   only_first_taker v = record { handers = []; takers = front v.takers }
 
   abbrev pub after_first_taker : View M → View M
-  after_first_taker v = record { handers = v.handers; takers = behind v.takers }
+  after_first_taker v = record v { takers = behind v.takers }
 
   abbrev pub united : View M → View M → View M
   united v w = record { handers = w.handers ++ v.handers; takers = w.takers ++ v.takers }
