@@ -1,5 +1,5 @@
 -- The printed text of an application message is read as the message.
-use Rattle.std.proofs.Common.{◌≡◌, ℕ, ◌≤◌, true, false, Bool, List, [], ◌∷◌, ◌++◌, refl, sym, ap, subst, cond, ◌∙◌, ◌==◌, ◌&&◌, ◌||◌, not, arith, rules, Option, Some, None, inl, inr, codes, decimal, ℤ, pos}
+use Rattle.std.proofs.Common.{◌≡◌, ℕ, true, false, Bool, List, [], ◌∷◌, ◌++◌, refl, sym, ap, subst, cond, ◌∙◌, ◌==◌, ◌&&◌, ◌||◌, not, arith, rules, Option, Some, None, inl, inr, codes, decimal, pos}
 use Rattle.std.specs.Fmt.{digits}
 use Rattle.std.proofs.lemmas.Bool.Decides.{nat_tests}
 use Rattle.std.proofs.lemmas.Bool.{cases_eq}
@@ -22,11 +22,10 @@ use Rattle.fix_dictionary.specs.Table.{needs}
 use Rattle.fix_dictionary.specs.Tables.{rows_of}
 use Rattle.fix_dictionary.specs.Kinds.{type_of, is_session}
 use Rattle.fix_dictionary.specs.Text.{Slot, fields_of, app_kind, app_slots, app_text, message_slots}
-use Rattle.fix_dictionary.specs.Messages.{Spells, fault_in, message_in}
-use Rattle.fix_dictionary.specs.Applications.{plain_header, app_fault_in, SpellsApp}
+use Rattle.fix_dictionary.specs.Applications.{plain_header, SpellsApp}
 use Rattle.fix_dictionary.specs.Fits.{FitsHeader, FitsBody, is_read}
 use Rattle.fix_dictionary.proofs.FormLemmas as form
-use Rattle.fix_dictionary.proofs.LookLemmas.{Fill, Shows, slot_of, has_slot, value_slot, single_fields, are_distinct, fill_fields, have_tags}
+use Rattle.fix_dictionary.proofs.LookLemmas.{Shows, slot_of, has_slot, value_slot, single_fields, are_distinct, fill_fields, have_tags}
 use Rattle.fix_dictionary.proofs.HeaderLaw.{the_message}
 use Rattle.fix_dictionary.proofs.MessageLaw.{shown_is_read, fill_body, text_of_kind}
 

@@ -1,10 +1,10 @@
 -- Values that are read lie in their ranges.
-use Rattle.std.proofs.Common.{◌≡◌, ℕ, zero, suc, ◌≤◌, ◌<◌, true, false, Bool, List, [], ◌∷◌, refl, sym, ap, ◌∙◌, arith, rules, cond, ◌==◌, ◌&&◌, nat_le, not, Result, Ok, Err, Option, Some, None, ℤ, pos, neg_ℤ, unsigned_abs, drop}
+use Rattle.std.proofs.Common.{◌≡◌, ℕ, zero, suc, ◌≤◌, true, false, Bool, List, refl, sym, ◌∙◌, arith, rules, cond, ◌==◌, ◌&&◌, nat_le, Result, Ok, Err, Some, None, ℤ, pos, neg_ℤ, unsigned_abs, drop}
 use Rattle.std.specs.Prelude.{slice_index}
 use Rattle.std.proofs.lemmas.Bool.Decides.{nat_tests}
 use Rattle.fix_fields.specs.declared.value.ValueFault.{ValueFault}
-use Rattle.fix_fields.specs.declared.value.ValueFault.TheVariants.{Format, Range}
-use Rattle.fix_fields.specs.Forms.{within, integer_in, decimal_in, is_decimal, quantity_of, amount_of, price_of, signed}
+use Rattle.fix_fields.specs.declared.value.ValueFault.TheVariants.{Range}
+use Rattle.fix_fields.specs.Forms.{within, integer_in, decimal_in, quantity_of, amount_of, price_of, signed}
 use Rattle.fix_dictionary.specs.Table.{unless}
 
 err_not_ok : {X : Type 0} (e : ValueFault) (x : X) → Err e ≡ Ok x → ⊥

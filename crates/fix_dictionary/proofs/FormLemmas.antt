@@ -1,8 +1,8 @@
 -- What is printed in each form fills its row: it has no fault, is a short value, and tells the value that was printed.
-use Rattle.std.proofs.Common.{◌≡◌, ℕ, ◌≤◌, ◌<◌, ◌^◌, true, false, Bool, List, [], ◌∷◌, refl, sym, ap, ◌∙◌, arith, rules, cond, ◌&&◌, ◌||◌, ◌==◌, nat_le, nat_lt, length, decimal, Option, Some, None, Ok, Err, Result, ℤ, pos, codes}
+use Rattle.std.proofs.Common.{◌≡◌, ℕ, ◌≤◌, true, false, Bool, List, [], ◌∷◌, refl, ap, ◌∙◌, arith, rules, ◌&&◌, nat_le, nat_lt, length, decimal, Option, Some, None, Ok, ℤ, pos}
 use Rattle.std.specs.List.{list_all}
 use Rattle.std.proofs.lemmas.Bool.Decides.{nat_tests}
-use Rattle.sef_moment.specs.Utc.{greatest, utc_text, moment_of}
+use Rattle.sef_moment.specs.Utc.{utc_text, moment_of}
 use Rattle.sef_moment.proofs.RoundTrip.{utc_text-is}
 use Rattle.fix_fields.specs.Forms.{within, integer_in, price_text}
 use Rattle.fix_fields.specs.declared.value.ValueFault.TheVariants as value
@@ -12,7 +12,7 @@ use Rattle.fix_dictionary.specs.declared.table.Form.TheVariants as form
 use Rattle.fix_dictionary.specs.declared.table.Row.{Row}
 use Rattle.fix_dictionary.specs.declared.values.Side.{Side}
 use Rattle.fix_dictionary.specs.declared.values.Side.TheVariants.{Buy, Sell}
-use Rattle.fix_dictionary.specs.Values.{IsText, is_text, is_printable, is_graphic, IsNumber, IsFixInt, IsQuantity, IsAmount, IsPrice, IsResend, ends}
+use Rattle.fix_dictionary.specs.Values.{IsText, is_printable, IsNumber, IsFixInt, IsQuantity, IsAmount, IsPrice, IsResend, ends}
 use Rattle.fix_dictionary.specs.Table.{needs, takes, value_fault, why, unless, text_fault, end_fault}
 use Rattle.fix_dictionary.specs.Holding.{RowHolds}
 use Rattle.fix_dictionary.specs.Fits.{Given, IsGraphic, IsMoment}

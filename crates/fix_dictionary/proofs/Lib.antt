@@ -8,7 +8,6 @@ pub mod MessageLaw
 pub mod OneLaw
 pub mod OrderLaws
 pub mod OtherLaws
-pub mod PlaceExamples
 pub mod QuoteLaws
 pub mod ResendLemmas
 pub mod RowLemmas

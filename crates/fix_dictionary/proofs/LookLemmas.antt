@@ -1,17 +1,15 @@
 -- Fields that show printed slots have no fault.
-use Rattle.std.proofs.Common.{◌≡◌, ◌≢◌, ℕ, ◌+◌, ◌≤◌, ◌^◌, true, false, Bool, List, [], ◌∷◌, ◌++◌, refl, sym, ap, ◌∙◌, arith, rules, cond, ◌==◌, ◌&&◌, ◌||◌, not, nat_le, length, length-append, decimal, Option, Some, None, inl, inr, append_assoc, is_some, if◌then◌else◌}
-use Rattle.std.specs.List.{AllByRecursion, list_all}
+use Rattle.std.proofs.Common.{◌≡◌, ℕ, ◌+◌, ◌≤◌, true, false, Bool, List, [], ◌∷◌, ◌++◌, refl, sym, ap, ◌∙◌, arith, rules, ◌==◌, ◌&&◌, ◌||◌, not, nat_le, length, length-append, decimal, Option, Some, None, inl, inr, is_some, if◌then◌else◌}
+use Rattle.std.specs.List.{AllByRecursion}
 use Rattle.std.proofs.lemmas.Bool.Decides.{nat_tests}
 use Rattle.std.proofs.lemmas.Bool.{cases_eq}
 use Rattle.std.proofs.lemmas.Fmt.{length-decimal-le}
 use Rattle.fix_fields.specs.declared.value.ValueFault.{ValueFault}
 use Rattle.fix_fields.specs.declared.value.ValueFault.TheVariants as value
-use Rattle.fix_fields.specs.Fields.{Entry, value_of, IsTag, IsField, AreFields, field_text, fields_text}
-use Rattle.fix_dictionary.specs.declared.table.Form.{Form}
+use Rattle.fix_fields.specs.Fields.{Entry, value_of, IsTag, AreFields, field_text, fields_text}
 use Rattle.fix_dictionary.specs.declared.table.Row.{Row}
-use Rattle.fix_dictionary.specs.declared.faults.DictFault.{DictFault}
 use Rattle.fix_dictionary.specs.Table.{value_fault}
-use Rattle.fix_dictionary.specs.Faults.{form_of, has_tag, missing, faulty, fault_as, is_fault, first_fault, or_else, repeated}
+use Rattle.fix_dictionary.specs.Faults.{form_of, has_tag, missing, faulty, fault_as, is_fault, first_fault, repeated}
 use Rattle.fix_dictionary.specs.Holding.{RowHolds, Holds}
 use Rattle.fix_dictionary.specs.Fits.{Given}
 use Rattle.fix_dictionary.specs.Text.{Slot, with_slot, fields_of, slots_text}

@@ -1,5 +1,5 @@
 -- A printed message is read as itself.
-use Rattle.std.proofs.Common.{◌≡◌, ℕ, ◌+◌, ◌≤◌, true, false, List, [], ◌∷◌, ◌++◌, length, refl, sym, ap, subst, ◌∙◌, arith, rules, Option, Some, None}
+use Rattle.std.proofs.Common.{◌≡◌, ℕ, ◌≤◌, true, false, List, [], ◌∷◌, ◌++◌, length, refl, sym, ap, subst, ◌∙◌, arith, rules, Option, Some, None}
 use Rattle.fix_fields.specs.Forms.{integer_in}
 use Rattle.fix_fields.specs.Fields.{Entry, AreFields, fields_text}
 use Rattle.fix_fields.proofs.OneList.{one_list}
@@ -17,7 +17,7 @@ use Rattle.fix_dictionary.specs.Kinds.{type_of}
 use Rattle.fix_dictionary.specs.Tables.{header_rows, rows_of}
 use Rattle.fix_dictionary.specs.Faults.{first_fault}
 use Rattle.fix_dictionary.specs.Told.{ok_or, some_or}
-use Rattle.fix_dictionary.specs.Text.{fields_of, header_slots, message_slots, body_slots, body_kind, message_text, slots_text}
+use Rattle.fix_dictionary.specs.Text.{fields_of, header_slots, message_slots, body_slots, body_kind, message_text}
 use Rattle.fix_dictionary.specs.Messages.{Spells, body_in, header, begin_in, type_in}
 use Rattle.fix_dictionary.specs.Fits.{FitsHeader, FitsBody, FitsMessage, is_read}
 use Rattle.fix_dictionary.proofs.FormLemmas as form

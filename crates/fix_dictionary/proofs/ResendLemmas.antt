@@ -7,7 +7,7 @@ use Rattle.fix_fields.specs.Fields.{Entry, value_of}
 use Rattle.fix_fields.specs.Forms.{within, integer_in}
 use Rattle.fix_dictionary.specs.declared.table.Form.TheVariants as form
 use Rattle.fix_dictionary.specs.Values.{ends, IsResend}
-use Rattle.fix_dictionary.specs.Table.{needs, why, unless, end_fault}
+use Rattle.fix_dictionary.specs.Table.{needs, why, end_fault}
 use Rattle.fix_dictionary.specs.Tables.{resend_request_rows}
 use Rattle.fix_dictionary.specs.Holding.{RowHolds, Holds}
 use Rattle.fix_dictionary.specs.Told.{ok_or, some_or, bytes_at, number_in, sequence_number_in}

@@ -1,15 +1,12 @@
 -- Messages of the session: what is printed is read as the message.
-use Rattle.std.proofs.Common.{◌≡◌, ◌≤◌, ℕ, Bool, List, [], ◌∷◌, refl, sym, ap, ◌∙◌, arith, Option, Some, None, ℤ}
-use Rattle.sef_moment.specs.Utc.{moment_of}
+use Rattle.std.proofs.Common.{◌≡◌, ℕ, Bool, List, [], refl, sym, ap, ◌∙◌, arith, Option}
 use Rattle.fix_fields.specs.Fields.{Entry}
-use Rattle.fix_dictionary.specs.declared.values.Side.{Side}
-use Rattle.fix_dictionary.specs.declared.messages.App.TheVariants as app
 use Rattle.fix_dictionary.specs.declared.messages.Admin.TheVariants as admin
 use Rattle.fix_dictionary.specs.declared.messages.Body.TheVariants as body
 use Rattle.fix_dictionary.specs.declared.messages.Header.{Header}
 use Rattle.fix_dictionary.specs.Values.{Resend}
 use Rattle.fix_dictionary.specs.Tables as rows
-use Rattle.fix_dictionary.specs.Told.{told, some_or, number_in, sequence_number_in, new_sequence_number_in, interval_in, quantity_in, amount_in, price_in, character_in, side_in, flag_in}
+use Rattle.fix_dictionary.specs.Told.{told, some_or, number_in, sequence_number_in, new_sequence_number_in, interval_in, flag_in}
 use Rattle.fix_dictionary.specs.Text as text
 use Rattle.fix_dictionary.specs.Messages as fields_tell
 use Rattle.fix_dictionary.specs.Fits.{FitsHeartbeat, FitsTestRequest, FitsResendRequest, FitsReject, FitsSequenceReset, FitsLogout, FitsLogon}

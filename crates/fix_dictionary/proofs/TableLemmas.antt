@@ -1,12 +1,11 @@
 -- No tag stands twice in a table, so each row has its own form there.
-use Rattle.std.proofs.Common.{◌≡◌, ◌++◌, ℕ, List, [], ◌∷◌, refl}
-use Rattle.std.specs.List.{AllByRecursion}
-use Rattle.fix_fields.specs.Fields.{Entry, value_of}
+use Rattle.std.proofs.Common.{◌++◌, ℕ, List, [], ◌∷◌, refl}
+use Rattle.fix_fields.specs.Fields.{Entry}
 use Rattle.fix_dictionary.specs.declared.table.Row.{Row}
 use Rattle.fix_dictionary.specs.declared.table.MessageType.{MessageType}
 use Rattle.fix_dictionary.specs.declared.table.MessageType.TheVariants as types
 use Rattle.fix_dictionary.specs.Tables.{header_rows, rows_of}
-use Rattle.fix_dictionary.specs.Holding.{RowHolds, Holds}
+use Rattle.fix_dictionary.specs.Holding.{Holds}
 use Rattle.fix_dictionary.proofs.HoldLemmas.{HasOwnForms}
 
 pub own_forms : (kind : MessageType) (begin : ℕ) → HasOwnForms (header_rows ++ rows_of kind begin) (header_rows ++ rows_of kind begin)

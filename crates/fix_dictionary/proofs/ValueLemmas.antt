@@ -1,5 +1,5 @@
 -- What is printed as a value is a value, and short.
-use Rattle.std.proofs.Common.{◌≡◌, ◌≢◌, ℕ, zero, suc, ◌+◌, ◌/◌, ◌%◌, ◌^◌, ◌≤◌, ◌<◌, true, false, Bool, List, [], ◌∷◌, ◌++◌, refl, sym, ap, ◌∙◌, arith, rules, cond, ◌==◌, ◌&&◌, nat_le, nat_lt, length, length-append, decimal, ℤ, pos, negsuc, unsigned_abs}
+use Rattle.std.proofs.Common.{◌≡◌, ◌≢◌, ℕ, suc, ◌+◌, ◌/◌, ◌%◌, ◌^◌, ◌≤◌, ◌<◌, true, false, Bool, List, [], ◌∷◌, ◌++◌, refl, arith, rules, cond, ◌==◌, ◌&&◌, nat_le, nat_lt, length, length-append, decimal, ℤ, pos, negsuc}
 use Rattle.std.specs.List.{list_all}
 use Rattle.std.proofs.lemmas.Bool.Decides.{nat_tests}
 use Rattle.std.proofs.lemmas.Fmt.{length-decimal-le}
@@ -8,7 +8,7 @@ use Rattle.fix_fields.specs.Cut.{Lacks}
 use Rattle.fix_fields.specs.Fields.{IsValue}
 use Rattle.fix_fields.specs.Forms.{six_digits, without_trailing_zeros, is_empty, millionths_text, price_text}
 use Rattle.fix_fields.proofs.PrintLemmas.{IsValue-decimal, IsValue-utc_text}
-use Rattle.fix_dictionary.specs.Values.{IsText, is_text, is_printable, is_graphic, IsPrice}
+use Rattle.fix_dictionary.specs.Values.{IsText, is_printable, is_graphic, IsPrice}
 
 -- a value of at most so many bytes
 pub record IsShort (longest : ℕ) (bytes : List ℕ) : Type 0 where

@@ -1,5 +1,5 @@
 -- The fields of an application message without a header: they say what they would say behind a right one.
-use Rattle.std.specs.Prelude.{◌≡◌, ℕ, if◌then◌else◌, List, [], ◌∷◌, ◌++◌, Option, None, Some, codes}
+use Rattle.std.specs.Prelude.{◌≡◌, if◌then◌else◌, List, [], ◌∷◌, ◌++◌, Option, None, Some, codes}
 use Rattle.fix_fields.specs.Fields.{Entry}
 use Rattle.fix_dictionary.specs.declared.faults.DictFault.{DictFault}
 use Rattle.fix_dictionary.specs.declared.faults.DictFault.TheVariants.{Format}

@@ -1,9 +1,7 @@
 -- The ranges of the values of a message, which its types keep.
 use Rattle.std.specs.Prelude.{◌≡◌, ℕ, ◌≤◌, Bool, true, false, Option, None, Some}
 use Rattle.fix_dictionary.specs.Kinds.{IsOtherKind}
-use Rattle.fix_dictionary.specs.declared.messages.App.{App}
 use Rattle.fix_dictionary.specs.declared.messages.App.TheVariants as app
-use Rattle.fix_dictionary.specs.declared.messages.Admin.{Admin}
 use Rattle.fix_dictionary.specs.declared.messages.Admin.TheVariants as admin
 use Rattle.fix_dictionary.specs.declared.messages.Body.{Body}
 use Rattle.fix_dictionary.specs.declared.messages.Body.TheVariants as body

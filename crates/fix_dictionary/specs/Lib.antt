@@ -4,7 +4,6 @@ pub mod Fits
 pub mod Holding
 pub mod Kinds
 pub mod Messages
-pub mod Places
 pub mod Printed
 pub mod Table
 pub mod Tables

@@ -11,9 +11,7 @@ use Rattle.fix_dictionary.specs.declared.table.MessageType.TheVariants as types
 use Rattle.fix_dictionary.specs.Tables.{header_rows, rows_of}
 use Rattle.fix_dictionary.specs.Faults.{first_fault}
 use Rattle.fix_dictionary.specs.Kinds.{type_of}
-use Rattle.fix_dictionary.specs.declared.messages.App.{App}
 use Rattle.fix_dictionary.specs.declared.messages.App.TheVariants as app
-use Rattle.fix_dictionary.specs.declared.messages.Admin.{Admin}
 use Rattle.fix_dictionary.specs.declared.messages.Admin.TheVariants as admin
 use Rattle.fix_dictionary.specs.declared.messages.Body.{Body}
 use Rattle.fix_dictionary.specs.declared.messages.Body.TheVariants as body

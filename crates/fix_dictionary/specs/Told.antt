@@ -1,9 +1,8 @@
 -- What the value of a field tells.
-use Rattle.std.specs.Prelude.{ℕ, ℤ, pos, ◌==◌, Bool, true, false, if◌then◌else◌, List, [], ◌∷◌, slice_index, Option, None, Some, Result, Ok, Err}
+use Rattle.std.specs.Prelude.{ℕ, ℤ, pos, ◌==◌, Bool, if◌then◌else◌, List, [], slice_index, Option, None, Some, Result, Ok, Err}
 use Rattle.fix_fields.specs.declared.value.ValueFault.{ValueFault}
 use Rattle.fix_fields.specs.Fields.{Entry, value_of}
 use Rattle.fix_fields.specs.Forms.{integer_in, price_of, quantity_of, amount_of}
-use Rattle.sef_moment.specs.Utc.{moment_of}
 use Rattle.fix_dictionary.specs.declared.values.Side.{Side}
 use Rattle.fix_dictionary.specs.declared.values.Side.TheVariants.{Buy, Sell}
 

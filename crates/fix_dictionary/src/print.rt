@@ -3,6 +3,8 @@ ghost use Rattle.std.specs.Prelude.{◌≡◌, ℕ, ◌≤◌, ◌++◌, ◌∷�
 ghost use Rattle.fix_fields.specs.Fields.{Appends, IsTag, field_text, fields_text};
 ghost use Rattle.fix_fields.specs.Forms.{price_text};
 ghost use Rattle.sef_moment.specs.Utc.{utc_text};
+ghost use Rattle.fix_dictionary.specs.Values.{IsText, IsFixInt, IsQuantity, IsPrice};
+ghost use Rattle.fix_dictionary.specs.Fits.{Given, IsGraphic, IsMoment, FitsHeader, FitsHeartbeat, FitsTestRequest, FitsResendRequest, FitsReject, FitsSequenceReset, FitsLogout, FitsLogon, FitsQuoteCancel, FitsQuoteResponse, FitsQuoteStatusReport, FitsNewOrderSingle, FitsOrderCancelRequest, FitsOrderCancelReplaceRequest, FitsExecutionReport, FitsOrderCancelReject, FitsMarketDataRequestReject, FitsBusinessMessageReject, FitsBody, FitsMessage};
 ghost use Rattle.fix_dictionary.specs.Printed.{printed, printed_option, slots};
 ghost use Rattle.fix_dictionary.specs.Text.{with_slot, fields_of, slots_text, given, flag_text, side_text, app_kind, app_slots, admin_kind, admin_slots, body_kind, body_slots, message_slots, message_text, app_text, header_slots, heartbeat_slots, test_request_slots, resend_request_slots, reject_slots, sequence_reset_slots, logout_slots, logon_slots, quote_cancel_slots, quote_response_slots, quote_status_report_slots, new_order_single_slots, order_cancel_request_slots, order_cancel_replace_request_slots, execution_report_slots, order_cancel_reject_slots, market_data_request_reject_slots, business_message_reject_slots};
 
@@ -84,7 +86,8 @@ fn printed_side<'a>(side: Side) -> Printed<'a>
 }
 
 fn printed_identifier<'a>(v: &'a Option<Identifier>) -> Option<Printed<'a>>
-    ensures { printed_option result ≡ v.now }
+    ensures value { printed_option result ≡ v.now }
+    ensures fits { Given (IsText 64) v.now }
 {
     match v {
         Some(x) => Some(Printed::Bytes(x.as_slice())),
@@ -93,7 +96,8 @@ fn printed_identifier<'a>(v: &'a Option<Identifier>) -> Option<Printed<'a>>
 }
 
 fn printed_text<'a>(v: &'a Option<Text>) -> Option<Printed<'a>>
-    ensures { printed_option result ≡ v.now }
+    ensures value { printed_option result ≡ v.now }
+    ensures fits { Given (IsText 200) v.now }
 {
     match v {
         Some(x) => Some(Printed::Bytes(x.as_slice())),
@@ -102,7 +106,8 @@ fn printed_text<'a>(v: &'a Option<Text>) -> Option<Printed<'a>>
 }
 
 fn printed_number<'a>(v: Option<FixInt>) -> Option<Printed<'a>>
-    ensures { printed_option result ≡ given decimal v }
+    ensures value { printed_option result ≡ given decimal v }
+    ensures fits { Given IsFixInt v }
 {
     match v {
         Some(x) => Some(Printed::Number(u64::from(x.get()))),
@@ -111,7 +116,8 @@ fn printed_number<'a>(v: Option<FixInt>) -> Option<Printed<'a>>
 }
 
 fn printed_quantity<'a>(v: Option<Quantity>) -> Option<Printed<'a>>
-    ensures { printed_option result ≡ given decimal v }
+    ensures value { printed_option result ≡ given decimal v }
+    ensures fits { Given IsQuantity v }
 {
     match v {
         Some(x) => Some(Printed::Number(x.get())),
@@ -120,7 +126,8 @@ fn printed_quantity<'a>(v: Option<Quantity>) -> Option<Printed<'a>>
 }
 
 fn printed_price<'a>(v: Option<Price>) -> Option<Printed<'a>>
-    ensures { printed_option result ≡ given price_text v }
+    ensures value { printed_option result ≡ given price_text v }
+    ensures fits { Given IsPrice v }
 {
     match v {
         Some(x) => Some(Printed::Price(x.get())),
@@ -129,7 +136,8 @@ fn printed_price<'a>(v: Option<Price>) -> Option<Printed<'a>>
 }
 
 fn printed_character<'a>(v: Option<FixChar>) -> Option<Printed<'a>>
-    ensures { printed_option result ≡ given (λ c. c ∷ []) v }
+    ensures value { printed_option result ≡ given (λ c. c ∷ []) v }
+    ensures fits { Given IsGraphic v }
 {
     match v {
         Some(x) => Some(Printed::Byte(x.get())),
@@ -137,11 +145,20 @@ fn printed_character<'a>(v: Option<FixChar>) -> Option<Printed<'a>>
     }
 }
 
+fn printed_time<'a>(v: Moment) -> Printed<'a>
+    ensures value { printed result ≡ utc_text v }
+    ensures fits { IsMoment v }
+{
+    let _ = v.ms();
+    Printed::Moment(v)
+}
+
 fn printed_moment<'a>(v: Option<Moment>) -> Option<Printed<'a>>
-    ensures { printed_option result ≡ given utc_text v }
+    ensures value { printed_option result ≡ given utc_text v }
+    ensures fits { Given IsMoment v }
 {
     match v {
-        Some(x) => Some(Printed::Moment(x)),
+        Some(x) => Some(printed_time(x)),
         None => None,
     }
 }
@@ -169,7 +186,8 @@ fn printed_flag<'a>(v: Option<bool>) -> Option<Printed<'a>>
 }
 
 fn print_header(out: &mut Vec<u8>, m: &Header) -> Result<(), AllocError>
-    ensures { Appends out.old.items out.new.items (slots_text (header_slots m.now)) result }
+    ensures text { Appends out.old.items out.new.items (slots_text (header_slots m.now)) result }
+    ensures fits { FitsHeader m.now }
 {
     append_slots(
         out,
@@ -177,7 +195,7 @@ fn print_header(out: &mut Vec<u8>, m: &Header) -> Result<(), AllocError>
             slot!(49, Some(Printed::Bytes(m.sender.as_slice()))),
             slot!(56, Some(Printed::Bytes(m.target.as_slice()))),
             slot!(34, Some(Printed::Number(u64::from(m.number.get())))),
-            slot!(52, Some(Printed::Moment(m.sending_time))),
+            slot!(52, Some(printed_time(m.sending_time))),
             slot!(43, printed_flag(m.possible_duplicate)),
             slot!(97, printed_flag(m.possible_resend)),
             slot!(122, printed_moment(m.original_sending_time)),
@@ -187,13 +205,15 @@ fn print_header(out: &mut Vec<u8>, m: &Header) -> Result<(), AllocError>
 }
 
 fn print_heartbeat(out: &mut Vec<u8>, m: &Heartbeat) -> Result<(), AllocError>
-    ensures { Appends out.old.items out.new.items (slots_text (heartbeat_slots m.now)) result }
+    ensures text { Appends out.old.items out.new.items (slots_text (heartbeat_slots m.now)) result }
+    ensures fits { FitsHeartbeat m.now }
 {
     append_slots(out, &[slot!(112, printed_identifier(&m.test_id))])
 }
 
 fn print_test_request(out: &mut Vec<u8>, m: &TestRequest) -> Result<(), AllocError>
-    ensures { Appends out.old.items out.new.items (slots_text (test_request_slots m.now)) result }
+    ensures text { Appends out.old.items out.new.items (slots_text (test_request_slots m.now)) result }
+    ensures fits { FitsTestRequest m.now }
 {
     append_slots(
         out,
@@ -202,7 +222,8 @@ fn print_test_request(out: &mut Vec<u8>, m: &TestRequest) -> Result<(), AllocErr
 }
 
 fn print_resend_request(out: &mut Vec<u8>, m: ResendRequest) -> Result<(), AllocError>
-    ensures { Appends out.old.items out.new.items (slots_text (resend_request_slots m)) result }
+    ensures text { Appends out.old.items out.new.items (slots_text (resend_request_slots m)) result }
+    ensures fits { FitsResendRequest m }
 {
     append_slots(
         out,
@@ -214,7 +235,8 @@ fn print_resend_request(out: &mut Vec<u8>, m: ResendRequest) -> Result<(), Alloc
 }
 
 fn print_reject(out: &mut Vec<u8>, m: &Reject) -> Result<(), AllocError>
-    ensures { Appends out.old.items out.new.items (slots_text (reject_slots m.now)) result }
+    ensures text { Appends out.old.items out.new.items (slots_text (reject_slots m.now)) result }
+    ensures fits { FitsReject m.now }
 {
     append_slots(
         out,
@@ -232,7 +254,8 @@ fn print_reject(out: &mut Vec<u8>, m: &Reject) -> Result<(), AllocError>
 }
 
 fn print_sequence_reset(out: &mut Vec<u8>, m: &SequenceReset) -> Result<(), AllocError>
-    ensures { Appends out.old.items out.new.items (slots_text (sequence_reset_slots m.now)) result }
+    ensures text { Appends out.old.items out.new.items (slots_text (sequence_reset_slots m.now)) result }
+    ensures fits { FitsSequenceReset m.now }
 {
     append_slots(
         out,
@@ -244,13 +267,15 @@ fn print_sequence_reset(out: &mut Vec<u8>, m: &SequenceReset) -> Result<(), Allo
 }
 
 fn print_logout(out: &mut Vec<u8>, m: &Logout) -> Result<(), AllocError>
-    ensures { Appends out.old.items out.new.items (slots_text (logout_slots m.now)) result }
+    ensures text { Appends out.old.items out.new.items (slots_text (logout_slots m.now)) result }
+    ensures fits { FitsLogout m.now }
 {
     append_slots(out, &[slot!(58, printed_text(&m.text))])
 }
 
 fn print_logon(out: &mut Vec<u8>, m: &Logon) -> Result<(), AllocError>
-    ensures { Appends out.old.items out.new.items (slots_text (logon_slots m.now)) result }
+    ensures text { Appends out.old.items out.new.items (slots_text (logon_slots m.now)) result }
+    ensures fits { FitsLogon m.now }
 {
     append_slots(
         out,
@@ -267,7 +292,8 @@ fn print_logon(out: &mut Vec<u8>, m: &Logon) -> Result<(), AllocError>
 }
 
 fn print_quote_cancel(out: &mut Vec<u8>, m: &QuoteCancel) -> Result<(), AllocError>
-    ensures { Appends out.old.items out.new.items (slots_text (quote_cancel_slots m.now)) result }
+    ensures text { Appends out.old.items out.new.items (slots_text (quote_cancel_slots m.now)) result }
+    ensures fits { FitsQuoteCancel m.now }
 {
     append_slots(
         out,
@@ -279,7 +305,8 @@ fn print_quote_cancel(out: &mut Vec<u8>, m: &QuoteCancel) -> Result<(), AllocErr
 }
 
 fn print_quote_response(out: &mut Vec<u8>, m: &QuoteResponse) -> Result<(), AllocError>
-    ensures { Appends out.old.items out.new.items (slots_text (quote_response_slots m.now)) result }
+    ensures text { Appends out.old.items out.new.items (slots_text (quote_response_slots m.now)) result }
+    ensures fits { FitsQuoteResponse m.now }
 {
     append_slots(
         out,
@@ -293,7 +320,8 @@ fn print_quote_response(out: &mut Vec<u8>, m: &QuoteResponse) -> Result<(), Allo
 }
 
 fn print_quote_status_report(out: &mut Vec<u8>, m: &QuoteStatusReport) -> Result<(), AllocError>
-    ensures { Appends out.old.items out.new.items (slots_text (quote_status_report_slots m.now)) result }
+    ensures text { Appends out.old.items out.new.items (slots_text (quote_status_report_slots m.now)) result }
+    ensures fits { FitsQuoteStatusReport m.now }
 {
     append_slots(
         out,
@@ -310,7 +338,8 @@ fn print_quote_status_report(out: &mut Vec<u8>, m: &QuoteStatusReport) -> Result
 }
 
 fn print_new_order_single(out: &mut Vec<u8>, m: &NewOrderSingle) -> Result<(), AllocError>
-    ensures { Appends out.old.items out.new.items (slots_text (new_order_single_slots m.now)) result }
+    ensures text { Appends out.old.items out.new.items (slots_text (new_order_single_slots m.now)) result }
+    ensures fits { FitsNewOrderSingle m.now }
 {
     append_slots(
         out,
@@ -329,7 +358,8 @@ fn print_new_order_single(out: &mut Vec<u8>, m: &NewOrderSingle) -> Result<(), A
 }
 
 fn print_order_cancel_request(out: &mut Vec<u8>, m: &OrderCancelRequest) -> Result<(), AllocError>
-    ensures { Appends out.old.items out.new.items (slots_text (order_cancel_request_slots m.now)) result }
+    ensures text { Appends out.old.items out.new.items (slots_text (order_cancel_request_slots m.now)) result }
+    ensures fits { FitsOrderCancelRequest m.now }
 {
     append_slots(
         out,
@@ -344,7 +374,8 @@ fn print_order_cancel_replace_request(
     out: &mut Vec<u8>,
     m: &OrderCancelReplaceRequest,
 ) -> Result<(), AllocError>
-    ensures { Appends out.old.items out.new.items (slots_text (order_cancel_replace_request_slots m.now)) result }
+    ensures text { Appends out.old.items out.new.items (slots_text (order_cancel_replace_request_slots m.now)) result }
+    ensures fits { FitsOrderCancelReplaceRequest m.now }
 {
     append_slots(
         out,
@@ -359,7 +390,8 @@ fn print_order_cancel_replace_request(
 }
 
 fn print_execution_report(out: &mut Vec<u8>, m: &ExecutionReport) -> Result<(), AllocError>
-    ensures { Appends out.old.items out.new.items (slots_text (execution_report_slots m.now)) result }
+    ensures text { Appends out.old.items out.new.items (slots_text (execution_report_slots m.now)) result }
+    ensures fits { FitsExecutionReport m.now }
 {
     append_slots(
         out,
@@ -385,7 +417,8 @@ fn print_execution_report(out: &mut Vec<u8>, m: &ExecutionReport) -> Result<(), 
 }
 
 fn print_order_cancel_reject(out: &mut Vec<u8>, m: &OrderCancelReject) -> Result<(), AllocError>
-    ensures { Appends out.old.items out.new.items (slots_text (order_cancel_reject_slots m.now)) result }
+    ensures text { Appends out.old.items out.new.items (slots_text (order_cancel_reject_slots m.now)) result }
+    ensures fits { FitsOrderCancelReject m.now }
 {
     append_slots(
         out,
@@ -405,7 +438,8 @@ fn print_market_data_request_reject(
     out: &mut Vec<u8>,
     m: &MarketDataRequestReject,
 ) -> Result<(), AllocError>
-    ensures { Appends out.old.items out.new.items (slots_text (market_data_request_reject_slots m.now)) result }
+    ensures text { Appends out.old.items out.new.items (slots_text (market_data_request_reject_slots m.now)) result }
+    ensures fits { FitsMarketDataRequestReject m.now }
 {
     append_slots(
         out,
@@ -421,7 +455,8 @@ fn print_business_message_reject(
     out: &mut Vec<u8>,
     m: &BusinessMessageReject,
 ) -> Result<(), AllocError>
-    ensures { Appends out.old.items out.new.items (slots_text (business_message_reject_slots m.now)) result }
+    ensures text { Appends out.old.items out.new.items (slots_text (business_message_reject_slots m.now)) result }
+    ensures fits { FitsBusinessMessageReject m.now }
 {
     append_slots(
         out,
@@ -463,7 +498,8 @@ fn app_kind(message: &App) -> &[u8]
 }
 
 fn append_app(out: &mut Vec<u8>, message: &App) -> Result<(), AllocError>
-    ensures { Appends out.old.items out.new.items (slots_text (app_slots message.now)) result }
+    ensures text { Appends out.old.items out.new.items (slots_text (app_slots message.now)) result }
+    ensures fits { FitsBody (Body.App message.now) }
 {
     match message {
         App::QuoteCancel(m) => print_quote_cancel(out, m),
@@ -481,8 +517,11 @@ fn append_app(out: &mut Vec<u8>, message: &App) -> Result<(), AllocError>
         | App::QuoteRequestReject(_)
         | App::NewOrderCross(_)
         | App::MarketDataRequest(_)
-        | App::MarketDataSnapshot(_)
-        | App::Unsupported(_) => Ok(()),
+        | App::MarketDataSnapshot(_) => Ok(()),
+        App::Unsupported(kind) => {
+            let _ = kind.as_slice();
+            Ok(())
+        }
     }
 }
 
@@ -502,7 +541,8 @@ fn admin_kind(message: &Admin) -> &[u8]
 }
 
 fn append_admin(out: &mut Vec<u8>, message: &Admin) -> Result<(), AllocError>
-    ensures { Appends out.old.items out.new.items (slots_text (admin_slots message.now)) result }
+    ensures text { Appends out.old.items out.new.items (slots_text (admin_slots message.now)) result }
+    ensures fits { FitsBody (Body.Admin message.now) }
 {
     match message {
         Admin::Heartbeat(m) => print_heartbeat(out, m),
@@ -525,7 +565,8 @@ fn body_kind(body: &Body) -> &[u8]
 }
 
 fn append_body(out: &mut Vec<u8>, body: &Body) -> Result<(), AllocError>
-    ensures { Appends out.old.items out.new.items (slots_text (body_slots body.now)) result }
+    ensures text { Appends out.old.items out.new.items (slots_text (body_slots body.now)) result }
+    ensures fits { FitsBody body.now }
 {
     match body {
         Body::Admin(message) => append_admin(out, message),
@@ -536,21 +577,24 @@ fn append_body(out: &mut Vec<u8>, body: &Body) -> Result<(), AllocError>
 // Appends the header and what is behind it.
 #[tactic(auto, using(crate::proofs::TextLemmas::slots_text_append))]
 fn append_rest(out: &mut Vec<u8>, message: &Message) -> Result<(), AllocError>
-    ensures { Appends out.old.items out.new.items (slots_text (header_slots message.now.header ++ body_slots message.now.body)) result }
+    ensures text { Appends out.old.items out.new.items (slots_text (header_slots message.now.header ++ body_slots message.now.body)) result }
+    ensures fits { OnOk result (FitsMessage message.now) }
 {
     print_header(out, &message.header)?;
     append_body(out, &message.body)
 }
 
 fn append_message(out: &mut Vec<u8>, message: &Message) -> Result<(), AllocError>
-    ensures { Appends out.old.items out.new.items (message_text message.now) result }
+    ensures text { Appends out.old.items out.new.items (message_text message.now) result }
+    ensures fits { OnOk result (FitsMessage message.now) }
 {
     append_bytes(out, 35, body_kind(&message.body))?;
     append_rest(out, message)
 }
 
 fn append_application(out: &mut Vec<u8>, message: &App) -> Result<(), AllocError>
-    ensures { Appends out.old.items out.new.items (app_text message.now) result }
+    ensures text { Appends out.old.items out.new.items (app_text message.now) result }
+    ensures fits { OnOk result (FitsBody (Body.App message.now)) }
 {
     append_bytes(out, 35, app_kind(message))?;
     append_app(out, message)
@@ -571,6 +615,7 @@ fn settle(out: &mut Vec<u8>, start: usize, done: Result<(), AllocError>) -> Resu
 /// Appends the body of the message's frame. After an error nothing is appended.
 pub fn print_message(message: &Message, out: &mut Vec<u8>) -> Result<(), AllocError>
     ensures ok { OnOk result (out.new.items ≡ out.old.items ++ message_text message.now) }
+    ensures fits { OnOk result (FitsMessage message.now) }
     ensures err { OnErr result (out.new.items ≡ out.old.items) }
 {
     let start = out.len();
@@ -582,6 +627,7 @@ pub fn print_message(message: &Message, out: &mut Vec<u8>) -> Result<(), AllocEr
 /// appended.
 pub fn print_app(message: &App, out: &mut Vec<u8>) -> Result<(), AllocError>
     ensures ok { OnOk result (out.new.items ≡ out.old.items ++ app_text message.now) }
+    ensures fits { OnOk result (FitsBody (Body.App message.now)) }
     ensures err { OnErr result (out.new.items ≡ out.old.items) }
 {
     let start = out.len();

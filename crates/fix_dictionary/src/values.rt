@@ -29,9 +29,8 @@ impl Identifier {
         requires { IsText 64 bytes.now }
         ensures { IfOk result (λ id. id ≡ bytes.now) }
     {
-        Ok(Identifier {
-            bytes: Vec::from_slice(alloc, bytes)?,
-        })
+        let bytes = Vec::from_slice(alloc, bytes)?;
+        Ok(Identifier { bytes })
     }
 
     pub fn as_slice(&self) -> &[u8]
@@ -79,9 +78,8 @@ impl Text {
         requires { IsText 200 bytes.now }
         ensures { IfOk result (λ text. text ≡ bytes.now) }
     {
-        Ok(Text {
-            bytes: Vec::from_slice(alloc, bytes)?,
-        })
+        let bytes = Vec::from_slice(alloc, bytes)?;
+        Ok(Text { bytes })
     }
 
     pub fn as_slice(&self) -> &[u8]
@@ -409,9 +407,8 @@ impl OtherKind {
         requires { IsOtherKind bytes.now }
         ensures { IfOk result (λ kind. kind ≡ bytes.now) }
     {
-        Ok(OtherKind {
-            bytes: Vec::from_slice(alloc, bytes)?,
-        })
+        let bytes = Vec::from_slice(alloc, bytes)?;
+        Ok(OtherKind { bytes })
     }
 
     pub fn as_slice(&self) -> &[u8]

@@ -4,7 +4,7 @@ use Rattle.instruments.specs.declared.instruments.Instrument.{Instrument}
 
 -- an instrument by its symbol; a place past the end where there is none
 abbrev pub instrument_of : List Instrument → List ℕ → ℕ
-instrument_of file symbol = position_or_len (λ x. bytes_eq x.symbol symbol) file
+instrument_of file symbol = position_or_len (λ x. bytes_eq symbol x.symbol) file
 
 abbrev pub is_unknown_instrument : List Instrument → List ℕ → Bool
 is_unknown_instrument file symbol = not (nat_lt (instrument_of file symbol) (length file))

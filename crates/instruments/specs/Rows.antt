@@ -26,10 +26,17 @@ is_delay n = nat_le n 3600000
 abbrev pub is_instrument : Instrument → Bool
 is_instrument x = is_symbol x.symbol && (is_tick x.tick && (is_least x.least && (is_request_life x.request_life && is_delay x.delay)))
 
+-- no two members of a list are the same
+abbrev pub are_distinct_by : {X : Type 0} → (X → X → Bool) → List X → Bool
+are_distinct_by same [] = true
+are_distinct_by same (x ∷ xs) = not (list_any (same x) xs) && are_distinct_by same xs
+
+abbrev pub is_same_symbol : Instrument → Instrument → Bool
+is_same_symbol x y = bytes_eq x.symbol y.symbol
+
 -- no symbol stands twice
 abbrev pub are_distinct : List Instrument → Bool
-are_distinct [] = true
-are_distinct (x ∷ xs) = not (list_any (λ y. bytes_eq x.symbol y.symbol) xs) && are_distinct xs
+are_distinct xs = are_distinct_by is_same_symbol xs
 
 -- the rules of an instrument file: 1 to 256 instruments, of which no two have one symbol
 abbrev pub is_instrument_file : List Instrument → Bool

@@ -1,13 +1,17 @@
 //! The instrument file as it is read.
 
-ghost use Rattle.std.specs.Prelude.{◌≡◌, ◌<◌, true, length, slice_get, Some, position, bytes_eq, IfOk};
+ghost use Rattle.std.specs.Prelude.{◌≡◌, ◌<◌, true, length, slice_get, Ok, Some, position, bytes_eq, IfOk, IfErr};
 ghost use Rattle.std.specs.List.{position_or_len};
+ghost use Rattle.instruments.specs.Reading.{IsFaultOf, Reads};
 ghost use Rattle.instruments.specs.Listing.{delay_of, is_off_tick, least_of, request_life_of, symbol_of, tick_of};
 ghost use Rattle.instruments.specs.Rows.{is_instrument, is_instrument_file};
 
+use crate::fault::FileFault;
+use crate::reading::read_document;
 use crate::symbol::Symbol;
 use std::alloc::{AllocError, Global};
 use std::marker::Model;
+use toml::Value;
 
 /// One listed instrument.
 #[derive(Drop)]
@@ -43,7 +47,7 @@ impl Model for Instruments {
 
 /// The first place of a symbol, or their count where it is not there.
 fn place_of(rows: &[Instrument], symbol: &[u8]) -> usize
-    ensures { result ≡ position_or_len (λ row. bytes_eq row.symbol symbol.now) rows.now }
+    ensures { result ≡ position_or_len (λ row. bytes_eq symbol.now row.symbol) rows.now }
 {
     for (place, row) in rows.iter().enumerate() {
         if row.symbol.is(symbol) {
@@ -62,6 +66,23 @@ impl Instruments {
         Ok(Instruments { rows })
     }
 
+    /// Reads an instrument file, or tells its first fault.
+    pub fn read(alloc: Global, text: &[u8]) -> Result<Instruments, FileFault>
+        ensures rows { IfOk result (λ file. Reads text.now (Ok file)) }
+        ensures fault { IfErr result (IsFaultOf text.now) }
+    {
+        match toml::table_from_slice(alloc, text) {
+            Ok(table) => read_document(alloc, &Value::Table(table)),
+            Err(error) => {
+                if error.is_memory() {
+                    Err(FileFault::NoMemory)
+                } else {
+                    Err(FileFault::NotToml)
+                }
+            }
+        }
+    }
+
     /// How many instruments there are: 1 to 256.
     pub fn len(&self) -> usize
         ensures count { result ≡ length self.now }
@@ -72,7 +93,7 @@ impl Instruments {
 
     /// The instrument of this symbol, by its place in the file, from 0.
     pub fn find(&self, symbol: &[u8]) -> Option<u32>
-        ensures { result ≡ position (λ row. bytes_eq row.symbol symbol.now) self.now }
+        ensures { result ≡ position (λ row. bytes_eq symbol.now row.symbol) self.now }
     {
         let place = place_of(&self.rows, symbol);
         if place < self.rows.len() {

@@ -1,8 +1,15 @@
 //! The instruments that a venue lists.
 #![tactic(auto)]
 
+mod document;
+mod fault;
 mod instruments;
+mod reading;
 mod symbol;
 
+pub use fault::FileFault;
 pub use instruments::{Instrument, Instruments};
 pub use symbol::Symbol;
+
+#[cfg(test)]
+mod tests;

@@ -1,7 +1,8 @@
 //! Symbols of instruments.
 
 ghost use Rattle.std.specs.Prelude.{◌≡◌, true, bytes_eq, IfOk};
-ghost use Rattle.instruments.specs.Symbols.{is_symbol};
+ghost use Rattle.std.specs.List.{list_all};
+ghost use Rattle.instruments.specs.Symbols.{has_length_of_symbol, is_symbol, is_symbol_byte};
 
 use std::alloc::{AllocError, Global};
 use std::marker::Model;
@@ -43,8 +44,33 @@ impl Symbol {
 
     /// Whether it has these bytes.
     pub fn is(&self, bytes: &[u8]) -> bool
-        ensures { result ≡ bytes_eq self.now bytes.now }
+        ensures { result ≡ bytes_eq bytes.now self.now }
     {
-        self.as_slice() == bytes
+        bytes == self.as_slice()
     }
+}
+
+fn has_length_of_symbol(length: usize) -> bool
+    ensures { result ≡ has_length_of_symbol length }
+{
+    1 <= length && length <= 64
+}
+
+fn is_symbol_byte(byte: u8) -> bool
+    ensures { result ≡ is_symbol_byte byte }
+{
+    33 <= byte && byte <= 126 && byte != b','
+}
+
+fn has_symbol_bytes(bytes: &[u8]) -> bool
+    ensures { result ≡ list_all is_symbol_byte bytes.now }
+{
+    bytes.iter().all(|b| is_symbol_byte(*b))
+}
+
+/// Whether bytes have the form of a symbol.
+pub(crate) fn is_symbol(bytes: &[u8]) -> bool
+    ensures { result ≡ is_symbol bytes.now }
+{
+    has_length_of_symbol(bytes.len()) && has_symbol_bytes(bytes)
 }

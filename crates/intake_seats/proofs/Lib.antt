@@ -4,4 +4,4 @@ pub mod TakerSteps
 pub mod Dealing
 pub mod NewEnds
 pub mod Closing
-pub mod Comparing
+pub mod BothEnds

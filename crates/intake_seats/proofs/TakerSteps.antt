@@ -1,5 +1,5 @@
 -- The steps of a seat's taker keep the board's rule.
-use Rattle.std.proofs.Common.{◌≡◌, ℕ, ◌+◌, ◌-◌, ◌*◌, ◌%◌, ◌^◌, ◌<◌, ◌≤◌, eqb, true, List, [], ◌∷◌, ◌++◌, length, get_or, set, refl, sym, ap, ◌∙◌, subst, arith, length-set, length-append}
+use Rattle.std.proofs.Common.{◌≡◌, ℕ, ◌+◌, ◌-◌, ◌*◌, ◌/◌, ◌%◌, ◌^◌, ◌<◌, ◌≤◌, eqb, true, List, [], ◌∷◌, ◌++◌, length, get_or, set, refl, sym, ap, ◌∙◌, subst, arith, length-set, length-append}
 use mathlib.Core.Option.{none, some}
 use mathlib.Core.Option as maybe
 use mathlib.Core.Path.{Path}
@@ -32,18 +32,20 @@ module _ {M : Type 0} where
   taking_at x (full y) e = absurd (cc)
   taking_at x (taking y) e = let same : x ≡ y = cc in ap taking (sym same)
 
-  -- where the word is that of a full seat, it counts what was taken
-  counts : (word : ℕ) (home : maybe.Option (Home M)) (a : Account M) (taken : List M) → IsSettled word home a → taken ≡ a.taken → word % 4 ≡ 2 → word ≡ 4 * length taken + 2
-  counts word home a taken settled same e =
-      let st = full_at_2 word (length a.taken) a.stage settled.0 e in
-      let l : length taken ≡ length a.taken = ap length same in
-      let c : code a.stage ≡ 2 = ap code st.1 in
-      let w = settled.0 in omega arith
+  -- in each state the word counts what was taken
+  counts_at : (word m : ℕ) (stage : Stage M) → word ≡ 4 * m + code stage → word / 4 ≡ m
+  counts_at word m empty is = omega arith
+  counts_at word m filling is = omega arith
+  counts_at word m (full x) is = omega arith
+  counts_at word m (taking x) is = omega arith
+
+  counts : (word : ℕ) (home : maybe.Option (Home M)) (a : Account M) (taken : List M) → IsSettled word home a → taken ≡ a.taken → word / 4 ≡ length taken
+  counts word home a taken settled same = counts_at word (length a.taken) a.stage settled.0 ∙ sym (ap length same)
 
   -- a look leaves the board as it is
   pub looks_on : (n slots id : ℕ) (t : Taker M) (c : List (ℕ × Option M)) (s : Board M) (b : IsBoard n s) → get_elem? s.views id ≡ some (taker_alone t)
       → (then : ℕ → Me (Option M) (View M) → Type 0)
-      → ((get_or s.words t.number 0 % 4 ≡ 2 → get_or s.words t.number 0 ≡ 4 * length t.taken + 2) → then (get_or s.words t.number 0) (looked (get_or s.words t.number 0) (taker_alone t), c))
+      → (get_or s.words t.number 0 / 4 ≡ length t.taken → then (get_or s.words t.number 0) (looked (get_or s.words t.number 0) (taker_alone t), c))
       → Goes n s t.number id (taker_alone t, c) then (get_or s.words t.number 0)
   looks_on n slots id t c s b at then told =
       let k : ℕ = t.number in let x : ℕ = get_or s.words k 0 in let a = b.account k in let know = b.each_taker id (taker_alone t) 0 t at refl in let settled = b.each_seat k know.0 in (

@@ -1,5 +1,5 @@
 -- The views of a board's threads, and the two ends of a seat that contracts see.
-use Rattle.std.specs.Prelude.{◌≡◌, ◌≢◌, ◌⊎◌, ℕ, zero, suc, ◌/◌, ◌%◌, ◌^◌, ◌≤◌, Bool, true, false, List, [], ◌∷◌, ◌++◌, map, length, slice_get, Option, None, Some}
+use Rattle.std.specs.Prelude.{◌≡◌, ◌≢◌, ◌⊎◌, ℕ, zero, suc, ◌+◌, ◌*◌, ◌/◌, ◌%◌, ◌^◌, Bool, true, false, List, [], ◌∷◌, ◌++◌, map, length, slice_get, Option, None, Some}
 use Rattle.std.specs.Option.{option_to_list}
 use Rattle.atomic_table.specs.Seated.{TableId}
 use Rattle.intake_seats.specs.declared.views.Hander.{Hander}
@@ -7,9 +7,9 @@ use Rattle.intake_seats.specs.declared.views.Taker.{Taker}
 use Rattle.intake_seats.specs.declared.views.View.{View}
 use Rattle.intake_seats.specs.Given.{HandEnd, TakeEnd}
 
--- a word that lets no message in: the seat is not empty, or 2^60 messages were given
-abbrev pub IsShut : ℕ → Type 0
-IsShut word = (word % 4 ≢ 0) ⊎ (2 ^ 60 ≤ word / 4)
+-- a word that lets no message in: the seat is not empty, and one message more was given than the word counts; or it is empty, and 2^60 were given
+abbrev pub IsShut : {M : Type 0} → List M → ℕ → Type 0
+IsShut given word = ((word % 4 ≢ 0) × (length given ≡ word / 4 + 1)) ⊎ ((word ≡ 4 * length given) × (length given ≡ 2 ^ 60))
 
 -- what is out with a taker: the slot of its seat, emptied, while a message is in hand
 abbrev pub carried : {M : Type 0} → ℕ → Bool → List (ℕ × Option M)

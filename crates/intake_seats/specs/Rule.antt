@@ -8,6 +8,7 @@ use Rattle.atomic_table.specs.Table.{State}
 use Rattle.intake_seats.specs.declared.views.Hander.{Hander}
 use Rattle.intake_seats.specs.declared.views.Taker.{Taker}
 use Rattle.intake_seats.specs.declared.views.View.{View}
+use Rattle.intake_seats.specs.Given.{IsAhead}
 
 pub data Stage (M : Type 0) : Type 0 where
   empty : Stage M
@@ -67,3 +68,8 @@ pub record IsBoard {M : Type 0} (n : ℕ) (s : State (Option M) (View M)) : Type
   pub each_seat : (k : ℕ) → k < n → IsSettled (slice_index s.words k) (get_elem? s.homes k) (account k)
   pub each_hander : (id : ℕ) (v : View M) (p : ℕ) (h : Hander M) → get_elem? s.views id ≡ some v → get_elem? v.handers p ≡ some h → KnowsGiven n id h (account h.number)
   pub each_taker : (id : ℕ) (v : View M) (p : ℕ) (t : Taker M) → get_elem? s.views id ≡ some v → get_elem? v.takers p ≡ some t → KnowsTaken n id t (account t.number)
+
+-- whatever views have the two ends of a seat, what was given is what was taken, and then one message at most: the one in hand, if there is one
+abbrev pub AreAhead : {M : Type 0} → State (Option M) (View M) → Type 0
+AreAhead {M} s = (i j p q : ℕ) (v w : View M) (h : Hander M) (t : Taker M)
+    → get_elem? s.views i ≡ some v → get_elem? v.handers p ≡ some h → get_elem? s.views j ≡ some w → get_elem? w.takers q ≡ some t → h.number ≡ t.number → IsAhead h.given t.taken t.in_hand

@@ -1,11 +1,10 @@
 -- What each step on the board tells its thread: of the view and the slots before, the word found, and the view and the slots after.
-use Rattle.std.specs.Prelude.{◌≡◌, ◌≢◌, ℕ, ◌+◌, ◌*◌, ◌%◌, true, false, List, [], ◌∷◌, ◌++◌, map, length, Option, None, Some}
+use Rattle.std.specs.Prelude.{◌≡◌, ◌≢◌, ℕ, ◌+◌, ◌*◌, ◌/◌, ◌%◌, ◌^◌, ◌≤◌, true, false, List, [], ◌∷◌, ◌++◌, map, length, Option, None, Some}
 use Rattle.atomic_table.specs.Table.{Me, Step, rest}
 use Rattle.intake_seats.specs.declared.views.Hander.{Hander}
 use Rattle.intake_seats.specs.declared.views.Taker.{Taker}
 use Rattle.intake_seats.specs.declared.views.View.{View}
 use Rattle.std.specs.Option.{option_to_list}
-use Rattle.intake_seats.specs.Given.{IsAhead}
 
 abbrev Own : Type 0 → Type 0
 Own M = Me (Option M) (View M)
@@ -63,11 +62,17 @@ module _ {M : Type 0} where
   abbrev pub with_taken : View M → View M
   with_taken v = record v { takers = map (λ (t : Taker M). record t { taken = t.taken ++ option_to_list t.in_hand; in_hand = None }) v.takers }
 
+  -- a hander that doesn't claim finds what counts all that it gave in an empty seat, and all but the last in any other
   abbrev pub hander_looked : Step (Option M) → Own M → ℕ → Own M → Type 0
-  hander_looked st m found m' = (m' ≡ (looked found m.0, m.1)) × (found % 4 ≡ 0 → found ≡ 4 * length (given_of m.0))
+  hander_looked st m found m' =
+      (m' ≡ (looked found m.0, m.1))
+      × (found % 4 ≡ 0 → found ≡ 4 * length (given_of m.0))
+      × (found % 4 ≢ 0 → length (given_of m.0) ≡ found / 4 + 1)
+      × (length (given_of m.0) ≤ 2 ^ 60)
 
+  -- a taker finds what counts all that it took, whatever the state
   abbrev pub taker_looked : Step (Option M) → Own M → ℕ → Own M → Type 0
-  taker_looked st m found m' = (m' ≡ (looked found m.0, m.1)) × (found % 4 ≡ 2 → found ≡ 4 * length (taken_of m.0) + 2)
+  taker_looked st m found m' = (m' ≡ (looked found m.0, m.1)) × (found / 4 ≡ length (taken_of m.0))
 
   abbrev pub claimed : Step (Option M) → Own M → ℕ → Own M → Type 0
   claimed st m found m' =
@@ -87,10 +92,6 @@ module _ {M : Type 0} where
 
   abbrev pub cleared : Step (Option M) → Own M → ℕ → Own M → Type 0
   cleared st m found m' = m' ≡ (with_taken m.0, rest m.1)
-
-  -- nothing changes where both ends of a seat are seen side by side
-  abbrev pub compared : Step (Option M) → Own M → ℕ → Own M → Type 0
-  compared st m found m' = (m' ≡ m) × IsAhead (given_of m.0) (taken_of m.0) (in_hand_of m.0)
 
   abbrev pub only_first_hander : View M → View M
   only_first_hander v = record { handers = front v.handers; takers = [] }

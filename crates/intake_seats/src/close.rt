@@ -11,16 +11,19 @@ use crate::views::View;
 use atomic_table::{Closed, Seat};
 use std::alloc::Global;
 
-/// There was no memory for the list, and all come back.
+/// There was no memory for the list of what is left, and all come back as they were.
 #[derive(Drop)]
 pub struct Unclosed<M> {
+    /// The board, still open.
     pub board: Board<M>,
+    /// The handers' ends, in the order in which they came.
     pub hands: Vec<HandSeat<M>>,
+    /// The takers' ends, in the order in which they came.
     pub takes: Vec<TakeSeat<M>>,
 }
 
 impl<M> Board<M> {
-    /// What is left in each seat, in their order. It takes all ends of the board, and no taker has a message in hand. The list is reserved before any two ends are united.
+    /// What is left in each seat, in their order. The two lists are all ends of the board in the order in which `new` gave them, and no taker has a message in hand. The list is reserved before any two ends are united.
     pub fn close(
         self,
         alloc: Global,

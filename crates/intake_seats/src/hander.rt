@@ -1,5 +1,5 @@
 //! The end of a seat that hands messages.
-ghost use Rattle.std.specs.Prelude.{◌≡◌, ◌+◌, ◌*◌, ◌/◌, ◌%◌, ◌<◌, [], ◌∷◌, ◌++◌, length, MatchResult};
+ghost use Rattle.std.specs.Prelude.{◌≡◌, ◌+◌, ◌*◌, ◌<◌, [], ◌∷◌, ◌++◌, length, MatchResult};
 ghost use Rattle.intake_seats.specs.Ends.{handing, IsSameHander, IsShut};
 
 use crate::board::{Board, EMPTY, MOST_GIVEN};
@@ -34,7 +34,7 @@ impl<M> HandSeat<M> {
         ensures same { IsSameHander self.old self.new }
         ensures given { MatchResult result (λ _. self.new.given ≡ self.old.given ++ message ∷ []) (λ back. (back ≡ message) × (self.new.given ≡ self.old.given)) }
         ensures looked { self.old.looks < self.new.looks }
-        ensures found { MatchResult result (λ _. self.new.last ≡ 4 * length self.old.given) (λ _. IsShut self.new.last) }
+        ensures found { MatchResult result (λ _. self.new.last ≡ 4 * length self.old.given) (λ _. IsShut self.old.given self.new.last) }
     {
         let steps = &board.table.shared;
         let found = steps.load::<HanderLooks>(&mut self.seat, self.number);

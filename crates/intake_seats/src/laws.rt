@@ -1,8 +1,16 @@
-//! What callers' proofs ask of the lists of a board's ends.
-ghost use Rattle.std.specs.Prelude.{◌≡◌, ℕ, List, slice_get, slice_set, Some, None};
+//! What holds of all boards and of all lists of their ends.
+ghost use Rattle.std.specs.Prelude.{◌≡◌, ℕ, List, slice_get, slice_set, Option, Some, None};
+ghost use Rattle.atomic_table.specs.Table.{State};
 ghost use Rattle.atomic_table.specs.Seated.{TableId};
 ghost use Rattle.intake_seats.specs.Given.{HandEnd, TakeEnd};
 ghost use Rattle.intake_seats.specs.Ends.{AreHands, AreTakes, IsSameHander, IsSameTaker};
+ghost use Rattle.intake_seats.specs.Rule.{IsBoard, AreAhead};
+ghost use Rattle.intake_seats.specs.declared.views.View.{View};
+
+/// In every state that meets `BoardRule` for a board of n seats, the two ends of a seat agree, whatever threads have them: what was given is what was taken, and then one message at most, in the seat or in hand.
+pub fn ends_agree<M>()
+    ensures { (n : ℕ) (s : State (Option M) (View M)) → IsBoard n s → AreAhead s }
+{}
 
 /// Where a hander's end was used in its place of the list, the list still has the board's ends in order.
 pub fn hands_stay<M>()

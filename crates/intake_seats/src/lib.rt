@@ -4,7 +4,6 @@
 
 mod board;
 mod close;
-mod compare;
 mod hander;
 pub mod laws;
 mod plays;

@@ -1,5 +1,5 @@
 //! The end of a seat that takes messages.
-ghost use Rattle.std.specs.Prelude.{◌≡◌, ◌+◌, ◌*◌, ◌%◌, ◌<◌, true, false, [], ◌++◌, length, Option, None, Some, IsSome, IfSome, MatchOption, MatchResult};
+ghost use Rattle.std.specs.Prelude.{◌≡◌, ◌+◌, ◌*◌, ◌/◌, ◌%◌, ◌<◌, true, false, [], ◌++◌, length, Option, None, Some, IsSome, IfSome, MatchOption, MatchResult};
 ghost use mathlib.Core.Logic.{◌↔◌};
 ghost use Rattle.std.specs.Option.{is_some, option_to_list};
 ghost use Rattle.intake_seats.specs.Ends.{taking, IsSameTaker};
@@ -40,7 +40,8 @@ impl<M> TakeSeat<M> {
         ensures in_hand { MatchOption result (self.new.in_hand ≡ self.old.in_hand) (λ message. (self.old.in_hand ≡ None) × (self.new.in_hand ≡ Some message)) }
         ensures looked { self.old.looks < self.new.looks }
         ensures found { IsSome result ↔ (self.new.last % 4 ≡ 2) }
-        ensures counted { IsSome result → self.new.last ≡ 4 * length self.new.taken + 2 }
+        ensures counted { self.new.last / 4 ≡ length self.new.taken }
+        ensures full { IsSome result → self.new.last ≡ 4 * length self.new.taken + 2 }
     {
         let steps = &board.table.shared;
         let found = steps.load::<TakerLooks>(&mut self.seat, self.number);

@@ -54,24 +54,36 @@ fn close_one(
 #[test]
 fn a_message_goes_through_one_seat(rt: HostRuntime) -> Result<(), Fail> {
     let (board, mut hands, mut takes) = Board::new(rt.alloc(), 1)?;
-    assert_eq!(rt; board.seats(), 1);
     let mut hand = hands.pop().unwrap();
     let mut take = takes.pop().unwrap();
     assert_eq!(rt; hand.hand(&board, 7u32), Ok(()));
     assert_eq!(rt; hand.hand(&board, 8), Err(8));
     assert_eq!(rt; take.take(&board), Some(7));
-    assert!(rt; take.holding());
     assert_eq!(rt; take.take(&board), None);
     assert_eq!(rt; hand.hand(&board, 8), Err(8));
-    let (mut hand, mut take) = board.compare(hand, take);
     assert_eq!(rt; take.put_back(&board, 7), Ok(()));
-    assert_eq!(rt; take.put_back(&board, 7), Err(7));
     assert_eq!(rt; take.take(&board), Some(7));
     assert!(rt; take.clear(&board));
     assert!(rt; !take.clear(&board));
-    assert!(rt; !take.holding());
     assert_eq!(rt; hand.hand(&board, 8), Ok(()));
     assert_eq!(rt; close_one(rt.alloc(), board, hand, take)?, Some(8));
+    Ok(())
+}
+
+#[test]
+fn an_end_tells_what_is_in_hand(rt: HostRuntime) -> Result<(), Fail> {
+    let (board, mut hands, mut takes) = Board::new(rt.alloc(), 1)?;
+    assert_eq!(rt; board.seats(), 1);
+    let mut hand = hands.pop().unwrap();
+    let mut take = takes.pop().unwrap();
+    assert!(rt; !take.holding());
+    assert_eq!(rt; take.put_back(&board, 7), Err(7));
+    assert_eq!(rt; hand.hand(&board, 7u32), Ok(()));
+    assert_eq!(rt; take.take(&board), Some(7));
+    assert!(rt; take.holding());
+    assert!(rt; take.clear(&board));
+    assert!(rt; !take.holding());
+    assert_eq!(rt; close_one(rt.alloc(), board, hand, take)?, None);
     Ok(())
 }
 
@@ -136,12 +148,13 @@ fn two_threads_hand_and_take(rt: HostRuntime) -> Result<(), Fail> {
             ensures { IfOk result (λ r. (r.0.board ≡ take.board) × (r.0.number ≡ take.number) × (r.0.in_hand ≡ None)) }
         { take_all(alloc, shared, take) },
     );
-    let (take, mut taken) = taken?;
+    // What was taken, then what is left, is what was given: 1, 2, .. to the last.
+    let (take, mut arrived) = taken?;
     if let Some(left) = close_one(alloc, board, hand, take)? {
-        taken.push(left)?;
+        arrived.push(left)?;
     }
-    assert_eq!(rt; taken.len(), last as usize);
-    for (i, message) in taken.iter().enumerate() {
+    assert_eq!(rt; arrived.len(), last as usize);
+    for (i, message) in arrived.iter().enumerate() {
         assert_eq!(rt; *message as usize, i + 1);
     }
     Ok(())

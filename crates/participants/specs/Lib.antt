@@ -4,5 +4,11 @@ pub mod Names
 pub mod ParticipantFile
 -- what rows a file may have
 pub mod Rows
+-- what a TOML document has at its keys
+pub mod Document
+-- what a file says, and its faults
+pub mod Reading
 -- who is related to whom, and which recipients are enough
 pub mod Relations
+-- the relations as a table
+pub mod Table

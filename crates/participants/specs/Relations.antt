@@ -4,15 +4,19 @@ use Rattle.participants.specs.ParticipantFile.{ParticipantFile}
 
 -- the participant of this name, by its place
 abbrev pub find_participant : ParticipantFile → List ℕ → Option ℕ
-find_participant file name = position (λ n. bytes_eq n name) file.names
+find_participant file name = position (bytes_eq name) file.names
 
 -- a participant's name
 abbrev pub name_of : ParticipantFile → ℕ → List ℕ
 name_of file who = slice_index_or file.names who []
 
--- the participant file lists the two, in either order: one of them is an affiliate of the other, or controls it (17 CFR 37.9(a)(3))
+-- one of the pairs is these two, in either order
+abbrev pub is_related : List (ℕ × ℕ) → ℕ → ℕ → Bool
+is_related pairs a b = list_any (λ p. (p.0 == a && p.1 == b) || (p.0 == b && p.1 == a)) pairs
+
+-- the participant file lists the two: one of them is an affiliate of the other, or controls it (17 CFR 37.9(a)(3))
 abbrev pub related : ParticipantFile → ℕ → ℕ → Bool
-related file a b = list_any (λ p. (p.0 == a && p.1 == b) || (p.0 == b && p.1 == a)) file.pairs
+related file a b = is_related file.pairs a b
 
 -- two different participants that are not related
 abbrev pub apart : ParticipantFile → ℕ → ℕ → Bool

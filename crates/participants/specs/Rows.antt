@@ -1,4 +1,4 @@
-use Rattle.std.specs.Prelude.{ℕ, Bool, true, false, not, ◌&&◌, ◌||◌, ◌==◌, nat_le, nat_lt, List, [], ◌∷◌, length, bytes_eq}
+use Rattle.std.specs.Prelude.{ℕ, Bool, true, not, ◌&&◌, ◌||◌, ◌==◌, nat_le, nat_lt, List, [], ◌∷◌, length, bytes_eq}
 use Rattle.std.specs.List.{list_all, list_any}
 use Rattle.participants.specs.ParticipantFile.{ParticipantFile}
 use Rattle.participants.specs.Names.{is_name}
@@ -7,10 +7,14 @@ use Rattle.participants.specs.Names.{is_name}
 abbrev pub most_participants : ℕ
 most_participants = 32
 
+-- no two members of a list are the same
+abbrev pub are_distinct_by : {X : Type 0} → (X → X → Bool) → List X → Bool
+are_distinct_by same [] = true
+are_distinct_by same (x ∷ xs) = not (list_any (same x) xs) && are_distinct_by same xs
+
 -- no name stands twice
 abbrev pub are_distinct : List (List ℕ) → Bool
-are_distinct [] = true
-are_distinct (n ∷ ns) = not (list_any (λ m. bytes_eq n m) ns) && are_distinct ns
+are_distinct ns = are_distinct_by bytes_eq ns
 
 -- the same two participants, in either order
 abbrev pub is_same_pair : ℕ × ℕ → ℕ × ℕ → Bool
@@ -18,8 +22,7 @@ is_same_pair p q = (p.0 == q.0 && p.1 == q.1) || (p.0 == q.1 && p.1 == q.0)
 
 -- no pair stands twice
 abbrev pub are_distinct_pairs : List (ℕ × ℕ) → Bool
-are_distinct_pairs [] = true
-are_distinct_pairs (p ∷ ps) = not (list_any (is_same_pair p) ps) && are_distinct_pairs ps
+are_distinct_pairs ps = are_distinct_by is_same_pair ps
 
 -- a pair of two different participants of the file
 abbrev pub is_pair : ℕ → ℕ × ℕ → Bool

@@ -1,7 +1,8 @@
 //! Names of participants.
 
 ghost use Rattle.std.specs.Prelude.{◌≡◌, true, bytes_eq, IfOk};
-ghost use Rattle.participants.specs.Names.{is_name};
+ghost use Rattle.std.specs.List.{list_all};
+ghost use Rattle.participants.specs.Names.{has_length_of_name, is_name, is_name_byte};
 
 use std::alloc::{AllocError, Global};
 use std::marker::Model;
@@ -43,8 +44,33 @@ impl Name {
 
     /// Whether it has these bytes.
     pub fn is(&self, bytes: &[u8]) -> bool
-        ensures { result ≡ bytes_eq self.now bytes.now }
+        ensures { result ≡ bytes_eq bytes.now self.now }
     {
-        self.as_slice() == bytes
+        bytes == self.as_slice()
     }
+}
+
+fn has_length_of_name(length: usize) -> bool
+    ensures { result ≡ has_length_of_name length }
+{
+    1 <= length && length <= 64
+}
+
+fn is_name_byte(byte: u8) -> bool
+    ensures { result ≡ is_name_byte byte }
+{
+    33 <= byte && byte <= 126 && byte != b','
+}
+
+fn has_name_bytes(bytes: &[u8]) -> bool
+    ensures { result ≡ list_all is_name_byte bytes.now }
+{
+    bytes.iter().all(|b| is_name_byte(*b))
+}
+
+/// Whether bytes have the form of a name.
+pub(crate) fn is_name(bytes: &[u8]) -> bool
+    ensures { result ≡ is_name bytes.now }
+{
+    has_length_of_name(bytes.len()) && has_name_bytes(bytes)
 }

@@ -1,16 +1,21 @@
 //! The participant file as it is read.
 
-ghost use Rattle.std.specs.Prelude.{◌≡◌, ◌<◌, true, length, bytes_eq, IfOk};
+ghost use Rattle.std.specs.Prelude.{◌≡◌, ◌<◌, ◌≤◌, true, length, bytes_eq, Ok, IfOk, IfErr};
 ghost use Rattle.std.specs.List.{list_any, position_or_len};
 ghost use Rattle.participants.specs.Names.{is_name};
 ghost use Rattle.participants.specs.ParticipantFile.{ParticipantFile};
 ghost use Rattle.participants.specs.Rows.{is_participant_file};
+ghost use Rattle.participants.specs.Reading.{IsFaultOf, Reads};
 ghost use Rattle.participants.specs.Relations.{apart, are_unrelated, find_participant, name_of, related, three_unrelated};
 
+use crate::fault::FileFault;
 use crate::name::Name;
+use crate::reading::read_document;
+use crate::table::related_table;
 use crate::who::Who;
 use std::alloc::{AllocError, Global};
 use std::marker::Model;
+use toml::Value;
 
 /// The venue's name, the participants in the file's order, and the related pairs by their places.
 #[derive(Drop)]
@@ -18,23 +23,27 @@ pub struct Participants {
     venue: Name,
     names: Vec<Name>,
     pairs: Vec<(Who, Who)>,
+    /// whether two are related, by both places
+    table: Vec<bool>,
 }
 
 impl Model for Participants {
     ghost use Rattle.std.specs.Prelude.{◌≡◌, true};
     ghost use Rattle.participants.specs.ParticipantFile.{ParticipantFile};
     ghost use Rattle.participants.specs.Rows.{is_participant_file};
+    ghost use Rattle.participants.specs.Table.{related_table};
 
     ghost Value = { ParticipantFile };
 
     ghost view = { λ p. record { venue = p.venue; names = p.names.items; pairs = p.pairs.items } };
 
-    ghost invariant = { λ p. is_participant_file (record { venue = p.venue; names = p.names.items; pairs = p.pairs.items }) ≡ true };
+    ghost invariant = { λ p. (is_participant_file (record { venue = p.venue; names = p.names.items; pairs = p.pairs.items }) ≡ true) × (p.table.items ≡ related_table p.pairs.items) };
 }
 
 /// The first place of a name, or their count where it is not there.
-fn place_of(names: &[Name], name: &[u8]) -> usize
-    ensures { result ≡ position_or_len (λ n. bytes_eq n name.now) names.now }
+pub(crate) fn place_of(names: &[Name], name: &[u8]) -> usize
+    ensures place { result ≡ position_or_len (bytes_eq name.now) names.now }
+    ensures within { result ≤ length names.now }
 {
     for (place, other) in names.iter().enumerate() {
         if other.is(name) {
@@ -47,7 +56,7 @@ fn place_of(names: &[Name], name: &[u8]) -> usize
 impl Participants {
     /// The file of these rows, which keep its rules.
     pub fn from_rows(
-        _alloc: Global,
+        alloc: Global,
         venue: Name,
         names: Vec<Name>,
         pairs: Vec<(Who, Who)>,
@@ -55,11 +64,30 @@ impl Participants {
         requires { is_participant_file (record { venue = venue; names = names.items; pairs = pairs.items }) ≡ true }
         ensures { IfOk result (λ p. p ≡ record { venue = venue; names = names.items; pairs = pairs.items }) }
     {
+        let table = related_table(alloc, &pairs)?;
         Ok(Participants {
             venue,
             names,
             pairs,
+            table,
         })
+    }
+
+    /// Reads a participant file, or tells its first fault.
+    pub fn read(alloc: Global, text: &[u8]) -> Result<Participants, FileFault>
+        ensures rows { IfOk result (λ file. Reads text.now (Ok file)) }
+        ensures fault { IfErr result (IsFaultOf text.now) }
+    {
+        match toml::table_from_slice(alloc, text) {
+            Ok(table) => read_document(alloc, &Value::Table(table)),
+            Err(error) => {
+                if error.is_memory() {
+                    Err(FileFault::NoMemory)
+                } else {
+                    Err(FileFault::NotToml)
+                }
+            }
+        }
     }
 
     /// How many participants there are: 1 to 32.
@@ -110,10 +138,15 @@ impl Participants {
     pub fn related(&self, a: Who, b: Who) -> bool
         ensures { result ≡ related self.now a b }
     {
-        self.pairs.iter().any(|p| {
-            (p.0.place() == a.place() && p.1.place() == b.place())
-                || (p.0.place() == b.place() && p.1.place() == a.place())
-        })
+        let table = &self.table;
+        let (a, b) = (a.place(), b.place());
+        if a >= 32 {
+            return false;
+        }
+        if b >= 32 {
+            return false;
+        }
+        table[(a * 32 + b) as usize]
     }
 
     /// Whether two are different and not related.

@@ -1,4 +1,4 @@
-use Rattle.std.proofs.Common.{◌≡◌, refl, sym, ap, ℤ, not, ◌==◌, ◌∙◌, subst, inl, inr, ◌⊎◌, ℕ, zero, suc, ◌+◌, ◌-◌, ◌^◌, ◌<◌, ◌≤◌, min, Bool, true, false, cond, if◌then◌else◌, ◌&&◌, ◌||◌, nat_lt, nat_le, List, [], ◌∷◌, ◌++◌, map, filter, take, length, Option, Some, None, Contains, decimal, arith, ltb-true}
+use Rattle.std.proofs.Common.{◌≡◌, refl, sym, ap, ℤ, not, ◌==◌, ◌∙◌, subst, inl, inr, ℕ, zero, suc, ◌+◌, ◌-◌, ◌<◌, ◌≤◌, min, Bool, true, false, cond, if◌then◌else◌, ◌&&◌, nat_lt, nat_le, List, [], ◌∷◌, map, filter, take, length, Option, Some, None, Contains, decimal, arith, ltb-true}
 use Rattle.std.specs.List.{sum_by, list_all, list_any}
 use Rattle.std.specs.Str.Parse.{AllDigits}
 use Rattle.std.proofs.lemmas.Bool.{true≢false, and_parts}
@@ -7,7 +7,7 @@ use Rattle.std.proofs.lemmas.Fmt.{decimal_is_IsNumeral, length-decimal-le}
 use Rattle.std.proofs.lemmas.Str.Parse.{digit_from_value}
 use Rattle.std.proofs.lemmas.List.Folds.{list_all-append}
 use Rattle.std.proofs.lemmas.List.Sums.{sum_by-cons}
-use Rattle.fix_dictionary.specs.Values.{IsText, is_printable}
+use Rattle.fix_dictionary.specs.Values.{is_printable}
 use Rattle.fix_dictionary.specs.declared.messages.App.{App}
 use Rattle.fix_dictionary.specs.declared.messages.App.TheVariants.{QuoteRequest, Quote, QuoteCancel, QuoteResponse, QuoteStatusReport, QuoteRequestReject, NewOrderSingle, OrderCancelRequest, OrderCancelReplaceRequest, NewOrderCross, ExecutionReport, OrderCancelReject, MarketDataRequest, MarketDataSnapshot, MarketDataRequestReject, BusinessMessageReject, Unsupported}
 use Rattle.fix_dictionary.specs.declared.messages.NewOrderSingle.{NewOrderSingle as OrderMessage}
@@ -30,7 +30,7 @@ use Rattle.venue_rules.specs.declared.facts.Room.{Room}
 use Rattle.venue_rules.specs.declared.facts.RoomQuote.{RoomQuote}
 use Rattle.venue_rules.specs.declared.refusals.ChangeRefusal.TheVariants.{HeldSide as IsHeldSide}
 use Rattle.venue_rules.specs.Market.{Market}
-use Rattle.venue_rules.specs.Facts.{History, held_sides, held_in}
+use Rattle.venue_rules.specs.Facts.{History, held_sides}
 use Rattle.venue_rules.specs.Book.{Resting, Fill, fills, filled, filled_by, shares, paired, against, is_killed}
 use Rattle.venue_rules.specs.Delay.{due, held, releases, earlier, earliest}
 use Rattle.venue_rules.specs.Entering.{entering, entry_facts, trade_of}
@@ -40,12 +40,12 @@ use Rattle.venue_rules.specs.Changes.{Named, IsResting, IsHeld, IsUnknown, named
 use Rattle.venue_rules.specs.Crosses.{answer_cross, cross_accepted, cross_refusals, side_order, is_first, first_side, second_side, due_refusals, answer_due}
 use Rattle.venue_rules.specs.Requests.{answer_request, request_accepted, request_refusals, opened}
 use Rattle.venue_rules.specs.Quotes.{answer_quote_of, quote_refusals, quote_accepted}
-use Rattle.venue_rules.specs.Withdrawals.{answer_withdrawal_of, withdraw_one, withdrawn_or, withdrawn_all, not_found}
+use Rattle.venue_rules.specs.Withdrawals.{answer_withdrawal_of, withdraw_one, withdrawn_or, not_found}
 use Rattle.venue_rules.specs.Responses.{answer_response, answer_response_to, answer_response_in, answer_hit, answer_hit_at, response_refusals, kind_refusals, taken_side, price_for}
 use Rattle.venue_rules.specs.MarketData.{answer_market_data, market_data_refusals, market_data}
 use Rattle.venue_rules.specs.Rooms.{find_room, find_quote, room_by_number, printed}
 use Rattle.venue_rules.specs.Answers.{answer_app}
-use Rattle.venue_rules.specs.Run.{Input, Message, Tick, answer_input, answer_due_of, after}
+use Rattle.venue_rules.specs.Run.{Input, Message, Tick, answer_input, answer_due_of}
 use Rattle.venue_rules.specs.Amounts.{greatest_amount, is_within, are_within, asks_within, is_input_within, AmountsStayWithin, FillsAreWithin, PrintedNumbersAreIdentifiers}
 use Rattle.venue_rules.proofs.Members.{In, In-filter, In-from_Contains}
 use Rattle.venue_rules.proofs.Follows.{NoneHolds}

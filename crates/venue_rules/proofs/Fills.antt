@@ -1,7 +1,7 @@
-use Rattle.std.proofs.Common.{◌≡◌, refl, sym, ap, ◌∙◌, subst, inl, inr, ◌⊎◌, ℕ, ℤ, ◌+◌, ◌-◌, ◌<◌, ◌≤◌, min, Bool, true, false, cond, if◌then◌else◌, ◌&&◌, nat_lt, List, [], ◌∷◌, ◌++◌, map, filter, take, arith, length, append_assoc, length-append, take_at, ltb-false, ltb-true}
+use Rattle.std.proofs.Common.{◌≡◌, refl, sym, ap, ◌∙◌, subst, inl, inr, ◌⊎◌, ℕ, ℤ, ◌+◌, ◌-◌, ◌<◌, ◌≤◌, min, Bool, true, false, cond, if◌then◌else◌, ◌&&◌, nat_lt, List, [], ◌∷◌, ◌++◌, map, filter, take, arith, length, append_assoc, length-append, take_at, ltb-false, ltb-true, eq-eqb, ◌==◌, ◌||◌}
 use Rattle.std.specs.List.{sum, sum_by, enumerate_from}
 use Rattle.std.proofs.lemmas.Int.{ints}
-use Rattle.std.proofs.lemmas.Bool.{true≢false, cases_lt}
+use Rattle.std.proofs.lemmas.Bool.{true≢false, cases_lt, or_right}
 use Rattle.std.proofs.lemmas.List.Elements.{filter_map-append}
 use Rattle.std.proofs.lemmas.List.Sums.{sum_by_push}
 use Rattle.fix_dictionary.specs.declared.values.Side.{Side}
@@ -18,7 +18,8 @@ use Rattle.venue_rules.specs.Entering.{trade_of, entry_facts}
 use Rattle.venue_rules.proofs.Members.{In, Places, Places-append, In-append_right, filter-none}
 use Rattle.venue_rules.proofs.Follows.{Follows, Each}
 use Rattle.venue_rules.proofs.Ranks.{Ordered, ranked-Ordered}
-use Rattle.venue_rules.proofs.Lefts.{resting-entered, resting-traded, entries_traded, In-resting, rests_left, side_opposite}
+use Rattle.venue_rules.proofs.Lefts.{resting-entered, resting-traded, entries_traded, In-resting, rests_left, side_opposite, left_traded, left_entered, taken_part}
+use Rattle.venue_rules.proofs.Trading.{IsFresh, fresh-left}
 
 -- An order that enters trades with the best resting order, time after time.
 
@@ -88,32 +89,39 @@ NoneTooSoon m e fs = (f : Fill) → In f fs → is_too_soon m e.order e.moment f
 -- the trades follow from these facts, where these orders rest there
 abbrev Serves : Market → List Reply → Entry → List Resting → Type 0
 Serves m rs e ws =
-    (facts : List Fact) (q : ℕ) → Places (λ (y : Entry). y.number) 0 (entries facts) → In e (entries facts) → resting facts e.order.instrument (opposite e.order.side) ≡ ws
+    (facts : List Fact) (q : ℕ) → Places (λ (y : Entry). y.number) 0 (entries facts) → In e (entries facts) → q ≤ left facts e → resting facts e.order.instrument (opposite e.order.side) ≡ ws
     → NoneTooSoon m e (eats q (filter (taken_by e) ws)) → Each (Follows m rs) facts (trade_facts e (eats q (filter (taken_by e) ws)))
 
 Each-none : (m : Market) (rs : List Reply) (e : Entry) (facts : List Fact) (fs : List Fill) → fs ≡ [] → Each (Follows m rs) facts (trade_facts e fs)
 Each-none m rs e facts fs h = subst (λ gs. Each (Follows m rs) facts (trade_facts e gs)) (sym h) tt
 
 -- what comes after one trade
-after_one : (m : Market) (rs : List Reply) (e : Entry) (r : Resting) (ws : List Resting) → Serves m rs e ws → (facts : List Fact) (q : ℕ) → Places (λ (y : Entry). y.number) 0 (entries facts) → In e (entries facts) → resting facts e.order.instrument (opposite e.order.side) ≡ r ∷ ws
+after_one : (m : Market) (rs : List Reply) (e : Entry) (r : Resting) (ws : List Resting) → Serves m rs e ws → (facts : List Fact) (q : ℕ) → Places (λ (y : Entry). y.number) 0 (entries facts) → In e (entries facts) → q ≤ left facts e → resting facts e.order.instrument (opposite e.order.side) ≡ r ∷ ws
     → NoneTooSoon m e (eats (q - r.left) (filter (taken_by e) ws)) → (r.left < q) ⊎ (q ≤ r.left)
     → Each (Follows m rs) (facts ++ (Traded (trade_of e (record { resting = r; quantity = min r.left q })) ∷ [])) (trade_facts e (eats (q - r.left) (filter (taken_by e) ws)))
-after_one m rs e r ws rec facts q places mine best soon (inr h) = Each-none m rs e (facts ++ (Traded (trade_of e (record { resting = r; quantity = min r.left q })) ∷ [])) (eats (q - r.left) (filter (taken_by e) ws)) (eats_nothing (q - r.left) (filter (taken_by e) ws) (omega (arith, h)))
-after_one m rs e r ws rec facts q places mine best soon (inl h) =
+after_one m rs e r ws rec facts q places mine room best soon (inr h) = Each-none m rs e (facts ++ (Traded (trade_of e (record { resting = r; quantity = min r.left q })) ∷ [])) (eats (q - r.left) (filter (taken_by e) ws)) (eats_nothing (q - r.left) (filter (taken_by e) ws) (omega (arith, h)))
+after_one m rs e r ws rec facts q places mine room best soon (inl h) =
     let t = trade_of e (record { resting = r; quantity = min r.left q }) in
     rec (facts ++ (Traded t ∷ [])) (q - r.left) (subst (Places (λ (y : Entry). y.number) 0) (sym (entries_traded facts t)) places) (subst (λ es. In e es) (sym (entries_traded facts t)) mine)
+    (less_room (left facts e) (left (facts ++ (Traded t ∷ [])) e) q r.left (min r.left q) room h (whole r.left q h) own)
     (resting-traded facts e.order.instrument (opposite e.order.side) r ws e t places best mine (side_opposite e.order.side) refl (whole r.left q h)) soon
   where
     whole : (l k : ℕ) → l < k → min l k ≡ l
     whole l k lt = omega (arith, lt)
 
+    own : left (facts ++ (Traded (trade_of e (record { resting = r; quantity = min r.left q })) ∷ [])) e ≡ left facts e - min r.left q
+    own = left_traded facts (trade_of e (record { resting = r; quantity = min r.left q })) e ∙ taken_part (left facts e) (min r.left q) (r.entry.number == e.number || e.number == e.number) (or_right (r.entry.number == e.number) (e.number == e.number) (eq-eqb e.number e.number refl))
+
+    less_room : (n n' k l z : ℕ) → k ≤ n → l < k → z ≡ l → n' ≡ n - z → k - l ≤ n'
+    less_room n n' k l z a b c d = omega (arith, a, b, c, d)
+
 min_zero : (l q : ℕ) → nat_lt 0 (min l q) ≡ false → nat_lt 0 l ≡ true → q - l ≡ 0
 min_zero l q h k = let a : min l q ≤ 0 = ltb-false 0 (min l q) h in let b : 0 < l = ltb-true 0 l k in omega (arith, a, b)
 
 -- one order, whose share is positive or not
-one_share : (m : Market) (rs : List Reply) (e : Entry) (r : Resting) (ws : List Resting) → Serves m rs e ws → (facts : List Fact) (q : ℕ) → Places (λ (y : Entry). y.number) 0 (entries facts) → In e (entries facts) → resting facts e.order.instrument (opposite e.order.side) ≡ r ∷ ws → taken_by e r ≡ true
+one_share : (m : Market) (rs : List Reply) (e : Entry) (r : Resting) (ws : List Resting) → Serves m rs e ws → (facts : List Fact) (q : ℕ) → Places (λ (y : Entry). y.number) 0 (entries facts) → In e (entries facts) → q ≤ left facts e → resting facts e.order.instrument (opposite e.order.side) ≡ r ∷ ws → taken_by e r ≡ true
     → (b : Bool) → nat_lt 0 (min r.left q) ≡ b → let fs : List Fill = cond b (record { resting = r; quantity = min r.left q } ∷ eats (q - r.left) (filter (taken_by e) ws)) (eats (q - r.left) (filter (taken_by e) ws)) in NoneTooSoon m e fs → Each (Follows m rs) facts (trade_facts e fs)
-one_share m rs e r ws rec facts q places mine best ok true h soon = (
+one_share m rs e r ws rec facts q places mine room best ok true h soon = (
   (
     e,
     r,
@@ -127,28 +135,39 @@ one_share m rs e r ws rec facts q places mine best ok true h soon = (
     (In-resting facts e.order.instrument (opposite e.order.side) r (subst (λ ys. In r ys) (sym best) (inl refl))).0,
     waits,
     refl,
+    least_room r.left q (left facts e) room,
+    own_room (left facts r.entry) (ap (λ (y : Resting). y.left) entered.1),
   ),
-  after_one m rs e r ws rec facts q places mine best (λ f i. soon f (inr i)) (cases_lt r.left q),
+  after_one m rs e r ws rec facts q places mine room best (λ f i. soon f (inr i)) (cases_lt r.left q),
 )
   where
+    entered : In r.entry (entries facts) × (r ≡ with_left (left facts) r.entry) × (rests e.order.instrument (opposite e.order.side) r ≡ true)
+    entered = In-resting facts e.order.instrument (opposite e.order.side) r (subst (λ ys. In r ys) (sym best) (inl refl))
+
+    least_room : (l k n : ℕ) → k ≤ n → min l k ≤ n
+    least_room l k n a = omega (arith, a)
+
+    own_room : (n : ℕ) → r.left ≡ n → min r.left q ≤ n
+    own_room n a = omega (arith, a)
+
     waits : is_linked m e.order r.entry.order ≡ true → r.entry.moment + delay_of m.instruments e.order.instrument ≤ e.moment
     waits linked = ltb-false e.moment (r.entry.moment + delay_of m.instruments e.order.instrument) (second_false (is_linked m e.order r.entry.order) (nat_lt e.moment (r.entry.moment + delay_of m.instruments e.order.instrument)) (soon (record { resting = r; quantity = min r.left q }) (inl refl)) linked)
-one_share m rs e r ws rec facts q places mine best ok false h soon =
+one_share m rs e r ws rec facts q places mine room best ok false h soon =
     let k = In-resting facts e.order.instrument (opposite e.order.side) r (subst (λ ys. In r ys) (sym best) (inl refl)) in
     Each-none m rs e facts (eats (q - r.left) (filter (taken_by e) ws)) (eats_nothing (q - r.left) (filter (taken_by e) ws) (min_zero r.left q h (rests_left e.order.instrument (opposite e.order.side) r k.2)))
 
 -- one order, at a price that is accepted or not
-one_order : (m : Market) (rs : List Reply) (e : Entry) (r : Resting) (ws : List Resting) → Serves m rs e ws → (facts : List Fact) (q : ℕ) → Places (λ (y : Entry). y.number) 0 (entries facts) → In e (entries facts) → resting facts e.order.instrument (opposite e.order.side) ≡ r ∷ ws
+one_order : (m : Market) (rs : List Reply) (e : Entry) (r : Resting) (ws : List Resting) → Serves m rs e ws → (facts : List Fact) (q : ℕ) → Places (λ (y : Entry). y.number) 0 (entries facts) → In e (entries facts) → q ≤ left facts e → resting facts e.order.instrument (opposite e.order.side) ≡ r ∷ ws
     → (b : Bool) → taken_by e r ≡ b → let ys : List Resting = cond b (r ∷ filter (taken_by e) ws) (filter (taken_by e) ws) in NoneTooSoon m e (eats q ys) → Each (Follows m rs) facts (trade_facts e (eats q ys))
-one_order m rs e r ws rec facts q places mine best true h soon = one_share m rs e r ws rec facts q places mine best h (nat_lt 0 (min r.left q)) refl soon
-one_order m rs e r ws rec facts q places mine best false h soon =
+one_order m rs e r ws rec facts q places mine room best true h soon = one_share m rs e r ws rec facts q places mine room best h (nat_lt 0 (min r.left q)) refl soon
+one_order m rs e r ws rec facts q places mine room best false h soon =
     let ordered : Ordered (opposite e.order.side) (r ∷ ws) = subst (Ordered (opposite e.order.side)) best (ranked-Ordered (opposite e.order.side) (filter (rests e.order.instrument (opposite e.order.side)) (map (with_left (left facts)) (entries facts)))) in
     let none : filter (taken_by e) ws ≡ [] = filter-none (taken_by e) ws (λ y i. not_accepted e.order.side e.order.price r.entry.order.price y.entry.order.price h (ordered.0 y i)) in
     Each-none m rs e facts (eats q (filter (taken_by e) ws)) (ap (eats q) none)
 
 serves : (m : Market) (rs : List Reply) (e : Entry) (ws : List Resting) → Serves m rs e ws
-serves m rs e [] facts q places mine best soon = tt
-serves m rs e (r ∷ ws) facts q places mine best soon = one_order m rs e r ws (serves m rs e ws) facts q places mine best (taken_by e r) refl soon
+serves m rs e [] facts q places mine room best soon = tt
+serves m rs e (r ∷ ws) facts q places mine room best soon = one_order m rs e r ws (serves m rs e ws) facts q places mine room best (taken_by e r) refl soon
 
 killed_or_not : (m : Market) (rs : List Reply) (e : Entry) (facts : List Fact) (fs : List Fill) (b : Bool) → (NoneTooSoon m e fs → Each (Follows m rs) facts (trade_facts e fs)) → NoneTooSoon m e (if b then [] else fs) → Each (Follows m rs) facts (trade_facts e (if b then [] else fs))
 killed_or_not m rs e facts fs true h soon = tt
@@ -158,9 +177,9 @@ no_more : (m : Market) (e : Entry) (fs gs : List Fill) → fs ≡ gs → NoneToo
 no_more m e fs gs h = subst (NoneTooSoon m e) h
 
 -- an order enters after `base`, on whose other side the same orders rest as after `facts`, and its fills are those of `facts`
-pub entry-Each : (m : Market) (rs : List Reply) (base facts : List Fact) (e : Entry) → Places (λ (y : Entry). y.number) 0 (entries base) → e.number ≡ next_order base → resting base e.order.instrument (opposite e.order.side) ≡ resting facts e.order.instrument (opposite e.order.side)
+pub entry-Each : (m : Market) (rs : List Reply) (base facts : List Fact) (e : Entry) → Places (λ (y : Entry). y.number) 0 (entries base) → e.number ≡ next_order base → IsFresh base e.number → resting base e.order.instrument (opposite e.order.side) ≡ resting facts e.order.instrument (opposite e.order.side)
     → NoneTooSoon m e (fills facts e.order) → Each (Follows m rs) base (entry_facts e (fills facts e.order))
-entry-Each m rs base facts e places number same soon =
+entry-Each m rs base facts e places number fresh same soon =
     (number, killed_or_not m rs e (base ++ (Entered e ∷ [])) all (is_killed e.order.life e.order.quantity (sum_by (λ (r : Resting). r.left) (against facts e.order))) served soon)
   where
     all : List Fill
@@ -181,7 +200,13 @@ entry-Each m rs base facts e places number same soon =
     mine : In e (entries (base ++ (Entered e ∷ [])))
     mine = subst (λ es. In e es) (sym entered) (In-append_right (entries base) (e ∷ []) e (inl refl))
 
+    room : e.order.quantity ≤ left (base ++ (Entered e ∷ [])) e
+    room = whole (left_entered base e e ∙ fresh-left base e fresh)
+      where
+        whole : left (base ++ (Entered e ∷ [])) e ≡ e.order.quantity → e.order.quantity ≤ left (base ++ (Entered e ∷ [])) e
+        whole h = omega (arith, h)
+
     served : NoneTooSoon m e all → Each (Follows m rs) (base ++ (Entered e ∷ [])) (trade_facts e all)
     served k =
         subst (λ fs. Each (Follows m rs) (base ++ (Entered e ∷ [])) (trade_facts e fs)) (sym turn) (
-        serves m rs e (resting facts e.order.instrument (opposite e.order.side)) (base ++ (Entered e ∷ [])) e.order.quantity next_places mine (resting-entered base e e.order.instrument (opposite e.order.side) (side_opposite e.order.side) ∙ same) (no_more m e all (eats e.order.quantity (against facts e.order)) turn k))
+        serves m rs e (resting facts e.order.instrument (opposite e.order.side)) (base ++ (Entered e ∷ [])) e.order.quantity next_places mine room (resting-entered base e e.order.instrument (opposite e.order.side) (side_opposite e.order.side) ∙ same) (no_more m e all (eats e.order.quantity (against facts e.order)) turn k))

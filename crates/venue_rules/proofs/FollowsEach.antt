@@ -1,4 +1,4 @@
-use Rattle.std.proofs.Common.{◌≡◌, refl, sym, ap, ◌∙◌, subst, inl, inr, ℕ, ◌+◌, Bool, true, false, cond, not, ◌&&◌, ◌||◌, nat_lt, List, [], ◌∷◌, ◌++◌, map, length, Option, Some, None, is_some, ◌==◌, eqb-true, eq-eqb, bytes_eq}
+use Rattle.std.proofs.Common.{◌≡◌, refl, sym, ap, ◌∙◌, subst, inl, inr, ℕ, ◌+◌, Bool, true, false, cond, not, ◌&&◌, ◌||◌, nat_lt, List, [], ◌∷◌, ◌++◌, map, length, Option, Some, None, arith, is_some, ◌==◌, eqb-true, eq-eqb, bytes_eq}
 use Rattle.std.specs.List.{list_any}
 use Rattle.std.proofs.lemmas.Bool.{true≢false, not-false}
 use Rattle.std.proofs.lemmas.List.Folds.{Any-from_list_any}
@@ -21,15 +21,13 @@ use Rattle.venue_rules.specs.declared.facts.HeldSide.{HeldSide}
 use Rattle.venue_rules.specs.declared.facts.Room.{Room}
 use Rattle.venue_rules.specs.declared.facts.RoomQuote.{RoomQuote}
 use Rattle.venue_rules.specs.Market.{Market}
-use Rattle.venue_rules.specs.Facts.{History, entries, rooms, quotes}
+use Rattle.venue_rules.specs.Facts.{History, entries, rooms, quotes, next_order}
 use Rattle.venue_rules.specs.Book.{Resting, Fill, fills, filled, left, rests, opposite, is_side, too_soon, is_too_soon, find_order, with_left}
-use Rattle.venue_rules.specs.Entering.{entering, entry_facts, buyer}
-use Rattle.venue_rules.specs.declared.facts.Place.TheVariants.{Room as InRoom}
+use Rattle.venue_rules.specs.Entering.{entering, entry_facts}
 use Rattle.venue_rules.specs.Answer.{Answer, Sender}
 use Rattle.fix_dictionary.specs.declared.values.Side.{Side}
 use Rattle.fix_dictionary.specs.declared.values.Side.TheVariants.{Buy, Sell}
 use Rattle.venue_rules.specs.declared.facts.Removal.{Removal}
-use Rattle.venue_rules.specs.declared.facts.Trade.{Trade}
 use Rattle.venue_rules.specs.declared.replies.Reply.{Reply}
 use Rattle.venue_rules.specs.declared.replies.QuoteState.TheVariants.{Accepted}
 use Rattle.participants.specs.Relations.{three_unrelated}
@@ -54,13 +52,11 @@ use Rattle.venue_rules.proofs.Members.{In, Places, Places-one, In-find, find-non
 use Rattle.venue_rules.proofs.Follows.{Follows, Each, Each-append, Keeps, first_of-Keeps}
 use Rattle.venue_rules.proofs.Ranks.{with_left_from}
 use Rattle.venue_rules.proofs.Lefts.{entries_removed, resting-removed, entries_unheld, resting-unheld, side_opposite}
+use Rattle.venue_rules.proofs.Trading.{IsFresh, Numbered, fresh-quiet, not_past}
 use Rattle.venue_rules.proofs.Fills.{entry-Each}
 use Rattle.venue_rules.proofs.Hits.{found-is_live}
 
 -- What each answer adds follows what has happened.
-
-abbrev OrderPlaces : List Fact → Type 0
-OrderPlaces facts = Places (λ (y : Entry). y.number) 0 (entries facts)
 
 -- orders
 
@@ -71,10 +67,13 @@ no_fill (Some f) h = absurd (true≢false h)
 none_too_soon : (m : Market) (facts : List Fact) (o : OrderFact) (t : ℕ) → is_some (too_soon m facts o t) ≡ false → (f : Fill) → In f (fills facts o) → is_too_soon m o t f ≡ false
 none_too_soon m facts o t h = find-none (is_too_soon m o t) (fills facts o) (no_fill (too_soon m facts o t) h)
 
-accepted-Keeps : (m : Market) (h : History) (o : OrderFact) (t : ℕ) → OrderPlaces h.facts → is_some (too_soon m h.facts o t) ≡ false → Keeps m h.facts (accepted m h o t)
-accepted-Keeps m h o t places soon = record { each = entry-Each m (accepted m h o t).replies h.facts h.facts (entering h.facts o 0 t) places refl refl (none_too_soon m h.facts o t soon) }
+next_fresh : (facts : List Fact) → Numbered facts → IsFresh facts (next_order facts)
+next_fresh facts known = known.fresh (next_order facts) (omega arith)
 
-order-Keeps : (m : Market) (h : History) (s : Sender) (d : OrderMessage) (t : ℕ) → OrderPlaces h.facts → Keeps m h.facts (answer_order m h s d t)
+accepted-Keeps : (m : Market) (h : History) (o : OrderFact) (t : ℕ) → Numbered h.facts → is_some (too_soon m h.facts o t) ≡ false → Keeps m h.facts (accepted m h o t)
+accepted-Keeps m h o t places soon = record { each = entry-Each m (accepted m h o t).replies h.facts h.facts (entering h.facts o 0 t) places.places refl (next_fresh h.facts places) refl (none_too_soon m h.facts o t soon) }
+
+order-Keeps : (m : Market) (h : History) (s : Sender) (d : OrderMessage) (t : ℕ) → Numbered h.facts → Keeps m h.facts (answer_order m h s d t)
 order-Keeps m h s d t places = first_of-Keeps m h.facts (order_refusals m h s d t) (accepted m h (order_asked m s.who d) t) (tt, (tt, (tt, (tt, (tt, (tt, (tt, (tt, tt)))))))) (λ n. accepted-Keeps m h (order_asked m s.who d) t places n.1.1.1.1.1.1.0)
 
 -- cancels and replacements
@@ -100,44 +99,47 @@ found_entered facts who id x e =
 named-IsEntered : (h : History) (who : ℕ) (id : List ℕ) → IsEntered h.facts (named h who id)
 named-IsEntered h who id = order_entered h.facts (find_order h.facts who id) (find_held h.facts who id) (found_entered h.facts who id)
 
-cancel_of-Keeps : (m : Market) (h : History) (s : Sender) (d : CancelMessage) (n : Named) → Keeps m h.facts (answer_cancel_of m h s d n)
-cancel_of-Keeps m h s d IsUnknown = record { each = tt }
-cancel_of-Keeps m h s d (IsHeld k) = first_of-Keeps m h.facts (cancel_refusals h s d None) (held_cancelled m h s d k) (tt, tt) (λ n. record { each = (tt, tt) })
-cancel_of-Keeps m h s d (IsResting r) = first_of-Keeps m h.facts (cancel_refusals h s d (Some (standing r))) (cancelled m h s d r) (tt, tt) (λ n. record { each = (tt, tt) })
+cancel_of-Keeps : (m : Market) (h : History) (s : Sender) (d : CancelMessage) (n : Named) → IsEntered h.facts n → Keeps m h.facts (answer_cancel_of m h s d n)
+cancel_of-Keeps m h s d IsUnknown i = record { each = tt }
+cancel_of-Keeps m h s d (IsHeld k) i = first_of-Keeps m h.facts (cancel_refusals h s d None) (held_cancelled m h s d k) (tt, tt) (λ n. record { each = (tt, tt) })
+cancel_of-Keeps m h s d (IsResting r) i = first_of-Keeps m h.facts (cancel_refusals h s d (Some (standing r))) (cancelled m h s d r) (tt, tt) (λ n. record { each = ((r.entry, i, refl), tt) })
 
-replaced-Each : (m : Market) (rs : List Reply) (h : History) (r : Resting) (x : Removal) (o : OrderFact) (n t : ℕ) → OrderPlaces h.facts → In r.entry (entries h.facts) → x.order ≡ r.entry.number → o.side ≡ r.entry.order.side → is_some (too_soon m h.facts o t) ≡ false
+replaced-Each : (m : Market) (rs : List Reply) (h : History) (r : Resting) (x : Removal) (o : OrderFact) (n t : ℕ) → Numbered h.facts → In r.entry (entries h.facts) → x.order ≡ r.entry.number → o.side ≡ r.entry.order.side → is_some (too_soon m h.facts o t) ≡ false
     → Each (Follows m rs) (h.facts ++ (Removed x ∷ [])) (entry_facts (entering h.facts o n t) (fills h.facts o))
 replaced-Each m rs h r x o n t places mine e side soon =
-    entry-Each m rs (h.facts ++ (Removed x ∷ [])) h.facts (entering h.facts o n t) (subst (Places (λ (y : Entry). y.number) 0) (sym (entries_removed h.facts x)) places) (ap (λ es. length es + 1) (sym (entries_removed h.facts x))) (resting-removed h.facts x o.instrument (opposite o.side) other) (none_too_soon m h.facts o t soon)
+    entry-Each m rs (h.facts ++ (Removed x ∷ [])) h.facts (entering h.facts o n t) (subst (Places (λ (y : Entry). y.number) 0) (sym (entries_removed h.facts x)) places.places) (ap (λ es. length es + 1) (sym (entries_removed h.facts x))) fresh (resting-removed h.facts x o.instrument (opposite o.side) other) (none_too_soon m h.facts o t soon)
   where
+    fresh : IsFresh (h.facts ++ (Removed x ∷ [])) (next_order h.facts)
+    fresh = fresh-quiet h.facts (Removed x) (next_order h.facts) (next_fresh h.facts places) (not_past h.facts r.entry x.order (next_order h.facts) places.places mine (sym e) (omega arith)) refl
+
     other : (y : Entry) → In y (entries h.facts) → y.number ≡ x.order → is_side y.order.side (opposite o.side) ≡ false
     other y i k =
-        let same : y ≡ r.entry = Places-one (λ (z : Entry). z.number) 0 (entries h.facts) places y r.entry i mine (k ∙ e) in
+        let same : y ≡ r.entry = Places-one (λ (z : Entry). z.number) 0 (entries h.facts) places.places y r.entry i mine (k ∙ e) in
         ap (λ z. is_side z (opposite o.side)) (ap (λ (z : Entry). z.order.side) same ∙ sym side) ∙ side_opposite o.side
 
-replace_of-Keeps : (m : Market) (h : History) (s : Sender) (d : ReplaceMessage) (t : ℕ) (n : Named) → OrderPlaces h.facts → IsEntered h.facts n → Keeps m h.facts (answer_replace_of m h s d t n)
+replace_of-Keeps : (m : Market) (h : History) (s : Sender) (d : ReplaceMessage) (t : ℕ) (n : Named) → Numbered h.facts → IsEntered h.facts n → Keeps m h.facts (answer_replace_of m h s d t n)
 replace_of-Keeps m h s d t IsUnknown places i = record { each = tt }
 replace_of-Keeps m h s d t (IsHeld k) places i = first_of-Keeps m h.facts (held_replace_refusals h s d) (replace_refused s d None IsHeldSide) (tt, tt) (λ n. record { each = tt })
 replace_of-Keeps m h s d t (IsResting r) places i =
-    first_of-Keeps m h.facts (replace_refusals m h s d r t) (replaced m h s d r t) (tt, (tt, (tt, (tt, (tt, (tt, (tt, tt))))))) (λ n. record { each = (tt, replaced-Each m (replaced m h s d r t).replies h r (record { order = r.entry.number; who = s.who; id = d.order_id }) (replacement d r) (filled r) t places i refl refl n.1.1.1.1.1.1.0) })
+    first_of-Keeps m h.facts (replace_refusals m h s d r t) (replaced m h s d r t) (tt, (tt, (tt, (tt, (tt, (tt, (tt, tt))))))) (λ n. record { each = ((r.entry, i, refl), replaced-Each m (replaced m h s d r t).replies h r (record { order = r.entry.number; who = s.who; id = d.order_id }) (replacement d r) (filled r) t places i refl refl n.1.1.1.1.1.1.0) })
 
 -- crosses, and held sides as they enter
 
-cross_accepted-Keeps : (m : Market) (h : History) (s : Sender) (d : CrossMessage) (t : ℕ) → OrderPlaces h.facts → is_some (too_soon m h.facts (side_order m s.who d (first_side d)) t) ≡ false → Keeps m h.facts (cross_accepted m h s d t)
+cross_accepted-Keeps : (m : Market) (h : History) (s : Sender) (d : CrossMessage) (t : ℕ) → Numbered h.facts → is_some (too_soon m h.facts (side_order m s.who d (first_side d)) t) ≡ false → Keeps m h.facts (cross_accepted m h s d t)
 cross_accepted-Keeps m h s d t places soon =
     let first = accepted m h (side_order m s.who d (first_side d)) t in
     record { each = Each-append (Follows m first.replies) h.facts first.facts _ (accepted-Keeps m h (side_order m s.who d (first_side d)) t places soon).each (tt, tt) }
 
-cross-Keeps : (m : Market) (h : History) (s : Sender) (d : CrossMessage) (t : ℕ) → OrderPlaces h.facts → Keeps m h.facts (answer_cross m h s d t)
+cross-Keeps : (m : Market) (h : History) (s : Sender) (d : CrossMessage) (t : ℕ) → Numbered h.facts → Keeps m h.facts (answer_cross m h s d t)
 cross-Keeps m h s d t places = first_of-Keeps m h.facts (cross_refusals m h s d t) (cross_accepted m h s d t) (tt, (tt, (tt, (tt, (tt, (tt, (tt, (tt, (tt, (tt, (tt, tt))))))))))) (λ n. cross_accepted-Keeps m h s d t places n.1.1.1.1.1.1.1.1.0)
 
-released-Keeps : (m : Market) (h : History) (k : HeldSide) (u : Release) → OrderPlaces h.facts → is_some (too_soon m h.facts k.order k.due) ≡ false → Keeps m (h.facts ++ (Unheld u ∷ [])) (accepted m h k.order k.due)
+released-Keeps : (m : Market) (h : History) (k : HeldSide) (u : Release) → Numbered h.facts → is_some (too_soon m h.facts k.order k.due) ≡ false → Keeps m (h.facts ++ (Unheld u ∷ [])) (accepted m h k.order k.due)
 released-Keeps m h k u places soon =
     record {
-      each = entry-Each m (accepted m h k.order k.due).replies (h.facts ++ (Unheld u ∷ [])) h.facts (entering h.facts k.order 0 k.due) (subst (Places (λ (y : Entry). y.number) 0) (sym (entries_unheld h.facts u)) places) (ap (λ es. length es + 1) (sym (entries_unheld h.facts u))) (resting-unheld h.facts u k.order.instrument (opposite k.order.side)) (none_too_soon m h.facts k.order k.due soon);
+      each = entry-Each m (accepted m h k.order k.due).replies (h.facts ++ (Unheld u ∷ [])) h.facts (entering h.facts k.order 0 k.due) (subst (Places (λ (y : Entry). y.number) 0) (sym (entries_unheld h.facts u)) places.places) (ap (λ es. length es + 1) (sym (entries_unheld h.facts u))) (fresh-quiet h.facts (Unheld u) (next_order h.facts) (next_fresh h.facts places) refl refl) (resting-unheld h.facts u k.order.instrument (opposite k.order.side)) (none_too_soon m h.facts k.order k.due soon);
     }
 
-due-Keeps : (m : Market) (h : History) (k : HeldSide) → OrderPlaces h.facts → Keeps m h.facts (answer_due m h k)
+due-Keeps : (m : Market) (h : History) (k : HeldSide) → Numbered h.facts → Keeps m h.facts (answer_due m h k)
 due-Keeps m h k places =
     let u : Release = record { who = k.order.who; id = k.order.id; cancel = None } in
     record { each = (tt, (first_of-Keeps m (h.facts ++ (Unheld u ∷ [])) (due_refusals m h k) (accepted m h k.order k.due) (tt, (tt, tt)) (λ n. released-Keeps m h k u places n.0)).each) }
@@ -257,13 +259,13 @@ response-Keeps m h s d t =
 market_data-Keeps : (m : Market) (h : History) (s : Sender) (d : MarketDataMessage) → Keeps m h.facts (answer_market_data m h s d)
 market_data-Keeps m h s d = first_of-Keeps m h.facts (market_data_refusals m s d) (market_data m h s d) (tt, (tt, (tt, tt))) (λ n. record { each = tt })
 
-app-Keeps : (m : Market) (h : History) (s : Sender) (a : App) (t : ℕ) → OrderPlaces h.facts → Keeps m h.facts (answer_app m h s a t)
+app-Keeps : (m : Market) (h : History) (s : Sender) (a : App) (t : ℕ) → Numbered h.facts → Keeps m h.facts (answer_app m h s a t)
 app-Keeps m h s (QuoteRequest d) t p = request-Keeps m h s d t
 app-Keeps m h s (Quote d) t p = quote-Keeps m h s d t
 app-Keeps m h s (QuoteCancel d) t p = withdrawal_of-Keeps m h s d t (d.cancel_type == 5) (d.cancel_type == 4)
 app-Keeps m h s (QuoteResponse d) t p = response-Keeps m h s d t
 app-Keeps m h s (NewOrderSingle d) t p = order-Keeps m h s d t p
-app-Keeps m h s (OrderCancelRequest d) t p = cancel_of-Keeps m h s d (named h s.who d.original_id)
+app-Keeps m h s (OrderCancelRequest d) t p = cancel_of-Keeps m h s d (named h s.who d.original_id) (named-IsEntered h s.who d.original_id)
 app-Keeps m h s (OrderCancelReplaceRequest d) t p = replace_of-Keeps m h s d t (named h s.who d.original_id) p (named-IsEntered h s.who d.original_id)
 app-Keeps m h s (NewOrderCross d) t p = cross-Keeps m h s d t p
 app-Keeps m h s (MarketDataRequest d) t p = market_data-Keeps m h s d
@@ -276,10 +278,10 @@ app-Keeps m h s (MarketDataSnapshot d) t p = record { each = tt }
 app-Keeps m h s (MarketDataRequestReject d) t p = record { each = tt }
 app-Keeps m h s (Unsupported kind) t p = record { each = tt }
 
-due_of-Keeps : (m : Market) (h : History) (k : Option HeldSide) → OrderPlaces h.facts → Keeps m h.facts (answer_due_of m h k)
+due_of-Keeps : (m : Market) (h : History) (k : Option HeldSide) → Numbered h.facts → Keeps m h.facts (answer_due_of m h k)
 due_of-Keeps m h None p = record { each = tt }
 due_of-Keeps m h (Some k) p = due-Keeps m h k p
 
-pub input-Keeps : (m : Market) (h : History) (i : Input) → Places (λ (y : Entry). y.number) 0 (entries h.facts) → Keeps m h.facts (answer_input m h i)
+pub input-Keeps : (m : Market) (h : History) (i : Input) → Numbered h.facts → Keeps m h.facts (answer_input m h i)
 input-Keeps m h (Message taken t) p = app-Keeps m h _ taken.item.app t p
 input-Keeps m h (Tick t) p = due_of-Keeps m h (due h.facts t) p

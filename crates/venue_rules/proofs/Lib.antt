@@ -13,6 +13,7 @@ pub mod RefusalExamples
 pub mod Members
 -- what may follow what has happened
 pub mod Follows
+pub mod Trading
 -- the ranked list of resting orders, its filters and its order
 pub mod Ranks
 -- what rests after one more fact

@@ -4,8 +4,8 @@ ghost use Rattle.venue_rules.specs.Amounts.{AmountsStayWithin, FillsAreWithin, P
 ghost use Rattle.venue_rules.specs.Lawful.{EveryRunIsLawful};
 
 /// The laws of the venue hold over every list of inputs, for all participants and instruments: requests come before
-/// trades in rooms, prices come with the first quote, the best order trades, linked orders wait, and all recipients
-/// of a request are asked together.
+/// trades in rooms, prices come with the first quote, the best order trades, linked orders wait, no order trades more
+/// than its quantity, and all recipients of a request are asked together.
 pub fn every_run_is_lawful()
     ensures { EveryRunIsLawful }
 {}

@@ -45,7 +45,7 @@ impl Recipients {
 /// The resting orders of an instrument, as they are shown: bids, then offers, each best first.
 #[derive(Drop)]
 pub struct PictureEntries {
-    members: Vec<PictureEntry>,
+    entries: Vec<PictureEntry>,
 }
 
 impl Model for PictureEntries {
@@ -54,34 +54,34 @@ impl Model for PictureEntries {
 
     ghost Value = { List PictureEntry };
 
-    ghost view = { λ a. a.members.items };
+    ghost view = { λ a. a.entries.items };
 }
 
 impl PictureEntries {
-    pub fn from_vec(members: Vec<PictureEntry>) -> PictureEntries
-        ensures { result ≡ members.items }
+    pub fn from_vec(entries: Vec<PictureEntry>) -> PictureEntries
+        ensures { result ≡ entries.items }
     {
-        PictureEntries { members }
+        PictureEntries { entries }
     }
 
     pub fn into_vec(self) -> Vec<PictureEntry>
         ensures { result.items ≡ self }
     {
-        self.members
+        self.entries
     }
 
     /// Its members.
     pub fn as_slice(&self) -> &[PictureEntry]
         ensures { result.now ≡ self.now }
     {
-        &self.members
+        &self.entries
     }
 }
 
 /// The text of a row: an application message as the venue spells it, or nothing.
 #[derive(Drop)]
 pub struct RowText {
-    members: Vec<u8>,
+    bytes: Vec<u8>,
 }
 
 impl Model for RowText {
@@ -89,34 +89,34 @@ impl Model for RowText {
 
     ghost Value = { List ℕ };
 
-    ghost view = { λ a. a.members.items };
+    ghost view = { λ a. a.bytes.items };
 }
 
 impl RowText {
-    pub fn from_vec(members: Vec<u8>) -> RowText
-        ensures { result ≡ members.items }
+    pub fn from_vec(bytes: Vec<u8>) -> RowText
+        ensures { result ≡ bytes.items }
     {
-        RowText { members }
+        RowText { bytes }
     }
 
     pub fn into_vec(self) -> Vec<u8>
         ensures { result.items ≡ self }
     {
-        self.members
+        self.bytes
     }
 
     /// Its members.
     pub fn as_slice(&self) -> &[u8]
         ensures { result.now ≡ self.now }
     {
-        &self.members
+        &self.bytes
     }
 }
 
 /// The orders that a requester was shown with the first quote.
 #[derive(Drop)]
 pub struct Shown {
-    members: Vec<ShownOrder>,
+    orders: Vec<ShownOrder>,
 }
 
 impl Model for Shown {
@@ -125,26 +125,26 @@ impl Model for Shown {
 
     ghost Value = { List ShownOrder };
 
-    ghost view = { λ a. a.members.items };
+    ghost view = { λ a. a.orders.items };
 }
 
 impl Shown {
-    pub fn from_vec(members: Vec<ShownOrder>) -> Shown
-        ensures { result ≡ members.items }
+    pub fn from_vec(orders: Vec<ShownOrder>) -> Shown
+        ensures { result ≡ orders.items }
     {
-        Shown { members }
+        Shown { orders }
     }
 
     pub fn into_vec(self) -> Vec<ShownOrder>
         ensures { result.items ≡ self }
     {
-        self.members
+        self.orders
     }
 
     /// Its members.
     pub fn as_slice(&self) -> &[ShownOrder]
         ensures { result.now ≡ self.now }
     {
-        &self.members
+        &self.orders
     }
 }

@@ -1,5 +1,4 @@
-use Rattle.std.proofs.Common.{◌≡◌, arith, sym, ◌∙◌, take, ap}
-use Rattle.fix_fields.specs.Forms.{without_trailing_zeros}
+use Rattle.std.proofs.Common.{◌≡◌, arith, sym, ◌∙◌}
 use Rattle.fix_fields.proofs.PrintLemmas.{trailing_zero, last_not_zero}
 use Rattle.fix_fields.proofs.append.without_trailing_zeros.Goals as goal
 use Rattle.fix_fields.proofs.append.without_trailing_zeros.Goals.{then-loop-kept-test+else-digits-kept-eq48, else-loop-kept-test}

@@ -7,4 +7,4 @@ abbrev pub no_row : Instrument
 no_row = record { symbol = []; tick = 0; least = 0; request_life = 0; delay = 0 }
 
 abbrev pub invariant-loop-place : goal.invariant-loop-place
-invariant-loop-place l = (k : ℕ) → k < l.place → bytes_eq (get_or l.rows k no_row).symbol l.symbol ≡ false
+invariant-loop-place l = (k : ℕ) → k < l.place → bytes_eq l.symbol (get_or l.rows k no_row).symbol ≡ false

@@ -2,4 +2,4 @@ use Rattle.std.proofs.Common.{◌≡◌, ℕ, ◌<◌, false, get_or, bytes_eq, 
 use Rattle.participants.proofs.participants.place_of.Given as goal
 
 abbrev pub invariant-loop-place : goal.invariant-loop-place
-invariant-loop-place l = (k : ℕ) → k < l.place → bytes_eq (get_or l.names k []) l.name ≡ false
+invariant-loop-place l = (k : ℕ) → k < l.place → bytes_eq l.name (get_or l.names k []) ≡ false

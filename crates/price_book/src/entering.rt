@@ -1,0 +1,97 @@
+//! An order enters the book.
+ghost use Rattle.std.specs.Prelude.{◌≡◌, ◌≤◌, ◌-◌, map, length, true, IfOk, IfErr};
+ghost use Rattle.venue_rules.specs.Book.{fills, filled_by, is_side_full, side_room};
+ghost use Rattle.venue_rules.specs.Entering.{entry_facts};
+ghost use Rattle.price_book.specs.Kept.{are_whole};
+ghost use Rattle.price_book.specs.Views.{seen_fill};
+ghost use Rattle.price_book.specs.Plans.{printed, entry_plan, IsEntryRefused, IsEntryAccepted};
+ghost use Rattle.price_book.specs.Steps.{Enters, IsAllowed};
+
+use crate::book::Refusal;
+use crate::fills::{fills, too_soon, unfilled};
+use crate::orders::is_day;
+use crate::plan::{FillPlan, copy_order, entry_facts, printed_fills};
+use crate::reading::{next_order, resting};
+use crate::resting::Fill;
+use fix_dictionary::Amount;
+use instruments::Instruments;
+use participants::Participants;
+use sef_moment::Moment;
+use std::alloc::{AllocError, Global};
+use venue_rules::{Entry, Fact, OrderFact};
+
+/// How many orders may rest on a side.
+const SIDE_ROOM: usize = 200;
+
+// Whether the order would rest where no more may.
+fn is_side_full(
+    alloc: Global,
+    facts: &[Fact],
+    order: &OrderFact,
+    unfilled: u64,
+) -> Result<bool, AllocError>
+    requires whole { are_whole facts.now ≡ true }
+    requires unfilled { unfilled ≡ order.now.quantity - filled_by (fills facts.now order.now) }
+    ensures { IfOk result (λ full. full ≡ is_side_full facts.now order.now) }
+{
+    if !is_day(order.life) || unfilled == 0 {
+        return Ok(false);
+    }
+    let orders = resting(alloc, facts, order.instrument, order.side)?;
+    Ok(SIDE_ROOM <= orders.len())
+}
+
+/// The plan of an entry with its fills.
+pub(crate) fn plan_of(
+    alloc: Global,
+    entry: Entry,
+    fills: &[Fill<'_>],
+) -> Result<FillPlan, AllocError>
+    ensures { IfOk result (λ p. p ≡ record { facts = entry_facts entry (map seen_fill fills.now); fills = map printed (map seen_fill fills.now) }) }
+{
+    let printed = printed_fills(alloc, fills)?;
+    let facts = entry_facts(alloc, entry, fills)?;
+    Ok(FillPlan::of(facts, printed))
+}
+
+/// The plan of an entry, before room is made for it.
+pub(crate) fn draft_entry(
+    alloc: Global,
+    participants: &Participants,
+    instruments: &Instruments,
+    facts: &[Fact],
+    order: &OrderFact,
+    moment: Moment,
+) -> Result<FillPlan, Refusal>
+    requires { are_whole facts.now ≡ true }
+    ensures planned { IfOk result (λ p. IsEntryAccepted (record { participants = participants.now; instruments = instruments.now }) facts.now order.now moment × (p ≡ entry_plan facts.now order.now moment)) }
+    ensures allowed { IfOk result (λ _. IsAllowed facts.now (Enters order.now moment)) }
+    ensures refused { IfErr result (IsEntryRefused (record { participants = participants.now; instruments = instruments.now }) facts.now order.now moment) }
+{
+    let Ok(fills) = fills(alloc, facts, order) else {
+        return Err(Refusal::NoMemory);
+    };
+    if let Some(number) = too_soon(participants, instruments, order, moment, &fills) {
+        return Err(Refusal::TooSoon(number));
+    }
+    let unfilled = unfilled(order.quantity.get(), &fills);
+    let Ok(is_full) = is_side_full(alloc, facts, order, unfilled) else {
+        return Err(Refusal::NoMemory);
+    };
+    if is_full {
+        return Err(Refusal::Full);
+    }
+    let Ok(copy) = copy_order(alloc, order) else {
+        return Err(Refusal::NoMemory);
+    };
+    let entry = Entry {
+        number: next_order(facts),
+        order: copy,
+        filled_before: Amount::new(0),
+        moment,
+    };
+    let Ok(plan) = plan_of(alloc, entry, &fills) else {
+        return Err(Refusal::NoMemory);
+    };
+    Ok(plan)
+}

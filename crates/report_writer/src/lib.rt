@@ -1,0 +1,16 @@
+//! The FIX message that each reply of the venue is sent as (FIX 5.0 SP2).
+#![tactic(auto)]
+
+mod changes;
+mod identifiers;
+mod message;
+mod orders;
+mod prices;
+mod quotes;
+mod reason;
+mod reasons;
+mod requests;
+mod status;
+mod unprocessed;
+
+pub use message::message_of;

@@ -1,0 +1,159 @@
+//! Reports on orders (ExecutionReport, 8).
+ghost use Rattle.std.specs.Prelude.{◌≡◌, IfOk};
+ghost use Rattle.venue_rules.specs.declared.replies.What.TheVariants as what;
+ghost use Rattle.venue_rules.specs.Messages.{fill_status, message, open_status, refusal, report};
+ghost use Rattle.report_writer.specs.Reasons.{seen};
+
+use crate::identifiers::{copied, order_id_or_none, printed};
+use crate::reason::Reason;
+use crate::reasons::{cross_reason, order_reason};
+use fix_dictionary::{Amount, App, ExecutionReport, FixChar};
+use std::alloc::{AllocError, Global};
+use venue_rules::{
+    ChangedReport, CrossRefused, FilledReport, OrderRefused, OrderReport, RoomReport,
+};
+
+/// What every report on an order says, of this ExecType (150) and OrdStatus (39).
+fn report(
+    alloc: Global,
+    r: &OrderReport,
+    kind: FixChar,
+    status: FixChar,
+) -> Result<ExecutionReport, AllocError>
+    ensures { IfOk result (λ m. m ≡ report r.now kind status) }
+{
+    Ok(ExecutionReport {
+        venue_order_id: order_id_or_none(alloc, r.order)?,
+        execution_id: printed(alloc, b'E', r.report)?,
+        execution_type: kind,
+        order_status: status,
+        symbol: r.symbol.copy(alloc)?,
+        side: r.side,
+        left: r.left,
+        filled: r.filled,
+        order_id: Some(r.id.copy(alloc)?),
+        original_id: None,
+        last_price: None,
+        last_quantity: None,
+        reject_reason: None,
+        trade_id: None,
+        response_id: None,
+        text: None,
+    })
+}
+
+fn refusal(alloc: Global, r: &OrderReport, why: Reason) -> Result<App, AllocError>
+    ensures { IfOk result (λ app. app ≡ refusal r.now (seen why)) }
+{
+    let report = report(alloc, r, FixChar::new(b'8'), FixChar::new(b'8'))?;
+    Ok(App::ExecutionReport(ExecutionReport {
+        reject_reason: Some(why.number()),
+        text: Some(why.text(alloc)?),
+        ..report
+    }))
+}
+
+pub(crate) fn order_refused(alloc: Global, r: &OrderRefused) -> Result<App, AllocError>
+    ensures { IfOk result (λ app. app ≡ message (what.OrderRefused r.now)) }
+{
+    refusal(alloc, &r.order, order_reason(r.cause))
+}
+
+pub(crate) fn cross_refused(alloc: Global, r: &CrossRefused) -> Result<App, AllocError>
+    ensures { IfOk result (λ app. app ≡ message (what.CrossRefused r.now)) }
+{
+    refusal(alloc, &r.order, cross_reason(r.cause))
+}
+
+pub(crate) fn order_entered(alloc: Global, r: &OrderReport) -> Result<App, AllocError>
+    ensures { IfOk result (λ app. app ≡ message (what.OrderEntered r.now)) }
+{
+    let report = report(alloc, r, FixChar::new(b'0'), FixChar::new(b'0'))?;
+    Ok(App::ExecutionReport(report))
+}
+
+pub(crate) fn order_unfilled(alloc: Global, r: &OrderReport) -> Result<App, AllocError>
+    ensures { IfOk result (λ app. app ≡ message (what.OrderUnfilled r.now)) }
+{
+    let report = report(alloc, r, FixChar::new(b'4'), FixChar::new(b'4'))?;
+    Ok(App::ExecutionReport(report))
+}
+
+/// OrdStatus (39) after a fill: filled, or partly filled.
+fn fill_status(left: Amount) -> FixChar
+    ensures { result ≡ fill_status left }
+{
+    if left.get() == 0 {
+        FixChar::new(b'2')
+    } else {
+        FixChar::new(b'1')
+    }
+}
+
+/// OrdStatus (39) of an order that rests: new, or partly filled.
+pub(crate) fn open_status(filled: Amount) -> FixChar
+    ensures { result ≡ open_status filled }
+{
+    if filled.get() == 0 {
+        FixChar::new(b'0')
+    } else {
+        FixChar::new(b'1')
+    }
+}
+
+pub(crate) fn order_filled(alloc: Global, r: &FilledReport) -> Result<App, AllocError>
+    ensures { IfOk result (λ app. app ≡ message (what.OrderFilled r.now)) }
+{
+    let status = fill_status(r.order.left);
+    let report = report(alloc, &r.order, FixChar::new(b'F'), status)?;
+    Ok(App::ExecutionReport(ExecutionReport {
+        last_price: Some(r.price),
+        last_quantity: Some(r.quantity),
+        trade_id: Some(printed(alloc, b'T', r.trade)?),
+        ..report
+    }))
+}
+
+pub(crate) fn order_cancelled(alloc: Global, r: &ChangedReport) -> Result<App, AllocError>
+    ensures { IfOk result (λ app. app ≡ message (what.OrderCancelled r.now)) }
+{
+    let report = report(alloc, &r.order, FixChar::new(b'4'), FixChar::new(b'4'))?;
+    Ok(App::ExecutionReport(ExecutionReport {
+        original_id: Some(r.original_id.copy(alloc)?),
+        ..report
+    }))
+}
+
+pub(crate) fn order_replaced(alloc: Global, r: &ChangedReport) -> Result<App, AllocError>
+    ensures { IfOk result (λ app. app ≡ message (what.OrderReplaced r.now)) }
+{
+    let status = open_status(r.order.filled);
+    let report = report(alloc, &r.order, FixChar::new(b'5'), status)?;
+    Ok(App::ExecutionReport(ExecutionReport {
+        original_id: Some(r.original_id.copy(alloc)?),
+        ..report
+    }))
+}
+
+pub(crate) fn room_traded(alloc: Global, r: &RoomReport) -> Result<App, AllocError>
+    ensures { IfOk result (λ app. app ≡ message (what.RoomTraded r.now)) }
+{
+    Ok(App::ExecutionReport(ExecutionReport {
+        venue_order_id: printed(alloc, b'R', r.room)?,
+        execution_id: printed(alloc, b'E', r.report)?,
+        execution_type: FixChar::new(b'F'),
+        order_status: FixChar::new(b'2'),
+        symbol: r.symbol.copy(alloc)?,
+        side: r.side,
+        left: Amount::new(0),
+        filled: Amount::new(r.quantity.get()),
+        order_id: None,
+        original_id: None,
+        last_price: Some(r.price),
+        last_quantity: Some(r.quantity),
+        reject_reason: None,
+        trade_id: Some(printed(alloc, b'T', r.trade)?),
+        response_id: copied(alloc, &r.response_id)?,
+        text: None,
+    }))
+}

@@ -1,0 +1,96 @@
+//! Pictures of an instrument (MarketDataSnapshot, W), and refusals to show one (MarketDataRequestReject, Y).
+ghost use Rattle.std.specs.Prelude.{◌≡◌, [], ◌∷◌, IfOk};
+ghost use Rattle.venue_rules.specs.declared.replies.What.TheVariants as what;
+ghost use Rattle.venue_rules.specs.Messages.{entry_type, market_reason, message, shown_entry, snapshot};
+
+use crate::identifiers::printed;
+use crate::reasons::market_reason;
+use fix_dictionary::{
+    App, FixChar, MarketDataEntries, MarketDataEntry, MarketDataRequestReject, MarketDataSnapshot,
+    Side,
+};
+use std::alloc::{AllocError, Global};
+use venue_rules::{MarketDataRefusal, PictureEntry, Prices, PricesRefused};
+
+/// MDEntryType (269).
+fn entry_type(side: Side) -> FixChar
+    ensures { result ≡ entry_type side }
+{
+    match side {
+        Side::Buy => FixChar::new(b'0'),
+        Side::Sell => FixChar::new(b'1'),
+    }
+}
+
+fn shown_entry(alloc: Global, entry: &PictureEntry) -> Result<MarketDataEntry, AllocError>
+    ensures { IfOk result (λ e. e ≡ shown_entry entry.now) }
+{
+    Ok(MarketDataEntry {
+        entry_type: entry_type(entry.side),
+        price: Some(entry.price),
+        size: Some(entry.left),
+        order_id: Some(printed(alloc, b'O', entry.order)?),
+    })
+}
+
+/// The entry of an instrument in which nothing rests.
+fn empty_book() -> MarketDataEntry
+    ensures { result ∷ [] ≡ snapshot [] }
+{
+    MarketDataEntry {
+        entry_type: FixChar::new(b'J'),
+        price: None,
+        size: None,
+        order_id: None,
+    }
+}
+
+fn snapshot(alloc: Global, entries: &[PictureEntry]) -> Result<Vec<MarketDataEntry>, AllocError>
+    ensures { IfOk result (λ v. v.items ≡ snapshot entries.now) }
+{
+    if entries.is_empty() {
+        return Ok(vec![in alloc; empty_book()]?);
+    }
+    let mut shown = Vec::new(alloc);
+    for entry in entries {
+        shown.push(shown_entry(alloc, entry)?)?;
+    }
+    Ok(shown)
+}
+
+pub(crate) fn prices(alloc: Global, r: &Prices) -> Result<App, AllocError>
+    ensures { IfOk result (λ app. app ≡ message (what.Prices r.now)) }
+{
+    // Until the type of a picture says so, that it has at most 400 entries is looked for here.
+    if 400 < r.entries.as_slice().len() {
+        return Err(AllocError);
+    }
+    let entries = snapshot(alloc, r.entries.as_slice())?;
+    Ok(App::MarketDataSnapshot(MarketDataSnapshot {
+        request_id: r.request_id.copy(alloc)?,
+        symbol: r.symbol.copy(alloc)?,
+        entries: MarketDataEntries::from_vec(entries),
+    }))
+}
+
+/// MDReqRejReason (281).
+fn market_code(cause: MarketDataRefusal) -> FixChar
+    ensures { result ≡ (market_reason cause).code }
+{
+    match cause {
+        MarketDataRefusal::UnknownInstrument => FixChar::new(b'0'),
+        MarketDataRefusal::SnapshotsOnly => FixChar::new(b'4'),
+        MarketDataRefusal::FullDepthOnly => FixChar::new(b'5'),
+    }
+}
+
+pub(crate) fn prices_refused(alloc: Global, r: &PricesRefused) -> Result<App, AllocError>
+    ensures { IfOk result (λ app. app ≡ message (what.PricesRefused r.now)) }
+{
+    let why = market_reason(r.cause);
+    Ok(App::MarketDataRequestReject(MarketDataRequestReject {
+        request_id: r.request_id.copy(alloc)?,
+        reject_reason: market_code(r.cause),
+        text: Some(why.text(alloc)?),
+    }))
+}

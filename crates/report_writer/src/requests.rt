@@ -1,0 +1,34 @@
+//! Requests for quotes as a recipient sees them (QuoteRequest, R), and their refusals (QuoteRequestReject, AG).
+ghost use Rattle.std.specs.Prelude.{◌≡◌, IfOk};
+ghost use Rattle.venue_rules.specs.declared.replies.What.TheVariants as what;
+ghost use Rattle.venue_rules.specs.Messages.{message};
+
+use crate::identifiers::printed;
+use crate::reasons::request_reason;
+use fix_dictionary::{App, Parties, QuoteRequest, QuoteRequestReject};
+use std::alloc::{AllocError, Global};
+use venue_rules::{RequestRefused, RequestSent};
+
+pub(crate) fn request_refused(alloc: Global, r: &RequestRefused) -> Result<App, AllocError>
+    ensures { IfOk result (λ app. app ≡ message (what.RequestRefused r.now)) }
+{
+    let why = request_reason(r.cause);
+    Ok(App::QuoteRequestReject(QuoteRequestReject {
+        request_id: r.id.copy(alloc)?,
+        reject_reason: why.number(),
+        symbol: r.symbol.copy(alloc)?,
+        text: Some(why.text(alloc)?),
+    }))
+}
+
+pub(crate) fn request_sent(alloc: Global, r: &RequestSent) -> Result<App, AllocError>
+    ensures { IfOk result (λ app. app ≡ message (what.RequestSent r.now)) }
+{
+    Ok(App::QuoteRequest(QuoteRequest {
+        request_id: printed(alloc, b'R', r.room)?,
+        symbol: r.symbol.copy(alloc)?,
+        side: r.side,
+        quantity: r.quantity,
+        parties: Parties::from_vec(Vec::new(alloc)),
+    }))
+}

@@ -1,0 +1,90 @@
+ghost use Rattle.std.specs.Prelude.{◌≤◌};
+
+use super::*;
+use fix_dictionary::{App, Identifier, OrderCancelRequest};
+use sef_moment::Moment;
+use std::alloc::{AllocError, Global};
+use std::test::*;
+
+/// The moment at which all is first sent, in milliseconds.
+const FIRST: u64 = 1_741_012_200_000;
+
+/// An application message.
+fn cancel(alloc: Global) -> Result<App, AllocError> {
+    Ok(App::OrderCancelRequest(OrderCancelRequest {
+        order_id: Identifier::from_slice(alloc, b"d3")?,
+        original_id: Identifier::from_slice(alloc, b"d2")?,
+    }))
+}
+
+/// The number of each message that is sent again, and a gap fill's new number.
+fn told(
+    alloc: Global,
+    store: &Store,
+    from: u32,
+    to: u32,
+) -> Result<Vec<(u32, Option<u32>)>, AllocError>
+    requires { 1 ≤ from }
+{
+    let mut told = Vec::new(alloc);
+    for resend in store.resends(from, to) {
+        told.push(match resend {
+            Resend::Repeat { number, .. } => (number, None),
+            Resend::GapFill { number, new } => (number, Some(new)),
+        })?;
+    }
+    Ok(told)
+}
+
+// A Logon, a report, a Heartbeat, a report.
+#[test]
+fn gap_fills_and_repeats(rt: HostRuntime) -> Result<(), Fail> {
+    let alloc = rt.alloc();
+    let t = Moment::of_ms(FIRST).ok_or("no moment")?;
+    let app = cancel(alloc)?;
+    let mut store = Store::new(alloc);
+    store.reserve(4)?;
+    store.add_admin(1)?;
+    store.add_app(2, &app, t)?;
+    store.add_admin(3)?;
+    store.add_app(4, &app, t)?;
+    assert_eq!(rt; store.next_number(), 5);
+    assert_eq!(rt; store.range(2, 3).len(), 2);
+    let all = [(1, Some(2)), (2, None), (3, Some(4)), (4, None)];
+    assert_eq!(rt; told(alloc, &store, 1, 0)?.as_slice(), all.as_slice());
+    assert_eq!(rt; told(alloc, &store, 1, 9)?.as_slice(), all.as_slice());
+    assert_eq!(rt;
+        told(alloc, &store, 2, 3)?.as_slice(),
+        [(2, None), (3, Some(4))].as_slice()
+    );
+    assert_eq!(rt; told(alloc, &store, 5, 0)?.len(), 0);
+    store.add_admin(5)?;
+    store.add_admin(6)?;
+    assert_eq!(rt;
+        told(alloc, &store, 5, 0)?.as_slice(),
+        [(5, Some(7))].as_slice()
+    );
+    Ok(())
+}
+
+// It holds whichever growth is refused: `rt try --test --fail-alloc N` refuses the N-th.
+#[test]
+fn one_refused_growth(rt: HostRuntime) -> Result<(), Fail> {
+    let alloc = rt.alloc();
+    let t = Moment::of_ms(FIRST).ok_or("no moment")?;
+    let app = match cancel(alloc) {
+        Ok(app) => app,
+        Err(AllocError) => cancel(alloc)?,
+    };
+    let mut store = Store::new(alloc);
+    if store.add_app(1, &app, t) == Err(StoreFault::NoMemory) {
+        assert_eq!(rt; store.next_number(), 1);
+        assert_eq!(rt; store.add_app(1, &app, t), Ok(()));
+    }
+    if store.reserve(100) == Err(AllocError) {
+        assert_eq!(rt; store.next_number(), 2);
+        assert_eq!(rt; store.reserve(100), Ok(()));
+    }
+    assert_eq!(rt; store.add_admin(2), Ok(()));
+    Ok(())
+}

@@ -1,0 +1,31 @@
+use Rattle.std.specs.Prelude.{◌≡◌, ℕ, ◌<◌, true, false, nat_lt, nat_le, is_none, List, Some}
+use Rattle.fix_dictionary.specs.declared.messages.OrderCancelReplaceRequest.{OrderCancelReplaceRequest}
+use Rattle.venue_rules.specs.declared.facts.Fact.{Fact}
+use Rattle.venue_rules.specs.declared.refusals.BusinessRefusal.TheVariants as business
+use Rattle.venue_rules.specs.Market.{Market}
+use Rattle.venue_rules.specs.Facts.{History, is_order_id_used}
+use Rattle.venue_rules.specs.Answer.{Answer, Sender, unprocessed}
+use Rattle.venue_rules.specs.Book.{Resting, filled, find_order}
+use Rattle.venue_rules.specs.Changes.{answer_replace, replace_refused, replacement, standing}
+use Rattle.venue_rules.specs.Orders.{is_limit}
+use Rattle.venue_core.specs.declared.changes.ChangeCause.{ChangeCause}
+use Rattle.venue_core.specs.declared.changes.ChangeCause.TheVariants.{Refused, PriceMissing}
+use Rattle.instruments.specs.Listing.{is_off_tick, least_of}
+
+-- none of the refusals of a replacement holds that come before the book is asked
+pub record MayReplace (m : Market) (facts : List Fact) (who : ℕ) (d : OrderCancelReplaceRequest) (r : Resting) : Type 0 where
+  pub new : is_order_id_used facts who d.order_id ≡ false
+  pub limit : is_limit d.order_type ≡ true
+  pub priced : is_none d.price ≡ false
+  pub on_tick : is_off_tick m.instruments (replacement d r).instrument (replacement d r).price ≡ false
+  pub enough : nat_lt d.quantity (least_of m.instruments (replacement d r).instrument) ≡ false
+  pub more : nat_le d.quantity (filled r) ≡ false
+
+-- the answer to a replacement of an order that is turned away
+abbrev pub change_turned_away : Sender → OrderCancelReplaceRequest → Resting → ChangeCause → Answer
+change_turned_away s d r (Refused cause) = replace_refused s d (Some (standing r)) cause
+change_turned_away s d r PriceMissing = unprocessed s business.PriceMissing
+
+-- a replacement of the order is turned away for this cause, whatever its number and its moment are
+pub record IsNotReplaced (m : Market) (facts : List Fact) (who : ℕ) (d : OrderCancelReplaceRequest) (r : Resting) (cause : ChangeCause) : Type 0 where
+  pub answers : (reports number : ℕ) (kind : List ℕ) (t : ℕ) → find_order facts who d.original_id ≡ Some r → answer_replace m (record { facts = facts; reports = reports }) (record { who = who; number = number; kind = kind }) d t ≡ change_turned_away (record { who = who; number = number; kind = kind }) d r cause

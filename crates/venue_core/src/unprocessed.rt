@@ -1,0 +1,57 @@
+//! Messages that are not processed.
+ghost use Rattle.std.specs.Prelude.{◌≡◌, codes, IfOk};
+ghost use Rattle.fix_dictionary.specs.Values.{IsText};
+ghost use Rattle.venue_rules.specs.Answer.{unprocessed};
+ghost use Rattle.venue_rules.specs.Answers.{type_of};
+ghost use Rattle.venue_core.specs.Served.{sender};
+
+use crate::plan::Plan;
+use fix_dictionary::{App, Identifier};
+use price_book::FillPlan;
+use std::alloc::{AllocError, Global};
+use venue_rules::{BusinessRefusal, Reply, Taken, Unprocessed, What};
+
+/// The type (35) of a message.
+fn type_of(app: &App) -> &[u8]
+    ensures value { result.now ≡ type_of app.now }
+    ensures form { IsText 64 result.now }
+{
+    match app {
+        App::QuoteRequest(_) => b"R",
+        App::Quote(_) => b"S",
+        App::QuoteCancel(_) => b"Z",
+        App::QuoteResponse(_) => b"AJ",
+        App::QuoteStatusReport(_) => b"AI",
+        App::QuoteRequestReject(_) => b"AG",
+        App::NewOrderSingle(_) => b"D",
+        App::OrderCancelRequest(_) => b"F",
+        App::OrderCancelReplaceRequest(_) => b"G",
+        App::NewOrderCross(_) => b"s",
+        App::ExecutionReport(_) => b"8",
+        App::OrderCancelReject(_) => b"9",
+        App::MarketDataRequest(_) => b"V",
+        App::MarketDataSnapshot(_) => b"W",
+        App::MarketDataRequestReject(_) => b"Y",
+        App::BusinessMessageReject(_) => b"j",
+        App::Unsupported(kind) => kind.as_slice(),
+    }
+}
+
+/// The message is not processed, for this cause: a BusinessMessageReject (j), which is no report.
+pub(crate) fn unprocessed(
+    alloc: Global,
+    taken: &Taken,
+    cause: BusinessRefusal,
+) -> Result<Plan, AllocError>
+    ensures { IfOk result (λ p. p ≡ unprocessed (sender taken.now) cause) }
+{
+    let kind = Identifier::from_slice(alloc, type_of(&taken.item.app))?;
+    let what = What::Unprocessed(Unprocessed {
+        number: taken.item.number,
+        kind,
+        cause,
+    });
+    let to = taken.from;
+    let replies = vec![in alloc; Reply { to, what }]?;
+    Ok(Plan::of(FillPlan::nothing(alloc), replies))
+}

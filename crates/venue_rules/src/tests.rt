@@ -1,0 +1,56 @@
+use crate::{
+    PictureEntries, Recipients, RowText, Shown, Who, amounts_stay_within, every_run_is_lawful,
+    fills_are_within, fixture_instruments, fixture_participants, name_identifier,
+    printed_numbers_are_identifiers, symbol_identifier,
+};
+use std::test::Fail;
+
+#[test]
+fn a_small_market(rt: HostRuntime) -> Result<(), Fail> {
+    let participants = fixture_participants(rt.alloc())?;
+    assert_eq!(rt; participants.len(), 5);
+    assert_eq!(rt; participants.venue(), b"SEF".as_slice());
+    assert_eq!(rt; participants.find(b"EPSILON"), Some(Who::of(4)));
+    assert!(rt; participants.related(Who::of(2), Who::of(1)));
+    let instruments = fixture_instruments(rt.alloc(), 15_000)?;
+    assert_eq!(rt; instruments.len(), 2);
+    assert_eq!(rt; instruments.find(b"BASIS1Y"), Some(1));
+    assert_eq!(rt; instruments.get(1).tick, 2_500);
+    assert_eq!(rt; instruments.delay(0), 15_000);
+    Ok(())
+}
+
+#[test]
+fn lists_are_given_back(rt: HostRuntime) -> Result<(), Fail> {
+    let alloc = rt.alloc();
+    let recipients = Recipients::from_vec(vec![in alloc; Who::of(3), Who::of(1)]?);
+    assert_eq!(rt; recipients.as_slice(), [Who::of(3), Who::of(1)].as_slice());
+    assert_eq!(rt; recipients.into_vec().len(), 2);
+    let text = RowText::from_vec(vec![in alloc; b'3', b'5']?);
+    assert_eq!(rt; text.as_slice(), b"35".as_slice());
+    assert_eq!(rt; text.into_vec().len(), 2);
+    let picture = PictureEntries::from_vec(Vec::new(alloc));
+    assert!(rt; picture.as_slice().is_empty());
+    assert!(rt; picture.into_vec().is_empty());
+    let shown = Shown::from_vec(Vec::new(alloc));
+    assert!(rt; shown.as_slice().is_empty());
+    assert!(rt; shown.into_vec().is_empty());
+    Ok(())
+}
+
+#[test]
+fn names_as_identifiers(rt: HostRuntime) -> Result<(), Fail> {
+    let name = name_identifier(rt.alloc(), b"ALPHA")?;
+    assert_eq!(rt; name.as_slice(), b"ALPHA".as_slice());
+    let symbol = symbol_identifier(rt.alloc(), b"IRS5Y")?;
+    assert_eq!(rt; symbol.as_slice(), b"IRS5Y".as_slice());
+    Ok(())
+}
+
+#[test]
+fn laws_are_called() {
+    every_run_is_lawful();
+    amounts_stay_within();
+    fills_are_within();
+    printed_numbers_are_identifiers();
+}
