@@ -18,6 +18,3 @@ pub use laws::served_run_goes_on;
 pub use plan::Plan;
 pub use report_writer::message_of;
 pub use venue::Venue;
-
-#[cfg(test)]
-mod tests;
