@@ -1,0 +1,7 @@
+pub mod Bodies
+pub mod Hearing
+pub mod Reading
+pub mod Sending
+pub mod Standing
+pub mod Unique
+pub mod Wiring

@@ -1,0 +1,49 @@
+-- One message answered, and how far a run has come.
+use Rattle.std.specs.Prelude.{◌≡◌, ℕ, ◌+◌, List, [], length, Option, None, Some}
+use Rattle.std.specs.Io.KnownBytes.{Appends}
+use Rattle.fix_frame.specs.Stream.{Reads}
+use Rattle.fix_dictionary.specs.declared.messages.Item.{Item}
+use Rattle.venue_rules.specs.Answer.{Answer}
+use Rattle.venue_rules.specs.Run.{Message, after}
+use Rattle.venue_core.specs.Fixture.{fixture}
+use Rattle.venue_core.specs.Served.{served_answer}
+use Rattle.venue_core.specs.State.{State}
+use Rattle.venue_main.specs.Heard.{AllHeard}
+use Rattle.venue_main.specs.Once.{outcome}
+use Rattle.venue_main.specs.Outgoing.{Outgoing}
+use Rattle.venue_main.specs.Wire.{said, wire}
+
+-- the venue's answer to a message that the first participant sends at t
+abbrev pub answer_to : State → ℕ → Item → Answer
+answer_to venue t item = served_answer venue.market venue.history (Message (record { from = 0; item = item }) t)
+
+-- the message is taken, and these bytes are the frames of the replies to it
+pub record Took (item : Item) (venue venue' : State) (outbox outbox' : Outgoing) (bytes : List ℕ) : Type 0 where
+  pub market : venue'.market ≡ venue.market
+  pub history : venue'.history ≡ after venue.history (answer_to venue outbox.at item)
+  pub items : venue'.items ≡ venue.items + 1
+  pub at : outbox'.at ≡ outbox.at
+  pub next : outbox'.next ≡ outbox.next + length (said 0 (answer_to venue outbox.at item).replies)
+  pub bytes_are : bytes ≡ wire outbox.at outbox.next (said 0 (answer_to venue outbox.at item).replies)
+
+-- nothing is taken, and nothing written
+pub record Left (venue venue' : State) (outbox outbox' : Outgoing) (bytes : List ℕ) : Type 0 where
+  pub venue_is : venue' ≡ venue
+  pub outbox_is : outbox' ≡ outbox
+  pub bytes_are : bytes ≡ []
+
+-- what is heard in a body is taken
+abbrev pub Answered : Option Item → State → State → Outgoing → Outgoing → List ℕ → Type 0
+Answered None venue venue' outbox outbox' bytes = Left venue venue' outbox outbox' bytes
+Answered (Some item) venue venue' outbox outbox' bytes = Took item venue venue' outbox outbox' bytes
+
+-- the bytes heard are read, up to those that are unread, and the output is the answers to what was heard in them
+pub record Stands (unread : List ℕ) (venue : State) (outbox : Outgoing) (heard output : List ℕ) : Type 0 where
+  pub bodies : List (List ℕ)
+  pub items : List Item
+  pub reads : Reads heard bodies unread
+  pub all : AllHeard bodies items
+  pub market : venue.market ≡ fixture
+  pub history : venue.history ≡ (outcome outbox.at items).history
+  pub answers : output ≡ wire outbox.at 1 (said 0 (outcome outbox.at items).replies)
+  pub next : outbox.next ≡ 1 + length (said 0 (outcome outbox.at items).replies)
