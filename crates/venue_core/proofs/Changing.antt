@@ -13,7 +13,7 @@ use Rattle.venue_rules.specs.Facts.{History, entries, held_sides, is_name, is_or
 use Rattle.venue_rules.specs.Answer.{Answer, Sender}
 use Rattle.venue_rules.specs.Book.{Resting, find_order, left, rests}
 use Rattle.venue_rules.specs.Changes.{Named, IsResting, IsHeld, IsUnknown, named, answer_cancel, answer_cancel_of, cancel_refused, cancelled, standing}
-use Rattle.venue_rules.specs.Delay.{find_held, held, releases}
+use Rattle.venue_rules.specs.Delay.{find_held, releases}
 use Rattle.price_book.specs.Kept.{are_own}
 use Rattle.price_book.specs.Plan.{Plan}
 use Rattle.price_book.specs.Plans.{cancel_plan}

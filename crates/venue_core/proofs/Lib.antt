@@ -6,3 +6,4 @@ pub mod Adding
 pub mod Accepting
 pub mod Showing
 pub mod Changing
+pub mod Replacements

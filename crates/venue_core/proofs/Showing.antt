@@ -1,11 +1,8 @@
-use Rattle.std.proofs.Common.{◌≡◌, refl, ap, ◌∙◌, ℕ, true, false, not, ◌==◌, List}
+use Rattle.std.proofs.Common.{◌≡◌, refl, ℕ, true, false, ◌==◌, List}
 use Rattle.fix_dictionary.specs.declared.messages.MarketDataRequest.{MarketDataRequest}
 use Rattle.instruments.specs.declared.instruments.Instrument.{Instrument}
 use Rattle.instruments.specs.Listing.{instrument_of, is_unknown_instrument}
 use Rattle.venue_rules.specs.declared.refusals.MarketDataRefusal.TheVariants.{UnknownInstrument, SnapshotsOnly, FullDepthOnly}
-use Rattle.venue_rules.specs.declared.replies.What.TheVariants.{Prices}
-use Rattle.venue_rules.specs.Answer.{answers, reply}
-use Rattle.venue_rules.specs.Book.{picture}
 use Rattle.venue_core.specs.Shown.{IsShown, IsNotShown}
 
 -- Each refusal of a request for market data is the answer where it holds and none before it does.

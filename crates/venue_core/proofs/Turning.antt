@@ -52,7 +52,7 @@ order_full m facts reports number kind who d t s h7 h8 = rw s.known (rw s.new (r
 
 -- the same by what the book says of the order that is asked for
 
-has_fill : (x : Option Fill) (n : ℕ) → option_map number_of x ≡ Some n → is_some x ≡ true
+pub has_fill : (x : Option Fill) (n : ℕ) → option_map number_of x ≡ Some n → is_some x ≡ true
 has_fill (Some f) n h = refl
 has_fill None n h = cc
 

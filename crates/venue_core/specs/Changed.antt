@@ -1,15 +1,18 @@
-use Rattle.std.specs.Prelude.{◌≡◌, ℕ, ◌<◌, true, false, nat_lt, nat_le, is_none, List, Some}
+use Rattle.std.specs.Prelude.{◌≡◌, ℕ, ℤ, true, false, nat_lt, nat_le, is_none, List, Some}
 use Rattle.fix_dictionary.specs.declared.messages.OrderCancelReplaceRequest.{OrderCancelReplaceRequest}
 use Rattle.venue_rules.specs.declared.facts.Fact.{Fact}
 use Rattle.venue_rules.specs.declared.refusals.BusinessRefusal.TheVariants as business
+use Rattle.venue_rules.specs.declared.replies.Standing.{Standing}
 use Rattle.venue_rules.specs.Market.{Market}
-use Rattle.venue_rules.specs.Facts.{History, is_order_id_used}
+use Rattle.venue_rules.specs.Facts.{is_order_id_used}
 use Rattle.venue_rules.specs.Answer.{Answer, Sender, unprocessed}
 use Rattle.venue_rules.specs.Book.{Resting, filled, find_order}
 use Rattle.venue_rules.specs.Changes.{answer_replace, replace_refused, replacement, standing}
 use Rattle.venue_rules.specs.Orders.{is_limit}
-use Rattle.venue_core.specs.declared.changes.ChangeCause.{ChangeCause}
-use Rattle.venue_core.specs.declared.changes.ChangeCause.TheVariants.{Refused, PriceMissing}
+use Rattle.price_book.specs.Plan.{Plan}
+use Rattle.price_book.specs.Plans.{IsReplacePlanned}
+use Rattle.venue_core.specs.declared.replacing.ChangeCause.{ChangeCause}
+use Rattle.venue_core.specs.declared.replacing.ChangeCause.TheVariants.{Refused, PriceMissing}
 use Rattle.instruments.specs.Listing.{is_off_tick, least_of}
 
 -- none of the refusals of a replacement holds that come before the book is asked
@@ -21,11 +24,20 @@ pub record MayReplace (m : Market) (facts : List Fact) (who : ℕ) (d : OrderCan
   pub enough : nat_lt d.quantity (least_of m.instruments (replacement d r).instrument) ≡ false
   pub more : nat_le d.quantity (filled r) ≡ false
 
--- the answer to a replacement of an order that is turned away
-abbrev pub change_turned_away : Sender → OrderCancelReplaceRequest → Resting → ChangeCause → Answer
-change_turned_away s d r (Refused cause) = replace_refused s d (Some (standing r)) cause
-change_turned_away s d r PriceMissing = unprocessed s business.PriceMissing
+-- the answer to a replacement that is turned away, of an order that stands so
+abbrev pub change_turned_away : Sender → OrderCancelReplaceRequest → Standing → ChangeCause → Answer
+change_turned_away s d st (Refused cause) = replace_refused s d (Some st) cause
+change_turned_away s d st PriceMissing = unprocessed s business.PriceMissing
 
 -- a replacement of the order is turned away for this cause, whatever its number and its moment are
 pub record IsNotReplaced (m : Market) (facts : List Fact) (who : ℕ) (d : OrderCancelReplaceRequest) (r : Resting) (cause : ChangeCause) : Type 0 where
-  pub answers : (reports number : ℕ) (kind : List ℕ) (t : ℕ) → find_order facts who d.original_id ≡ Some r → answer_replace m (record { facts = facts; reports = reports }) (record { who = who; number = number; kind = kind }) d t ≡ change_turned_away (record { who = who; number = number; kind = kind }) d r cause
+  pub answers : (reports number : ℕ) (kind : List ℕ) (t : ℕ) → find_order facts who d.original_id ≡ Some r → answer_replace m (record { facts = facts; reports = reports }) (record { who = who; number = number; kind = kind }) d t ≡ change_turned_away (record { who = who; number = number; kind = kind }) d (standing r) cause
+
+-- no refusal holds of a replacement of a resting order at t, and the book has this plan for it
+pub record IsReplacing (m : Market) (facts : List Fact) (who : ℕ) (d : OrderCancelReplaceRequest) (t : ℕ) (plan : Plan) : Type 0 where
+  pub named : Resting
+  pub price : ℤ
+  pub found : find_order facts who d.original_id ≡ Some named
+  pub may : MayReplace m facts who d named
+  pub priced : d.price ≡ Some price
+  pub planned : IsReplacePlanned m facts who d.order_id d.quantity price t plan named

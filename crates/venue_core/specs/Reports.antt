@@ -2,7 +2,7 @@ use Rattle.std.specs.Prelude.{ℕ, ◌+◌, ◌-◌, not, ◌&&◌, nat_lt, List
 use Rattle.venue_rules.specs.declared.facts.Entry.{Entry}
 use Rattle.venue_rules.specs.declared.replies.Reply.{Reply}
 use Rattle.venue_rules.specs.declared.replies.OrderReport.{OrderReport}
-use Rattle.venue_rules.specs.declared.replies.What.TheVariants.{OrderEntered, OrderFilled, OrderUnfilled}
+use Rattle.venue_rules.specs.declared.replies.What.TheVariants.{OrderEntered, OrderFilled, OrderUnfilled, OrderReplaced}
 use Rattle.venue_rules.specs.Answer.{reply}
 use Rattle.venue_rules.specs.Book.{is_day}
 use Rattle.price_book.specs.declared.plan.FilledOrder.{FilledOrder}
@@ -37,3 +37,7 @@ total gs = sum_by (λ (g : FilledOrder). g.quantity) gs
 -- the reports of an order that enters: that it is new, its fills, and what may not rest
 abbrev pub reports_of : List ℕ → Entry → ℕ → List FilledOrder → List (ℕ → Reply)
 reports_of symbol e trade gs = (λ n. reply e.order.who (OrderEntered (entry_report symbol e e.order.quantity 0 n))) ∷ (walked symbol e 0 trade gs ++ rest_reports symbol e (total gs))
+
+-- the reports of an order that takes the place of another: that it does, its fills, and what may not rest
+abbrev pub replaced_reports : ℕ → List ℕ → List ℕ → Entry → ℕ → List FilledOrder → List (ℕ → Reply)
+replaced_reports who original symbol e trade gs = (λ n. reply who (OrderReplaced (record { order = entry_report symbol e e.order.quantity e.filled_before n; original_id = original }))) ∷ (walked symbol e 0 trade gs ++ rest_reports symbol e (total gs))

@@ -15,7 +15,7 @@ use Rattle.venue_core.specs.State.{State}
 abbrev pub is_served : App → Bool
 is_served (NewOrderSingle d) = true
 is_served (OrderCancelRequest d) = true
-is_served (OrderCancelReplaceRequest d) = false
+is_served (OrderCancelReplaceRequest d) = true
 is_served (MarketDataRequest d) = true
 is_served (QuoteRequest d) = false
 is_served (Quote d) = false

@@ -1,41 +1,25 @@
-//! A cancel (OrderCancelRequest, F) and a replacement (OrderCancelReplaceRequest, G) of a resting order.
-ghost use Rattle.std.specs.Prelude.{◌≡◌, ◌≤◌, ◌<◌, ◌-◌, ◌+◌, ◌^◌, ℕ, List, [], ◌∷◌, true, All, length, take, Some, None, IfOk, IfErr, option_map, MatchOption};
+//! A cancel (OrderCancelRequest, F) of a resting order, and the refusal of any change of one.
+ghost use Rattle.std.specs.Prelude.{◌≡◌, ◌<◌, ◌+◌, ◌^◌, ℕ, List, [], ◌∷◌, true, length, IfOk};
 ghost use Rattle.venue_rules.specs.declared.facts.Fact.{Fact as FactValue};
-ghost use Rattle.venue_rules.specs.Book.{filled, find_order};
-ghost use Rattle.venue_rules.specs.Changes.{answer_cancel, answer_replace, cancelled, change_refused, replaced, replacement, standing};
-ghost use Rattle.venue_rules.specs.Entering.{order_report};
-ghost use Rattle.price_book.specs.Plan.{Plan as BookPlan};
-ghost use Rattle.price_book.specs.Plans.{IsReplacePlanned, replace_plan};
+ghost use Rattle.venue_rules.specs.Changes.{answer_cancel, cancelled, change_refused, standing};
 ghost use Rattle.price_book.specs.Views.{seen};
-ghost use Rattle.venue_core.specs.Changed.{IsNotReplaced, MayReplace, change_turned_away};
 ghost use Rattle.venue_core.specs.Files.{market_of};
 ghost use Rattle.venue_core.specs.Listed.{IsMade, are_listed};
 ghost use Rattle.venue_core.specs.Served.{sender};
 
-use crate::listing::{is_below_least, is_off_tick, symbol_of};
+use crate::listing::symbol_of;
 use crate::market::Market;
-use crate::orders::is_limit;
 use crate::plan::Plan;
-use crate::reading::next_trade;
-use crate::reports::{add_fills, entry_report};
-use crate::unprocessed::unprocessed;
-use fix_dictionary::{Amount, Identifier, OrderCancelReplaceRequest, OrderCancelRequest, Price};
-use price_book::{FillPlan, PriceBook, Refusal, Resting};
-use sef_moment::Moment;
+use fix_dictionary::{Amount, Identifier, OrderCancelRequest};
+use price_book::{FillPlan, PriceBook, Resting};
 use std::alloc::{AllocError, Global};
 use venue_rules::{
-    BusinessRefusal, ChangeKind, ChangeRefusal, ChangeRefused, ChangedReport, Fact, OrderReport,
-    Reply, Standing, Taken, What, Who,
+    ChangeKind, ChangeRefusal, ChangeRefused, ChangedReport, OrderReport, Reply, Standing, Taken,
+    What,
 };
 
-/// Why a replacement is turned away before the book is asked.
-#[derive(Clone, Copy)]
-enum ChangeCause {
-    Refused(ChangeRefusal),
-    PriceMissing,
-}
-
-fn standing(order: Resting<'_>) -> Standing
+/// What is told of a resting order that a refused change names.
+pub(crate) fn standing(order: Resting<'_>) -> Standing
     ensures { result ≡ standing (seen order.entry) }
 {
     Standing {
@@ -45,7 +29,7 @@ fn standing(order: Resting<'_>) -> Standing
 }
 
 /// A cancel or a replacement refused, of the resting order that it named, or of none.
-fn change_refused(
+pub(crate) fn change_refused(
     alloc: Global,
     taken: &Taken,
     standing: Option<Standing>,

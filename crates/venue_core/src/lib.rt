@@ -10,6 +10,7 @@ mod orders;
 mod plan;
 mod prices;
 mod reading;
+mod replacing;
 mod reports;
 mod unprocessed;
 mod venue;

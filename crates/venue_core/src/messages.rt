@@ -9,6 +9,7 @@ use crate::market::Market;
 use crate::orders::plan_order;
 use crate::plan::Plan;
 use crate::prices::plan_prices;
+use crate::replacing::plan_replace;
 use crate::unprocessed::unprocessed;
 use fix_dictionary::App;
 use price_book::{FillPlan, PriceBook};
@@ -38,10 +39,12 @@ pub(crate) fn plan_message(
         App::OrderCancelRequest(request) => {
             plan_cancel(alloc, market, book, reports, taken, request)
         }
+        App::OrderCancelReplaceRequest(request) => {
+            plan_replace(alloc, market, book, reports, taken, request, moment)
+        }
         App::MarketDataRequest(request) => plan_prices(alloc, market, book, taken, request),
         App::BusinessMessageReject(_) => Ok(Plan::of(FillPlan::nothing(alloc), Vec::new(alloc))),
-        App::OrderCancelReplaceRequest(_)
-        | App::NewOrderCross(_)
+        App::NewOrderCross(_)
         | App::QuoteRequest(_)
         | App::Quote(_)
         | App::QuoteCancel(_)

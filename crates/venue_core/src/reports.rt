@@ -3,12 +3,12 @@ ghost use Rattle.std.specs.Prelude.{◌≡◌, ◌≤◌, ◌<◌, ◌+◌, ◌-
 ghost use Rattle.venue_rules.specs.Book.{is_day};
 ghost use Rattle.venue_rules.specs.Answer.{numbered};
 ghost use Rattle.venue_rules.specs.declared.replies.What.TheVariants as what;
-ghost use Rattle.venue_core.specs.Reports.{entry_report, filled_reply, reports_of, rest_reports, resting_report, total, walked};
+ghost use Rattle.venue_core.specs.Reports.{entry_report, filled_reply, reports_of, rest_reports, replaced_reports, resting_report, total, walked};
 
 use fix_dictionary::{Amount, Identifier};
 use price_book::FilledOrder;
 use std::alloc::{AllocError, Global};
-use venue_rules::{Entry, FilledReport, Life, OrderReport, Reply, What};
+use venue_rules::{ChangedReport, Entry, FilledReport, Life, OrderReport, Reply, What, Who};
 
 /// What a report says of an order that enters.
 pub(crate) fn entry_report(
@@ -163,6 +163,43 @@ pub(crate) fn entry_replies(
             what: What::OrderEntered(new),
         },
     ]?;
+    add_fills(
+        alloc,
+        &mut replies,
+        symbol,
+        entry,
+        fills,
+        trade,
+        reports + 1,
+    )?;
+    Ok(replies)
+}
+
+/// The reports of an order that takes another's place, the first of them to the participant that asked for it.
+pub(crate) fn replaced_replies(
+    alloc: Global,
+    to: Who,
+    original_id: &Identifier,
+    symbol: &Identifier,
+    entry: &Entry,
+    fills: &[FilledOrder],
+    trade: u64,
+    reports: u64,
+) -> Result<Vec<Reply>, AllocError>
+    requires numbers { (reports + 1 < 2 ^ 62) × (trade ≤ 2 ^ 63) }
+    requires few { length fills.now ≤ 200 }
+    requires within { (k : ℕ) → total (take k fills.now) ≤ entry.now.order.quantity }
+    requires whole { entry.now.filled_before + entry.now.order.quantity ≤ 10 ^ 15 }
+    ensures replies { IfOk result (λ v. v.items ≡ numbered reports (replaced_reports to original_id.now symbol.now entry.now trade fills.now)) }
+    ensures few { IfOk result (λ v. length v.items ≤ 402) }
+{
+    let left = Amount::new(entry.order.quantity.get());
+    let order = entry_report(alloc, symbol, entry, left, entry.filled_before, reports + 1)?;
+    let what = What::OrderReplaced(ChangedReport {
+        order,
+        original_id: original_id.copy(alloc)?,
+    });
+    let mut replies = vec![in alloc; Reply { to, what }]?;
     add_fills(
         alloc,
         &mut replies,

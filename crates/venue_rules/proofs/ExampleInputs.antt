@@ -54,6 +54,9 @@ order id symbol side quantity price = NewOrderSingle (record { order_id = id; li
 abbrev pub fill_or_kill : List ℕ → List ℕ → Side → ℕ → ℤ → App
 fill_or_kill id symbol side quantity price = NewOrderSingle (record { order_id = id; link_id = None; symbol = symbol; side = side; quantity = quantity; order_type = 50; price = Some price; time_in_force = Some 52; transact_time = None })
 
+abbrev pub immediate : List ℕ → List ℕ → Side → ℕ → ℤ → App
+immediate id symbol side quantity price = NewOrderSingle (record { order_id = id; link_id = None; symbol = symbol; side = side; quantity = quantity; order_type = 50; price = Some price; time_in_force = Some 51; transact_time = None })
+
 abbrev pub linked_order : List ℕ → List ℕ → List ℕ → Side → ℕ → ℤ → App
 linked_order link id symbol side quantity price = NewOrderSingle (record { order_id = id; link_id = Some link; symbol = symbol; side = side; quantity = quantity; order_type = 50; price = Some price; time_in_force = None; transact_time = None })
 
@@ -63,9 +66,12 @@ cancel id original = OrderCancelRequest (record { order_id = id; original_id = o
 abbrev pub replace : List ℕ → List ℕ → ℕ → ℤ → App
 replace id original quantity price = OrderCancelReplaceRequest (record { order_id = id; original_id = original; quantity = quantity; order_type = 50; price = Some price })
 
--- the replies from the n-th on: whom they go to, and their text
+-- the replies of a venue from the n-th on: whom they go to, and their text
+abbrev pub said_in : Market → ℕ → List Input → List (ℕ × List ℕ)
+said_in m n is = map (λ r. (r.to, spelled (message r.what))) (drop n (run m is).replies)
+
 abbrev pub said_from : ℕ → List Input → List (ℕ × List ℕ)
-said_from n is = map (λ r. (r.to, spelled (message r.what))) (drop n (run venue is).replies)
+said_from n is = said_in venue n is
 
 -- a request for market data: what kind of answer is wanted (263) is a character
 abbrev pub market_data : List ℕ → List ℕ → ℕ → App

@@ -79,6 +79,9 @@ resting-Distinct facts x side p = ranked-Distinct side (filter (rests x side) (m
 pub rests_side : (x : ℕ) (side : Side) (r : Resting) → rests x side r ≡ true → is_side r.entry.order.side side ≡ true
 rests_side x side r h = (and_parts (is_side r.entry.order.side side) (nat_lt 0 r.left) (and_parts (r.entry.order.instrument == x) (is_side r.entry.order.side side && nat_lt 0 r.left) (and_parts (is_day r.entry.order.life) (r.entry.order.instrument == x && (is_side r.entry.order.side side && nat_lt 0 r.left)) h).1).1).0
 
+pub rests_instrument : (x : ℕ) (side : Side) (r : Resting) → rests x side r ≡ true → r.entry.order.instrument ≡ x
+rests_instrument x side r h = eqb-true r.entry.order.instrument x (and_parts (r.entry.order.instrument == x) (is_side r.entry.order.side side && nat_lt 0 r.left) (and_parts (is_day r.entry.order.life) (r.entry.order.instrument == x && (is_side r.entry.order.side side && nat_lt 0 r.left)) h).1).0
+
 pub rests_left : (x : ℕ) (side : Side) (r : Resting) → rests x side r ≡ true → nat_lt 0 r.left ≡ true
 rests_left x side r h = (and_parts (is_side r.entry.order.side side) (nat_lt 0 r.left) (and_parts (r.entry.order.instrument == x) (is_side r.entry.order.side side && nat_lt 0 r.left) (and_parts (is_day r.entry.order.life) (r.entry.order.instrument == x && (is_side r.entry.order.side side && nat_lt 0 r.left)) h).1).1).1
 

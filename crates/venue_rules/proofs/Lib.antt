@@ -5,10 +5,14 @@ pub mod Spelling
 pub mod ExampleInputs
 pub mod BookExamples
 pub mod DelayExamples
+pub mod FillExamples
 pub mod RoomExamples
+pub mod QuoteExamples
 pub mod LimitExamples
+pub mod FullExamples
 pub mod LawfulExamples
 pub mod RefusalExamples
+pub mod PrecedenceExamples
 -- members of lists, and numbers that are places
 pub mod Members
 -- what may follow what has happened
@@ -33,7 +37,12 @@ pub mod FollowsEach
 -- all recipients of a request are sent it in one answer
 pub mod Together
 pub mod TogetherEach
+-- the reports of an answer have the next numbers, and tell of its trades
+pub mod Reports
+pub mod ReportsEach
+pub mod EveryReport
 -- over every list of inputs each fact follows those before it; the laws
 pub mod EveryRun
+pub mod EveryRoomTrade
 pub mod AmountLemmas
 pub mod NameLemmas

@@ -32,8 +32,11 @@ pub mod Answers
 pub mod Messages
 -- the venue over a list of inputs
 pub mod Run
+-- what is reported over a list of inputs
+pub mod Reported
 -- what every list of inputs keeps
 pub mod Lawful
+pub mod RoomTrades
 -- what is left and filled of orders stays an amount
 pub mod Amounts
 -- what a keeper of rows promises

@@ -1,13 +1,45 @@
 //! What every list of inputs keeps.
 
+ghost use Rattle.std.specs.Prelude.{List};
 ghost use Rattle.venue_rules.specs.Amounts.{AmountsStayWithin, FillsAreWithin, PrintedNumbersAreIdentifiers};
-ghost use Rattle.venue_rules.specs.Lawful.{EveryRunIsLawful};
+ghost use Rattle.venue_rules.specs.Lawful.{BestOrderTrades, EveryRunIsLawful, LinkedOrdersWait, NumbersArePlaces, OrdersTradeWithin, PricesComeWithFirstQuote, RecipientsAskedTogether, RequestsComeFirst};
+ghost use Rattle.venue_rules.specs.Market.{Market};
+ghost use Rattle.venue_rules.specs.Reported.{ReportsAreNumbered, TradesAreReported};
+ghost use Rattle.venue_rules.specs.RoomTrades.{RoomTradesAreLawful};
+ghost use Rattle.venue_rules.specs.Run.{Input, run};
 
-/// The laws of the venue hold over every list of inputs, for all participants and instruments: requests come before
-/// trades in rooms, prices come with the first quote, the best order trades, linked orders wait, no order trades more
-/// than its quantity, and all recipients of a request are asked together.
+/// The laws of the venue hold over every list of inputs, for all participants and instruments. The functions below say
+/// them one by one.
 pub fn every_run_is_lawful()
     ensures { EveryRunIsLawful }
+{}
+
+/// Each trade in a room followed a request to three participants unrelated to the requester and to each other, all
+/// asked in one answer; it is with one of them, at its live quote; and the requester was shown the resting firm prices
+/// right before the room's first quote (17 CFR 37.9(a)(2), (a)(3)).
+pub fn every_room_trade_is_lawful()
+    ensures joined { (m : Market) (is : List Input) → RoomTradesAreLawful m is }
+    ensures followed_a_request { (m : Market) (is : List Input) → RequestsComeFirst m (run m is).history.facts }
+    ensures prices_with_first_quote { (m : Market) (is : List Input) → PricesComeWithFirstQuote m (run m is) }
+    ensures recipients_together { (m : Market) (is : List Input) → RecipientsAskedTogether m is }
+{}
+
+/// Each trade in the book is with the first resting order of its side then, at that order's price and within the
+/// entering order's (17 CFR 37.3(a)(3)); linked orders that traded had entered at least the delay apart
+/// (17 CFR 37.9(b)(1)); no order trades more than its quantity.
+pub fn every_book_trade_is_lawful()
+    ensures best_order { (m : Market) (is : List Input) → BestOrderTrades (run m is).history.facts }
+    ensures linked_orders_wait { (m : Market) (is : List Input) → LinkedOrdersWait m (run m is).history.facts }
+    ensures within_quantity { (m : Market) (is : List Input) → OrdersTradeWithin (run m is).history.facts }
+{}
+
+/// Execution reports are numbered 1, 2, 3 and so on in the order in which they are sent, refusals among them. Each trade
+/// is reported once to its buyer and once to its seller, under numbers 1, 2, 3 and so on. Orders, rooms and quotes have
+/// their places as numbers.
+pub fn every_report_is_numbered()
+    ensures reports { (m : Market) (is : List Input) → ReportsAreNumbered (run m is) }
+    ensures trades { (m : Market) (is : List Input) → TradesAreReported m (run m is) }
+    ensures places { (m : Market) (is : List Input) → NumbersArePlaces (run m is).history.facts }
 {}
 
 /// What was filled of an order under earlier numbers, with its quantity, stays an amount: at most 10^15.

@@ -19,7 +19,9 @@ pub use facts::{
 pub use fixture::{fixture_instruments, fixture_participants};
 pub use identifiers::{name_identifier, symbol_identifier};
 pub use laws::{
-    amounts_stay_within, every_run_is_lawful, fills_are_within, printed_numbers_are_identifiers,
+    amounts_stay_within, every_book_trade_is_lawful, every_report_is_numbered,
+    every_room_trade_is_lawful, every_run_is_lawful, fills_are_within,
+    printed_numbers_are_identifiers,
 };
 pub use lists::{PictureEntries, Recipients, RowText, Shown};
 pub use participants::Who;

@@ -1,7 +1,8 @@
 use crate::{
-    PictureEntries, Recipients, RowText, Shown, Who, amounts_stay_within, every_run_is_lawful,
-    fills_are_within, fixture_instruments, fixture_participants, name_identifier,
-    printed_numbers_are_identifiers, symbol_identifier,
+    PictureEntries, Recipients, RowText, Shown, Who, amounts_stay_within,
+    every_book_trade_is_lawful, every_report_is_numbered, every_room_trade_is_lawful,
+    every_run_is_lawful, fills_are_within, fixture_instruments, fixture_participants,
+    name_identifier, printed_numbers_are_identifiers, symbol_identifier,
 };
 use std::test::Fail;
 
@@ -50,6 +51,9 @@ fn names_as_identifiers(rt: HostRuntime) -> Result<(), Fail> {
 #[test]
 fn laws_are_called() {
     every_run_is_lawful();
+    every_room_trade_is_lawful();
+    every_book_trade_is_lawful();
+    every_report_is_numbered();
     amounts_stay_within();
     fills_are_within();
     printed_numbers_are_identifiers();
