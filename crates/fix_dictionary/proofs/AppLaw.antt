@@ -7,7 +7,6 @@ use Rattle.sef_moment.specs.Calendar.{IsDate, day_number, year_of, month_of, day
 use Rattle.sef_moment.specs.Utc.{utc_text}
 use Rattle.sef_moment.proofs.DateLemmas.{date_of-is, day_number-date_of, day_number-day_count, IsCivilDate-is_date, same_date}
 use Rattle.fix_fields.specs.Fields.{Entry, AreFields, fields_text}
-use Rattle.fix_fields.proofs.OneList.{one_list}
 use Rattle.fix_dictionary.specs.declared.faults.DictFault.{DictFault}
 use Rattle.fix_dictionary.specs.declared.faults.DictFault.TheVariants.{Format}
 use Rattle.fix_dictionary.specs.declared.table.Form.TheVariants as form_of_row
@@ -23,11 +22,12 @@ use Rattle.fix_dictionary.specs.Tables.{rows_of}
 use Rattle.fix_dictionary.specs.Kinds.{type_of, is_session}
 use Rattle.fix_dictionary.specs.Text.{Slot, fields_of, app_kind, app_slots, app_text, message_slots}
 use Rattle.fix_dictionary.specs.Applications.{plain_header, SpellsApp}
-use Rattle.fix_dictionary.specs.Fits.{FitsHeader, FitsBody, is_read}
+use Rattle.fix_dictionary.specs.Values.{IsText}
+use Rattle.fix_dictionary.specs.Fits.{FitsHeader, FitsBody}
 use Rattle.fix_dictionary.proofs.FormLemmas as form
 use Rattle.fix_dictionary.proofs.LookLemmas.{Shows, slot_of, has_slot, value_slot, single_fields, are_distinct, fill_fields, have_tags}
 use Rattle.fix_dictionary.proofs.HeaderLaw.{the_message}
-use Rattle.fix_dictionary.proofs.MessageLaw.{shown_is_read, fill_body, text_of_kind}
+use Rattle.fix_dictionary.proofs.MessageLaw.{is_flat, shown_is_read, fill_body, text_of_kind}
 
 both_true : (a b : Bool) → (a && b) ≡ true → (a ≡ true) × (b ≡ true)
 both_true true b h = (refl, h)
@@ -45,10 +45,10 @@ false_not_true : false ≡ true → ⊥
 false_not_true h = search (h, rules)
 
 -- the header that is added, as it is printed
-abbrev plain : Header
+abbrev pub plain : Header
 plain = record { sender = codes "S"; target = codes "T"; number = 1; sending_time = 0; possible_duplicate = None; possible_resend = None; original_sending_time = None; application_version = None }
 
-plain_fits : FitsHeader plain
+pub plain_fits : FitsHeader plain
 plain_fits = record { sender = refl; target = refl; number = (omega arith, omega arith); sending_time = omega arith; original_sending_time = tt; application_version = tt }
 
 -- the slots of the header that is added, and then those of a message
@@ -70,7 +70,7 @@ passed k tag own rest h e =
     ]
 
 -- none of the header's optional tags
-abbrev lacks_optional : List Slot → Bool
+abbrev pub lacks_optional : List Slot → Bool
 lacks_optional own = not (has_slot 43 own) && (not (has_slot 97 own) && (not (has_slot 122 own) && not (has_slot 1128 own)))
 
 all_passed : (tag : ℕ) (own : List Slot) → lacks_optional own ≡ true
@@ -83,7 +83,7 @@ all_passed tag own h =
     (passed 122 tag own _ (not_true (has_slot 122 own) c.0) (passed 1128 tag own _ (not_true (has_slot 1128 own) c.1) refl)))
 
 -- the type may stand behind the header
-moved : (tag : ℕ) (kind : List ℕ) (own : List Slot) → lacks_optional own ≡ true
+pub moved : (tag : ℕ) (kind : List ℕ) (own : List Slot) → lacks_optional own ≡ true
     → slot_of tag (plain_slots ((35, Some kind) ∷ own))
     ≡ slot_of tag ((35, Some kind) ∷ plain_slots ((43, None) ∷ (97, None) ∷ (122, None) ∷ (1128, None) ∷ own))
 moved tag kind own h =
@@ -96,7 +96,7 @@ moved tag kind own h =
           (sym (all_passed tag own h)))
     ]
 
-plain_number : decimal 1 ≡ codes "1"
+pub plain_number : decimal 1 ≡ codes "1"
 unfolding digits
 plain_number = refl
 
@@ -120,7 +120,7 @@ first_day =
 number_of : (a b : ℕ) → pos a ≡ pos b → a ≡ b
 number_of a b e = search (e, rules)
 
-plain_moment : utc_text 0 ≡ codes "19700101-00:00:00.000"
+pub plain_moment : utc_text 0 ≡ codes "19700101-00:00:00.000"
 unfolding utc_text
 plain_moment =
     let year : year_of 0 ≡ 1970 = number_of (year_of 0) 1970 first_day.0 in
@@ -128,45 +128,45 @@ plain_moment =
     let day : day_of_month 0 ≡ 1 = sym first_day.2 in
     rw (year, month, day) refl
 
-lacks : (a : App) → lacks_optional (app_slots a) ≡ true
-lacks (app.QuoteCancel m) = refl
-lacks (app.QuoteResponse m) = refl
-lacks (app.QuoteStatusReport m) = refl
-lacks (app.NewOrderSingle m) = refl
-lacks (app.OrderCancelRequest m) = refl
-lacks (app.OrderCancelReplaceRequest m) = refl
-lacks (app.ExecutionReport m) = refl
-lacks (app.OrderCancelReject m) = refl
-lacks (app.MarketDataRequestReject m) = refl
-lacks (app.BusinessMessageReject m) = refl
-lacks (app.QuoteRequest m) = refl
-lacks (app.Quote m) = refl
-lacks (app.QuoteRequestReject m) = refl
-lacks (app.NewOrderCross m) = refl
-lacks (app.MarketDataRequest m) = refl
-lacks (app.MarketDataSnapshot m) = refl
-lacks (app.Unsupported kind) = refl
+lacks : (a : App) → is_flat (body.App a) ≡ true → lacks_optional (app_slots a) ≡ true
+lacks (app.QuoteCancel m) read = refl
+lacks (app.QuoteResponse m) read = refl
+lacks (app.QuoteStatusReport m) read = refl
+lacks (app.NewOrderSingle m) read = refl
+lacks (app.OrderCancelRequest m) read = refl
+lacks (app.OrderCancelReplaceRequest m) read = refl
+lacks (app.ExecutionReport m) read = refl
+lacks (app.OrderCancelReject m) read = refl
+lacks (app.MarketDataRequestReject m) read = refl
+lacks (app.BusinessMessageReject m) read = refl
+lacks (app.QuoteRequest m) read = absurd (false_not_true read)
+lacks (app.Quote m) read = absurd (false_not_true read)
+lacks (app.QuoteRequestReject m) read = absurd (false_not_true read)
+lacks (app.NewOrderCross m) read = absurd (false_not_true read)
+lacks (app.MarketDataRequest m) read = absurd (false_not_true read)
+lacks (app.MarketDataSnapshot m) read = absurd (false_not_true read)
+lacks (app.Unsupported kind) read = refl
 
-distinct : (a : App) → are_distinct (plain_slots ((35, Some (app_kind a)) ∷ app_slots a)) ≡ true
-distinct (app.QuoteCancel m) = refl
-distinct (app.QuoteResponse m) = refl
-distinct (app.QuoteStatusReport m) = refl
-distinct (app.NewOrderSingle m) = refl
-distinct (app.OrderCancelRequest m) = refl
-distinct (app.OrderCancelReplaceRequest m) = refl
-distinct (app.ExecutionReport m) = refl
-distinct (app.OrderCancelReject m) = refl
-distinct (app.MarketDataRequestReject m) = refl
-distinct (app.BusinessMessageReject m) = refl
-distinct (app.QuoteRequest m) = refl
-distinct (app.Quote m) = refl
-distinct (app.QuoteRequestReject m) = refl
-distinct (app.NewOrderCross m) = refl
-distinct (app.MarketDataRequest m) = refl
-distinct (app.MarketDataSnapshot m) = refl
-distinct (app.Unsupported kind) = refl
+distinct : (a : App) → is_flat (body.App a) ≡ true → are_distinct (plain_slots ((35, Some (app_kind a)) ∷ app_slots a)) ≡ true
+distinct (app.QuoteCancel m) read = refl
+distinct (app.QuoteResponse m) read = refl
+distinct (app.QuoteStatusReport m) read = refl
+distinct (app.NewOrderSingle m) read = refl
+distinct (app.OrderCancelRequest m) read = refl
+distinct (app.OrderCancelReplaceRequest m) read = refl
+distinct (app.ExecutionReport m) read = refl
+distinct (app.OrderCancelReject m) read = refl
+distinct (app.MarketDataRequestReject m) read = refl
+distinct (app.BusinessMessageReject m) read = refl
+distinct (app.QuoteRequest m) read = absurd (false_not_true read)
+distinct (app.Quote m) read = absurd (false_not_true read)
+distinct (app.QuoteRequestReject m) read = absurd (false_not_true read)
+distinct (app.NewOrderCross m) read = absurd (false_not_true read)
+distinct (app.MarketDataRequest m) read = absurd (false_not_true read)
+distinct (app.MarketDataSnapshot m) read = absurd (false_not_true read)
+distinct (app.Unsupported kind) read = refl
 
-no_session : (a : App) → is_read (body.App a) ≡ true → FitsBody (body.App a) → is_session (type_of (app_kind a)) ≡ false
+no_session : (a : App) → is_flat (body.App a) ≡ true → FitsBody (body.App a) → is_session (type_of (app_kind a)) ≡ false
 no_session (app.QuoteCancel m) read fits = refl
 no_session (app.QuoteResponse m) read fits = refl
 no_session (app.QuoteStatusReport m) read fits = refl
@@ -185,28 +185,28 @@ no_session (app.MarketDataRequest m) read fits = absurd (false_not_true read)
 no_session (app.MarketDataSnapshot m) read fits = absurd (false_not_true read)
 no_session (app.Unsupported kind) read fits = ap is_session fits.1
 
-abbrev app_fields : App → List Entry
+abbrev pub app_fields : App → List Entry
 app_fields a = fields_of ((35, Some (app_kind a)) ∷ app_slots a)
 
-header_slot : (tag : ℕ) (number moment : List ℕ) (kind : List ℕ) (own : List Slot) → number ≡ codes "1" → moment ≡ codes "19700101-00:00:00.000"
+pub header_slot : (tag : ℕ) (number moment : List ℕ) (kind : List ℕ) (own : List Slot) → number ≡ codes "1" → moment ≡ codes "19700101-00:00:00.000"
     → slot_of tag ((35, Some kind) ∷ plain_slots ((43, None) ∷ (97, None) ∷ (122, None) ∷ (1128, None) ∷ own))
     ≡ slot_of tag ((35, Some kind) ∷ (49, Some (codes "S")) ∷ (56, Some (codes "T")) ∷ (34, Some number) ∷ (52, Some moment) ∷ (43, None) ∷ (97, None) ∷ (122, None) ∷ (1128, None) ∷ own)
 header_slot tag number moment kind own e k = rw (e, k) refl
 
-shown : (a : App) → Shows (plain_header ++ app_fields a) (message_slots (the_message plain (body.App a)))
-shown a =
+shown : (a : App) → is_flat (body.App a) ≡ true → Shows (plain_header ++ app_fields a) (message_slots (the_message plain (body.App a)))
+shown a read =
     let slots : List Slot = plain_slots ((35, Some (app_kind a)) ∷ app_slots a) in
     record {
-      once = single_fields slots (distinct a);
-      values = λ tag. value_slot tag slots (distinct a) ∙ moved tag (app_kind a) (app_slots a) (lacks a) ∙ header_slot tag (decimal 1) (utc_text 0) (app_kind a) (app_slots a) plain_number plain_moment;
+      once = single_fields slots (distinct a read);
+      values = λ tag. value_slot tag slots (distinct a read) ∙ moved tag (app_kind a) (app_slots a) (lacks a read) ∙ header_slot tag (decimal 1) (utc_text 0) (app_kind a) (app_slots a) plain_number plain_moment;
     }
 
 no_fault : (b : Bool) (o : Option DictFault) → b ≡ false → o ≡ None → cond b (Some (Format 35)) o ≡ None
 no_fault b o h k = rw (h, k) refl
 
-app_spelled : (a : App) → is_read (body.App a) ≡ true → FitsBody (body.App a) → SpellsApp a (app_fields a)
+pub app_spelled : (a : App) → is_flat (body.App a) ≡ true → FitsBody (body.App a) → SpellsApp a (app_fields a)
 app_spelled a read fits =
-    let spelled = shown_is_read plain (body.App a) plain_fits read fits (plain_header ++ app_fields a) (shown a) in
+    let spelled = shown_is_read plain (body.App a) plain_fits read fits (plain_header ++ app_fields a) (shown a read) in
     (no_fault (is_session (type_of (app_kind a))) _ (no_session a read fits) spelled.0, ap (λ (m : Message). m.body) spelled.1)
 
 app_tags : (kind : MessageType) → have_tags (rows_of kind 0) ≡ true
@@ -227,13 +227,15 @@ app_tags types.ExecutionReport = refl
 app_tags types.OrderCancelReject = refl
 app_tags types.MarketDataRequestReject = refl
 app_tags types.BusinessMessageReject = refl
+app_tags types.MarketDataRequest = refl
+app_tags types.MarketDataSnapshot = refl
 app_tags types.Unsupported = refl
 
-pub app_fields_are : (a : App) → is_read (body.App a) ≡ true → FitsBody (body.App a) → AreFields (app_fields a)
+pub app_fields_are : (a : App) → is_flat (body.App a) ≡ true → FitsBody (body.App a) → AreFields (app_fields a)
 app_fields_are a read fits =
     fill_fields (needs 35 form_of_row.Kind ∷ rows_of (type_of (app_kind a)) 0) ((35, Some (app_kind a)) ∷ app_slots a)
     (refl, (form.kind (app_kind a) (text_of_kind (body.App a) read fits), fill_body (body.App a) read fits)) (app_tags (type_of (app_kind a)))
 
-pub app_law : (a : App) (fields : List Entry) → is_read (body.App a) ≡ true → FitsBody (body.App a) → AreFields fields → app_text a ≡ fields_text fields → SpellsApp a fields
-app_law a fields read fits are text =
-    subst (λ (l : List Entry). SpellsApp a l) (one_list (app_fields a) fields (app_fields_are a read fits) are text) (app_spelled a read fits)
+-- the type before fields
+pub with_kind : (kind : List ℕ) (own : List Slot) → IsText 64 kind → AreFields (fields_of own) → AreFields (fields_of ((35, Some kind) ∷ own))
+with_kind kind own text are = ((fill_fields (needs 35 form_of_row.Kind ∷ []) ((35, Some kind) ∷ []) (refl, (form.kind kind text, tt)) refl).0, are)

@@ -16,15 +16,15 @@ use Rattle.fix_dictionary.specs.Text.{Slot, with_slot, fields_of, slots_text}
 use Rattle.fix_dictionary.proofs.FormLemmas.{Filled, longest}
 use Rattle.fix_dictionary.proofs.ValueLemmas.{IsShort}
 
-both_true : (a b : Bool) → (a && b) ≡ true → (a ≡ true) × (b ≡ true)
+pub both_true : (a b : Bool) → (a && b) ≡ true → (a ≡ true) × (b ≡ true)
 both_true true b h = (refl, h)
 both_true false b h = absurd (search (h, rules))
 
-not_true : (b : Bool) → not b ≡ true → b ≡ false
+pub not_true : (b : Bool) → not b ≡ true → b ≡ false
 not_true true h = absurd (search (h, rules))
 not_true false h = refl
 
-either_false : (a b : Bool) → (a || b) ≡ false → (a ≡ false) × (b ≡ false)
+pub either_false : (a b : Bool) → (a || b) ≡ false → (a ≡ false) × (b ≡ false)
 either_false true b h = absurd (search (h, rules))
 either_false false b h = (refl, h)
 
@@ -116,7 +116,7 @@ present tag bytes (f ∷ fs) h =
       | inr other ↦ let test : (f.0 == tag) ≡ false = grind (arith, nat_tests) in rw test (present tag bytes fs (rw test at h))
     ]
 
-row_given : (r : Row) (fields : List Entry) (o : Option (List ℕ)) → RowHolds r o → value_of r.tag fields ≡ o → (r.required && not (has_tag r.tag fields)) ≡ false
+pub row_given : (r : Row) (fields : List Entry) (o : Option (List ℕ)) → RowHolds r o → value_of r.tag fields ≡ o → (r.required && not (has_tag r.tag fields)) ≡ false
 row_given r fields None h e = rw h refl
 row_given r fields (Some bytes) h e = rw (present r.tag bytes fields e) (and_false r.required false refl)
 
@@ -141,7 +141,7 @@ named_right (r ∷ rs) fields h tag bytes e =
           rw test (named_right rs fields h.1 tag bytes e)
     ]
 
-no_fault : (fault : ValueFault) → is_fault fault None ≡ false
+pub no_fault : (fault : ValueFault) → is_fault fault None ≡ false
 no_fault value.Format = refl
 no_fault value.Range = refl
 

@@ -1,8 +1,7 @@
 -- A printed message is read as itself.
-use Rattle.std.proofs.Common.{◌≡◌, ℕ, ◌≤◌, true, false, List, [], ◌∷◌, ◌++◌, length, refl, sym, ap, subst, ◌∙◌, arith, rules, Option, Some, None}
+use Rattle.std.proofs.Common.{◌≡◌, ℕ, ◌≤◌, true, false, Bool, List, [], ◌∷◌, ◌++◌, length, refl, sym, ap, subst, ◌∙◌, arith, rules, Option, Some, None}
 use Rattle.fix_fields.specs.Forms.{integer_in}
 use Rattle.fix_fields.specs.Fields.{Entry, AreFields, fields_text}
-use Rattle.fix_fields.proofs.OneList.{one_list}
 use Rattle.fix_dictionary.specs.declared.messages.App.TheVariants as app
 use Rattle.fix_dictionary.specs.declared.messages.Admin.TheVariants as admin
 use Rattle.fix_dictionary.specs.declared.messages.Body.{Body}
@@ -13,13 +12,13 @@ use Rattle.fix_dictionary.specs.declared.table.Row.{Row}
 use Rattle.fix_dictionary.specs.declared.table.MessageType.{MessageType}
 use Rattle.fix_dictionary.specs.declared.table.MessageType.TheVariants as types
 use Rattle.fix_dictionary.specs.Values.{IsText}
-use Rattle.fix_dictionary.specs.Kinds.{type_of}
+use Rattle.fix_dictionary.specs.Kinds.{type_of, is_grouped}
 use Rattle.fix_dictionary.specs.Tables.{header_rows, rows_of}
 use Rattle.fix_dictionary.specs.Faults.{first_fault}
 use Rattle.fix_dictionary.specs.Told.{ok_or, some_or}
 use Rattle.fix_dictionary.specs.Text.{fields_of, header_slots, message_slots, body_slots, body_kind, message_text}
-use Rattle.fix_dictionary.specs.Messages.{Spells, body_in, header, begin_in, type_in}
-use Rattle.fix_dictionary.specs.Fits.{FitsHeader, FitsBody, FitsMessage, is_read}
+use Rattle.fix_dictionary.specs.Messages.{Spells, body_in, header, begin_in, type_in, fault_as_type, outside}
+use Rattle.fix_dictionary.specs.Fits.{FitsHeader, FitsBody, FitsMessage}
 use Rattle.fix_dictionary.proofs.FormLemmas as form
 use Rattle.fix_dictionary.proofs.LookLemmas.{Fill, Shows, shows, are_distinct, fill_both, fill_holds, fill_fields, fill_length, have_tags, room, faultless_where_all_hold}
 use Rattle.fix_dictionary.proofs.HeaderLaw.{the_message, fill_header, header_back}
@@ -31,6 +30,27 @@ use Rattle.fix_dictionary.proofs.OtherLaws as other
 false_not_true : false ≡ true → ⊥
 false_not_true h = search (h, rules)
 
+-- the message is of a type without groups
+abbrev pub is_flat : Body → Bool
+is_flat (body.Admin m) = true
+is_flat (body.App (app.QuoteRequest m)) = false
+is_flat (body.App (app.Quote m)) = false
+is_flat (body.App (app.QuoteRequestReject m)) = false
+is_flat (body.App (app.NewOrderCross m)) = false
+is_flat (body.App (app.MarketDataRequest m)) = false
+is_flat (body.App (app.MarketDataSnapshot m)) = false
+is_flat (body.App (app.QuoteCancel m)) = true
+is_flat (body.App (app.QuoteResponse m)) = true
+is_flat (body.App (app.QuoteStatusReport m)) = true
+is_flat (body.App (app.NewOrderSingle m)) = true
+is_flat (body.App (app.OrderCancelRequest m)) = true
+is_flat (body.App (app.OrderCancelReplaceRequest m)) = true
+is_flat (body.App (app.ExecutionReport m)) = true
+is_flat (body.App (app.OrderCancelReject m)) = true
+is_flat (body.App (app.MarketDataRequestReject m)) = true
+is_flat (body.App (app.BusinessMessageReject m)) = true
+is_flat (body.App (app.Unsupported kind)) = true
+
 -- the number that the table of the message's type depends on
 abbrev pub begin_of : Body → ℕ
 begin_of (body.Admin (admin.ResendRequest m)) = m.begin
@@ -38,7 +58,7 @@ begin_of _ = 0
 
 -- Each message that is read fills the table of its type.
 
-pub fill_body : (b : Body) → is_read b ≡ true → FitsBody b → Fill (rows_of (type_of (body_kind b)) (begin_of b)) (body_slots b)
+pub fill_body : (b : Body) → is_flat b ≡ true → FitsBody b → Fill (rows_of (type_of (body_kind b)) (begin_of b)) (body_slots b)
 fill_body (body.Admin (admin.Heartbeat m)) read fits = session.fill_heartbeat m fits
 fill_body (body.Admin (admin.TestRequest m)) read fits = session.fill_test_request m fits
 fill_body (body.Admin (admin.ResendRequest m)) read fits = session.fill_resend_request m fits
@@ -64,7 +84,7 @@ fill_body (body.App (app.NewOrderCross m)) read fits = absurd (false_not_true re
 fill_body (body.App (app.MarketDataRequest m)) read fits = absurd (false_not_true read)
 fill_body (body.App (app.MarketDataSnapshot m)) read fits = absurd (false_not_true read)
 
-pub text_of_kind : (b : Body) → is_read b ≡ true → FitsBody b → IsText 64 (body_kind b)
+pub text_of_kind : (b : Body) → is_flat b ≡ true → FitsBody b → IsText 64 (body_kind b)
 text_of_kind (body.Admin (admin.Heartbeat m)) read fits = refl
 text_of_kind (body.Admin (admin.TestRequest m)) read fits = refl
 text_of_kind (body.Admin (admin.ResendRequest m)) read fits = refl
@@ -90,31 +110,31 @@ text_of_kind (body.App (app.NewOrderCross m)) read fits = absurd (false_not_true
 text_of_kind (body.App (app.MarketDataRequest m)) read fits = absurd (false_not_true read)
 text_of_kind (body.App (app.MarketDataSnapshot m)) read fits = absurd (false_not_true read)
 
-no_tag_twice : (h : Header) (b : Body) → are_distinct (message_slots (the_message h b)) ≡ true
-no_tag_twice h (body.Admin (admin.Heartbeat m)) = refl
-no_tag_twice h (body.Admin (admin.TestRequest m)) = refl
-no_tag_twice h (body.Admin (admin.ResendRequest m)) = refl
-no_tag_twice h (body.Admin (admin.Reject m)) = refl
-no_tag_twice h (body.Admin (admin.SequenceReset m)) = refl
-no_tag_twice h (body.Admin (admin.Logout m)) = refl
-no_tag_twice h (body.Admin (admin.Logon m)) = refl
-no_tag_twice h (body.App (app.QuoteCancel m)) = refl
-no_tag_twice h (body.App (app.QuoteResponse m)) = refl
-no_tag_twice h (body.App (app.QuoteStatusReport m)) = refl
-no_tag_twice h (body.App (app.NewOrderSingle m)) = refl
-no_tag_twice h (body.App (app.OrderCancelRequest m)) = refl
-no_tag_twice h (body.App (app.OrderCancelReplaceRequest m)) = refl
-no_tag_twice h (body.App (app.ExecutionReport m)) = refl
-no_tag_twice h (body.App (app.OrderCancelReject m)) = refl
-no_tag_twice h (body.App (app.MarketDataRequestReject m)) = refl
-no_tag_twice h (body.App (app.BusinessMessageReject m)) = refl
-no_tag_twice h (body.App (app.Unsupported kind)) = refl
-no_tag_twice h (body.App (app.QuoteRequest m)) = refl
-no_tag_twice h (body.App (app.Quote m)) = refl
-no_tag_twice h (body.App (app.QuoteRequestReject m)) = refl
-no_tag_twice h (body.App (app.NewOrderCross m)) = refl
-no_tag_twice h (body.App (app.MarketDataRequest m)) = refl
-no_tag_twice h (body.App (app.MarketDataSnapshot m)) = refl
+no_tag_twice : (h : Header) (b : Body) → is_flat b ≡ true → are_distinct (message_slots (the_message h b)) ≡ true
+no_tag_twice h (body.Admin (admin.Heartbeat m)) read = refl
+no_tag_twice h (body.Admin (admin.TestRequest m)) read = refl
+no_tag_twice h (body.Admin (admin.ResendRequest m)) read = refl
+no_tag_twice h (body.Admin (admin.Reject m)) read = refl
+no_tag_twice h (body.Admin (admin.SequenceReset m)) read = refl
+no_tag_twice h (body.Admin (admin.Logout m)) read = refl
+no_tag_twice h (body.Admin (admin.Logon m)) read = refl
+no_tag_twice h (body.App (app.QuoteCancel m)) read = refl
+no_tag_twice h (body.App (app.QuoteResponse m)) read = refl
+no_tag_twice h (body.App (app.QuoteStatusReport m)) read = refl
+no_tag_twice h (body.App (app.NewOrderSingle m)) read = refl
+no_tag_twice h (body.App (app.OrderCancelRequest m)) read = refl
+no_tag_twice h (body.App (app.OrderCancelReplaceRequest m)) read = refl
+no_tag_twice h (body.App (app.ExecutionReport m)) read = refl
+no_tag_twice h (body.App (app.OrderCancelReject m)) read = refl
+no_tag_twice h (body.App (app.MarketDataRequestReject m)) read = refl
+no_tag_twice h (body.App (app.BusinessMessageReject m)) read = refl
+no_tag_twice h (body.App (app.Unsupported kind)) read = refl
+no_tag_twice h (body.App (app.QuoteRequest m)) read = absurd (false_not_true read)
+no_tag_twice h (body.App (app.Quote m)) read = absurd (false_not_true read)
+no_tag_twice h (body.App (app.QuoteRequestReject m)) read = absurd (false_not_true read)
+no_tag_twice h (body.App (app.NewOrderCross m)) read = absurd (false_not_true read)
+no_tag_twice h (body.App (app.MarketDataRequest m)) read = absurd (false_not_true read)
+no_tag_twice h (body.App (app.MarketDataSnapshot m)) read = absurd (false_not_true read)
 
 -- the table by the fields is the table by the message
 same_rows : (h : Header) (b : Body) → FitsBody b → (fields : List Entry) → Shows fields (message_slots (the_message h b)) → rows_of (type_of (body_kind b)) (begin_in fields) ≡ rows_of (type_of (body_kind b)) (begin_of b)
@@ -146,7 +166,7 @@ same_rows h (body.App (app.NewOrderCross m)) fits fields shows = refl
 same_rows h (body.App (app.MarketDataRequest m)) fits fields shows = refl
 same_rows h (body.App (app.MarketDataSnapshot m)) fits fields shows = refl
 
-body_back : (h : Header) (b : Body) → is_read b ≡ true → FitsBody b → (fields : List Entry) → Shows fields (message_slots (the_message h b)) → body_in (type_of (body_kind b)) fields ≡ b
+body_back : (h : Header) (b : Body) → is_flat b ≡ true → FitsBody b → (fields : List Entry) → Shows fields (message_slots (the_message h b)) → body_in (type_of (body_kind b)) fields ≡ b
 body_back h (body.Admin (admin.Heartbeat m)) read fits fields shows = ap (λ x. body.Admin (admin.Heartbeat x)) (session.heartbeat_back h m fits fields shows)
 body_back h (body.Admin (admin.TestRequest m)) read fits fields shows = ap (λ x. body.Admin (admin.TestRequest x)) (session.test_request_back h m fits fields shows)
 body_back h (body.Admin (admin.ResendRequest m)) read fits fields shows = ap (λ x. body.Admin (admin.ResendRequest x)) (session.resend_request_back h m fits fields shows)
@@ -176,22 +196,55 @@ body_back h (body.App (app.MarketDataSnapshot m)) read fits fields shows = absur
 message_of_parts : (h : Header) (b : Body) (x : Header) (y : Body) → h ≡ x → y ≡ b → the_message h b ≡ the_message x y
 message_of_parts h b x y e k = rw (← e, k) refl
 
-fill_all : (h : Header) (b : Body) → FitsHeader h → is_read b ≡ true → FitsBody b → Fill (header_rows ++ rows_of (type_of (body_kind b)) (begin_of b)) (message_slots (the_message h b))
+fill_all : (h : Header) (b : Body) → FitsHeader h → is_flat b ≡ true → FitsBody b → Fill (header_rows ++ rows_of (type_of (body_kind b)) (begin_of b)) (message_slots (the_message h b))
 fill_all h b head read fits =
     fill_both header_rows ((35, Some (body_kind b)) ∷ header_slots h) (rows_of (type_of (body_kind b)) (begin_of b)) (body_slots b)
     (fill_header h (body_kind b) head (text_of_kind b read fits)) (fill_body b read fits)
 
+not_grouped : (b : Body) → is_flat b ≡ true → FitsBody b → is_grouped (type_of (body_kind b)) ≡ false
+not_grouped (body.Admin (admin.Heartbeat m)) read fits = refl
+not_grouped (body.Admin (admin.TestRequest m)) read fits = refl
+not_grouped (body.Admin (admin.ResendRequest m)) read fits = refl
+not_grouped (body.Admin (admin.Reject m)) read fits = refl
+not_grouped (body.Admin (admin.SequenceReset m)) read fits = refl
+not_grouped (body.Admin (admin.Logout m)) read fits = refl
+not_grouped (body.Admin (admin.Logon m)) read fits = refl
+not_grouped (body.App (app.QuoteCancel m)) read fits = refl
+not_grouped (body.App (app.QuoteResponse m)) read fits = refl
+not_grouped (body.App (app.QuoteStatusReport m)) read fits = refl
+not_grouped (body.App (app.NewOrderSingle m)) read fits = refl
+not_grouped (body.App (app.OrderCancelRequest m)) read fits = refl
+not_grouped (body.App (app.OrderCancelReplaceRequest m)) read fits = refl
+not_grouped (body.App (app.ExecutionReport m)) read fits = refl
+not_grouped (body.App (app.OrderCancelReject m)) read fits = refl
+not_grouped (body.App (app.MarketDataRequestReject m)) read fits = refl
+not_grouped (body.App (app.BusinessMessageReject m)) read fits = refl
+not_grouped (body.App (app.Unsupported kind)) read fits = ap is_grouped fits.1
+not_grouped (body.App (app.QuoteRequest m)) read fits = absurd (false_not_true read)
+not_grouped (body.App (app.Quote m)) read fits = absurd (false_not_true read)
+not_grouped (body.App (app.QuoteRequestReject m)) read fits = absurd (false_not_true read)
+not_grouped (body.App (app.NewOrderCross m)) read fits = absurd (false_not_true read)
+not_grouped (body.App (app.MarketDataRequest m)) read fits = absurd (false_not_true read)
+not_grouped (body.App (app.MarketDataSnapshot m)) read fits = absurd (false_not_true read)
+
+flat_fault : (kind : MessageType) (fields : List Entry) → is_grouped kind ≡ false → fault_as_type kind fields ≡ first_fault (header_rows ++ rows_of kind (begin_in fields)) fields
+flat_fault kind fields h = rw h refl
+
+flat_outside : (kind : MessageType) (fields : List Entry) → is_grouped kind ≡ false → outside kind fields ≡ fields
+flat_outside kind fields h = rw h refl
+
 -- fields that show what is printed spell the message
-pub shown_is_read : (h : Header) (b : Body) → FitsHeader h → is_read b ≡ true → FitsBody b → (fields : List Entry) → Shows fields (message_slots (the_message h b)) → Spells (the_message h b) fields
+pub shown_is_read : (h : Header) (b : Body) → FitsHeader h → is_flat b ≡ true → FitsBody b → (fields : List Entry) → Shows fields (message_slots (the_message h b)) → Spells (the_message h b) fields
 shown_is_read h b head read fits fields shows =
     let kind : type_in fields ≡ type_of (body_kind b) = ap (λ (o : Option (List ℕ)). type_of (some_or [] o)) (shows.values 35) in
     let table : rows_of (type_in fields) (begin_in fields) ≡ rows_of (type_of (body_kind b)) (begin_of b) =
     ap (λ (t : MessageType). rows_of t (begin_in fields)) kind ∙ same_rows h b fits fields shows in
     let rows = header_rows ++ rows_of (type_of (body_kind b)) (begin_of b) in
     let clean : first_fault rows fields ≡ None =
-    faultless_where_all_hold rows fields shows.once (fill_holds rows (message_slots (the_message h b)) fields (fill_all h b head read fits) (no_tag_twice h b) shows) in (
-      ap (λ (l : List Row). first_fault (header_rows ++ l) fields) table ∙ clean,
-      message_of_parts h b (header fields) (body_in (type_in fields) fields) (header_back h b head fields shows)
+    faultless_where_all_hold rows fields shows.once (fill_holds rows (message_slots (the_message h b)) fields (fill_all h b head read fits) (no_tag_twice h b read) shows) in (
+      flat_fault (type_in fields) fields (ap is_grouped kind ∙ not_grouped b read fits) ∙ ap (λ (l : List Row). first_fault (header_rows ++ l) fields) table ∙ clean,
+      message_of_parts h b (header (outside (type_in fields) fields)) (body_in (type_in fields) fields)
+          (header_back h b head fields shows ∙ ap header (sym (flat_outside (type_in fields) fields (ap is_grouped kind ∙ not_grouped b read fits))))
           (ap (λ (t : MessageType). body_in t fields) kind ∙ body_back h b read fits fields shows),
     )
 
@@ -213,6 +266,8 @@ all_tags types.ExecutionReport begin = refl
 all_tags types.OrderCancelReject begin = refl
 all_tags types.MarketDataRequestReject begin = refl
 all_tags types.BusinessMessageReject begin = refl
+all_tags types.MarketDataRequest begin = refl
+all_tags types.MarketDataSnapshot begin = refl
 all_tags types.Unsupported begin = refl
 
 small_room : (kind : MessageType) (begin : ℕ) → room (header_rows ++ rows_of kind begin) ≤ 65_536
@@ -233,20 +288,20 @@ small_room types.ExecutionReport begin = omega arith
 small_room types.OrderCancelReject begin = omega arith
 small_room types.MarketDataRequestReject begin = omega arith
 small_room types.BusinessMessageReject begin = omega arith
+small_room types.MarketDataRequest begin = omega arith
+small_room types.MarketDataSnapshot begin = omega arith
 small_room types.Unsupported begin = omega arith
 
 -- what is printed are fields
-pub printed_fields : (m : Message) → is_read m.body ≡ true → FitsMessage m → AreFields (fields_of (message_slots m))
+pub printed_fields : (m : Message) → is_flat m.body ≡ true → FitsMessage m → AreFields (fields_of (message_slots m))
 printed_fields m read fits =
     fill_fields (header_rows ++ rows_of (type_of (body_kind m.body)) (begin_of m.body)) (message_slots m) (fill_all m.header m.body fits.header read fits.body) (all_tags (type_of (body_kind m.body)) (begin_of m.body))
 
-pub message_law : (m : Message) (fields : List Entry) → is_read m.body ≡ true → FitsMessage m → AreFields fields → message_text m ≡ fields_text fields → Spells m fields
-message_law m fields read fits are text =
-    let same : fields_of (message_slots m) ≡ fields = one_list (fields_of (message_slots m)) fields (printed_fields m read fits) are text in
-    subst (λ (l : List Entry). Spells m l) same
-    (shown_is_read m.header m.body fits.header read fits.body (fields_of (message_slots m)) (shows (message_slots m) (no_tag_twice m.header m.body)))
+pub message_spelled : (h : Header) (b : Body) → FitsHeader h → is_flat b ≡ true → FitsBody b → Spells (the_message h b) (fields_of (message_slots (the_message h b)))
+message_spelled h b head read fits =
+    shown_is_read h b head read fits (fields_of (message_slots (the_message h b))) (shows (message_slots (the_message h b)) (no_tag_twice h b read))
 
-pub message_length : (m : Message) → is_read m.body ≡ true → FitsMessage m → length (message_text m) ≤ 65_536
+pub message_length : (m : Message) → is_flat m.body ≡ true → FitsMessage m → length (message_text m) ≤ 65_536
 message_length m read fits =
     omega (
       arith,

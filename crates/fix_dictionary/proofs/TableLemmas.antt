@@ -26,8 +26,18 @@ own_forms types.ExecutionReport begin = (refl, (refl, (refl, (refl, (refl, (refl
 own_forms types.OrderCancelReject begin = (refl, (refl, (refl, (refl, (refl, (refl, (refl, (refl, (refl, (refl, (refl, (refl, (refl, (refl, (refl, (refl, tt))))))))))))))))
 own_forms types.MarketDataRequestReject begin = (refl, (refl, (refl, (refl, (refl, (refl, (refl, (refl, (refl, (refl, (refl, (refl, tt))))))))))))
 own_forms types.BusinessMessageReject begin = (refl, (refl, (refl, (refl, (refl, (refl, (refl, (refl, (refl, (refl, (refl, (refl, (refl, tt)))))))))))))
+own_forms types.MarketDataRequest begin = (refl, (refl, (refl, (refl, (refl, (refl, (refl, (refl, (refl, (refl, (refl, (refl, (refl, (refl, (refl, (refl, tt))))))))))))))))
+own_forms types.MarketDataSnapshot begin = (refl, (refl, (refl, (refl, (refl, (refl, (refl, (refl, (refl, (refl, (refl, (refl, (refl, (refl, (refl, (refl, tt))))))))))))))))
 own_forms types.Unsupported begin = (refl, (refl, (refl, (refl, (refl, (refl, (refl, (refl, (refl, tt)))))))))
 
 pub holds_both : (first second : List Row) (fields : List Entry) → Holds (first ++ second) fields → Holds first fields × Holds second fields
 holds_both [] second fields h = (tt, h)
 holds_both (r ∷ rs) second fields h = let rest = holds_both rs second fields h.1 in ((h.0, rest.0), rest.1)
+
+pub own_part : (all first second : List Row) → HasOwnForms all (first ++ second) → HasOwnForms all second
+own_part all [] second h = h
+own_part all (r ∷ rs) second h = own_part all rs second h.1
+
+pub own_first : (all first second : List Row) → HasOwnForms all (first ++ second) → HasOwnForms all first
+own_first all [] second h = tt
+own_first all (r ∷ rs) second h = (h.0, own_first all rs second h.1)

@@ -1,5 +1,6 @@
 -- The ranges of the values of a message, which its types keep.
-use Rattle.std.specs.Prelude.{◌≡◌, ℕ, ◌≤◌, Bool, true, false, Option, None, Some}
+use Rattle.std.specs.Prelude.{◌≡◌, ℕ, ◌≤◌, Bool, true, false, length, Option, None, Some}
+use Rattle.std.specs.List.{AllByRecursion}
 use Rattle.fix_dictionary.specs.Kinds.{IsOtherKind}
 use Rattle.fix_dictionary.specs.declared.messages.App.TheVariants as app
 use Rattle.fix_dictionary.specs.declared.messages.Admin.TheVariants as admin
@@ -7,7 +8,7 @@ use Rattle.fix_dictionary.specs.declared.messages.Body.{Body}
 use Rattle.fix_dictionary.specs.declared.messages.Body.TheVariants as body
 use Rattle.fix_dictionary.specs.declared.messages.Message.{Message}
 use Rattle.sef_moment.specs.Utc.{greatest}
-use Rattle.fix_dictionary.specs.Values.{IsText, is_graphic, IsQuantity, IsAmount, IsPrice, IsFixInt, IsSequenceNumber, IsNewSequenceNumber, IsInterval, Resend, IsResend}
+use Rattle.fix_dictionary.specs.Values.{IsText, is_graphic, IsQuantity, IsAmount, IsPrice, IsFixInt, IsSequenceNumber, IsNewSequenceNumber, IsInterval, Resend, IsResend, FitsEntryTypes, FitsEntries}
 use Rattle.fix_dictionary.specs.declared.messages.Header.{Header}
 use Rattle.fix_dictionary.specs.declared.messages.Heartbeat.{Heartbeat}
 use Rattle.fix_dictionary.specs.declared.messages.TestRequest.{TestRequest}
@@ -23,6 +24,9 @@ use Rattle.fix_dictionary.specs.declared.messages.OrderCancelRequest.{OrderCance
 use Rattle.fix_dictionary.specs.declared.messages.OrderCancelReplaceRequest.{OrderCancelReplaceRequest}
 use Rattle.fix_dictionary.specs.declared.messages.ExecutionReport.{ExecutionReport}
 use Rattle.fix_dictionary.specs.declared.messages.OrderCancelReject.{OrderCancelReject}
+use Rattle.fix_dictionary.specs.declared.messages.MarketDataEntry.{MarketDataEntry}
+use Rattle.fix_dictionary.specs.declared.messages.MarketDataRequest.{MarketDataRequest}
+use Rattle.fix_dictionary.specs.declared.messages.MarketDataSnapshot.{MarketDataSnapshot}
 use Rattle.fix_dictionary.specs.declared.messages.MarketDataRequestReject.{MarketDataRequestReject}
 use Rattle.fix_dictionary.specs.declared.messages.BusinessMessageReject.{BusinessMessageReject}
 
@@ -147,7 +151,27 @@ pub record FitsBusinessMessageReject (m : BusinessMessageReject) : Type 0 where
   pub reject_reason : IsFixInt m.reject_reason
   pub text : Given (IsText 200) m.text
 
--- nothing is said yet of the types with groups
+pub record FitsMarketDataRequest (m : MarketDataRequest) : Type 0 where
+  pub request_id : IsText 64 m.request_id
+  pub subscription_type : IsGraphic m.subscription_type
+  pub depth : IsFixInt m.depth
+  pub entry_types : AllByRecursion IsGraphic m.entry_types
+  pub number : FitsEntryTypes (length m.entry_types)
+  pub symbol : IsText 64 m.symbol
+
+pub record FitsMarketDataEntry (m : MarketDataEntry) : Type 0 where
+  pub entry_type : IsGraphic m.entry_type
+  pub price : Given IsPrice m.price
+  pub size : Given IsAmount m.size
+  pub order_id : Given (IsText 64) m.order_id
+
+pub record FitsMarketDataSnapshot (m : MarketDataSnapshot) : Type 0 where
+  pub request_id : IsText 64 m.request_id
+  pub symbol : IsText 64 m.symbol
+  pub entries : AllByRecursion FitsMarketDataEntry m.entries
+  pub number : FitsEntries (length m.entries)
+
+-- nothing is said of the types that are not read
 abbrev pub FitsBody : Body → Type 0
 FitsBody (body.Admin (admin.Heartbeat m)) = FitsHeartbeat m
 FitsBody (body.Admin (admin.TestRequest m)) = FitsTestRequest m
@@ -171,19 +195,18 @@ FitsBody (body.App (app.QuoteRequest m)) = Unit {0}
 FitsBody (body.App (app.Quote m)) = Unit {0}
 FitsBody (body.App (app.QuoteRequestReject m)) = Unit {0}
 FitsBody (body.App (app.NewOrderCross m)) = Unit {0}
-FitsBody (body.App (app.MarketDataRequest m)) = Unit {0}
-FitsBody (body.App (app.MarketDataSnapshot m)) = Unit {0}
+FitsBody (body.App (app.MarketDataRequest m)) = FitsMarketDataRequest m
+FitsBody (body.App (app.MarketDataSnapshot m)) = FitsMarketDataSnapshot m
 
--- The type is read. Those with groups are not, until their requests: they are read as unsupported, and printed as their
--- type alone.
+-- The type is read. Those that are not are read as unsupported, and printed as their type alone.
 abbrev pub is_read : Body → Bool
 is_read (body.Admin m) = true
 is_read (body.App (app.QuoteRequest m)) = false
 is_read (body.App (app.Quote m)) = false
 is_read (body.App (app.QuoteRequestReject m)) = false
 is_read (body.App (app.NewOrderCross m)) = false
-is_read (body.App (app.MarketDataRequest m)) = false
-is_read (body.App (app.MarketDataSnapshot m)) = false
+is_read (body.App (app.MarketDataRequest m)) = true
+is_read (body.App (app.MarketDataSnapshot m)) = true
 is_read (body.App (app.QuoteCancel m)) = true
 is_read (body.App (app.QuoteResponse m)) = true
 is_read (body.App (app.QuoteStatusReport m)) = true

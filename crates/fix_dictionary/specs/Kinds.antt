@@ -5,7 +5,7 @@ use Rattle.fix_dictionary.specs.declared.table.MessageType.{MessageType}
 use Rattle.fix_dictionary.specs.declared.table.MessageType.TheVariants as types
 use Rattle.fix_dictionary.specs.Values.{IsText}
 
--- A type that is not listed yet, or not at all, is unsupported.
+-- A type that is not listed is unsupported.
 abbrev pub type_of : List ℕ → MessageType
 type_of kind =
     if bytes_eq kind (codes "0") then types.Heartbeat else (
@@ -23,9 +23,11 @@ type_of kind =
     if bytes_eq kind (codes "G") then types.OrderCancelReplaceRequest else (
     if bytes_eq kind (codes "8") then types.ExecutionReport else (
     if bytes_eq kind (codes "9") then types.OrderCancelReject else (
+    if bytes_eq kind (codes "V") then types.MarketDataRequest else (
+    if bytes_eq kind (codes "W") then types.MarketDataSnapshot else (
     if bytes_eq kind (codes "Y") then types.MarketDataRequestReject else (
     if bytes_eq kind (codes "j") then types.BusinessMessageReject else (
-    types.Unsupported)))))))))))))))))
+    types.Unsupported)))))))))))))))))))
 
 -- the types of the session's own messages
 abbrev pub is_session : MessageType → Bool
@@ -37,6 +39,12 @@ is_session types.SequenceReset = true
 is_session types.Logout = true
 is_session types.Logon = true
 is_session _ = false
+
+-- the types whose messages have repeating groups
+abbrev pub is_grouped : MessageType → Bool
+is_grouped types.MarketDataRequest = true
+is_grouped types.MarketDataSnapshot = true
+is_grouped _ = false
 
 abbrev pub is_resend_request : MessageType → Bool
 is_resend_request types.ResendRequest = true

@@ -1,5 +1,5 @@
 -- What the fields of a body say, type by type. Where the table of the type finds a fault nothing is asked of it.
-use Rattle.std.specs.Prelude.{◌≡◌, ℕ, List, ◌++◌, Option, None, Some}
+use Rattle.std.specs.Prelude.{◌≡◌, ℕ, if◌then◌else◌, List, map, ◌++◌, Option, None, Some}
 use Rattle.fix_fields.specs.Fields.{Entry, value_of}
 use Rattle.fix_fields.specs.Forms.{integer_in}
 use Rattle.sef_moment.specs.Utc.{moment_of}
@@ -10,7 +10,9 @@ use Rattle.fix_dictionary.specs.declared.table.MessageType.{MessageType}
 use Rattle.fix_dictionary.specs.declared.table.MessageType.TheVariants as types
 use Rattle.fix_dictionary.specs.Tables.{header_rows, rows_of}
 use Rattle.fix_dictionary.specs.Faults.{first_fault}
-use Rattle.fix_dictionary.specs.Kinds.{type_of}
+use Rattle.fix_dictionary.specs.Kinds.{type_of, is_grouped}
+use Rattle.fix_dictionary.specs.Places.{Placed, placed, start, part, instances, sole}
+use Rattle.fix_dictionary.specs.GroupFaults.{placed_fault}
 use Rattle.fix_dictionary.specs.declared.messages.App.TheVariants as app
 use Rattle.fix_dictionary.specs.declared.messages.Admin.TheVariants as admin
 use Rattle.fix_dictionary.specs.declared.messages.Body.{Body}
@@ -32,6 +34,9 @@ use Rattle.fix_dictionary.specs.declared.messages.OrderCancelRequest.{OrderCance
 use Rattle.fix_dictionary.specs.declared.messages.OrderCancelReplaceRequest.{OrderCancelReplaceRequest}
 use Rattle.fix_dictionary.specs.declared.messages.ExecutionReport.{ExecutionReport}
 use Rattle.fix_dictionary.specs.declared.messages.OrderCancelReject.{OrderCancelReject}
+use Rattle.fix_dictionary.specs.declared.messages.MarketDataEntry.{MarketDataEntry}
+use Rattle.fix_dictionary.specs.declared.messages.MarketDataRequest.{MarketDataRequest}
+use Rattle.fix_dictionary.specs.declared.messages.MarketDataSnapshot.{MarketDataSnapshot}
 use Rattle.fix_dictionary.specs.declared.messages.MarketDataRequestReject.{MarketDataRequestReject}
 use Rattle.fix_dictionary.specs.declared.messages.BusinessMessageReject.{BusinessMessageReject}
 
@@ -188,6 +193,39 @@ business_message_reject fields = record {
   text = value_of 58 fields;
 }
 
+-- Messages with groups: what is outside of them, and their instances.
+
+abbrev pub market_data_entry : List Entry → MarketDataEntry
+market_data_entry fields = record {
+  entry_type = character_in (bytes_at 269 fields);
+  price = told price_in (value_of 270 fields);
+  size = told amount_in (value_of 271 fields);
+  order_id = value_of 278 fields;
+}
+
+abbrev pub entry_type : List Entry → ℕ
+entry_type fields = character_in (bytes_at 269 fields)
+
+abbrev pub market_data_request : List Placed → MarketDataRequest
+market_data_request ps = record {
+  request_id = bytes_at 262 (part 0 ps);
+  subscription_type = character_in (bytes_at 263 (part 0 ps));
+  depth = number_in (bytes_at 264 (part 0 ps));
+  entry_types = map entry_type (instances 269 0 ps);
+  symbol = bytes_at 55 (sole 55 ps);
+}
+
+abbrev pub market_data_snapshot : List Placed → MarketDataSnapshot
+market_data_snapshot ps = record {
+  request_id = bytes_at 262 (part 0 ps);
+  symbol = bytes_at 55 (part 0 ps);
+  entries = map market_data_entry (instances 269 0 ps);
+}
+
+-- where the fields of a type with groups stand
+abbrev pub placed_as : MessageType → List Entry → List Placed
+placed_as kind fields = placed header_rows (rows_of kind 0) start fields
+
 -- what is behind the header, by the type
 abbrev pub body_in : MessageType → List Entry → Body
 body_in types.Heartbeat fields = body.Admin (admin.Heartbeat (heartbeat fields))
@@ -205,6 +243,8 @@ body_in types.OrderCancelRequest fields = body.App (app.OrderCancelRequest (orde
 body_in types.OrderCancelReplaceRequest fields = body.App (app.OrderCancelReplaceRequest (order_cancel_replace_request fields))
 body_in types.ExecutionReport fields = body.App (app.ExecutionReport (execution_report fields))
 body_in types.OrderCancelReject fields = body.App (app.OrderCancelReject (order_cancel_reject fields))
+body_in types.MarketDataRequest fields = body.App (app.MarketDataRequest (market_data_request (placed_as types.MarketDataRequest fields)))
+body_in types.MarketDataSnapshot fields = body.App (app.MarketDataSnapshot (market_data_snapshot (placed_as types.MarketDataSnapshot fields)))
 body_in types.MarketDataRequestReject fields = body.App (app.MarketDataRequestReject (market_data_request_reject fields))
 body_in types.BusinessMessageReject fields = body.App (app.BusinessMessageReject (business_message_reject fields))
 body_in types.Unsupported fields = body.App (app.Unsupported (bytes_at 35 fields))
@@ -213,16 +253,28 @@ body_in types.Unsupported fields = body.App (app.Unsupported (bytes_at 35 fields
 abbrev pub type_in : List Entry → MessageType
 type_in fields = type_of (bytes_at 35 fields)
 
+-- the fields outside of groups
+abbrev pub outside : MessageType → List Entry → List Entry
+outside kind fields = if is_grouped kind then part 0 (placed_as kind fields) else fields
+
+abbrev pub message_as : MessageType → List Entry → Message
+message_as kind fields = record { header = header (outside kind fields); body = body_in kind fields }
+
 abbrev pub message_in : List Entry → Message
-message_in fields = record { header = header fields; body = body_in (type_in fields) fields }
+message_in fields = message_as (type_in fields) fields
 
 -- the number from which a resend request asks: 10^9, past every number, where its field has none or a greater one
 abbrev pub begin_in : List Entry → ℕ
 begin_in fields = ok_or 1_000_000_000 (integer_in 0 1_000_000_000 (bytes_at 7 fields))
 
 -- the first fault of the fields, by the header's table and that of their type
+abbrev pub fault_as_type : MessageType → List Entry → Option DictFault
+fault_as_type kind fields =
+    if is_grouped kind then placed_fault header_rows (rows_of kind 0) (placed_as kind fields) fields
+    else first_fault (header_rows ++ rows_of kind (begin_in fields)) fields
+
 abbrev pub fault_in : List Entry → Option DictFault
-fault_in fields = first_fault (header_rows ++ rows_of (type_in fields) (begin_in fields)) fields
+fault_in fields = fault_as_type (type_in fields) fields
 
 -- the fields have no fault, and say this message
 abbrev pub Spells : Message → List Entry → Type 0

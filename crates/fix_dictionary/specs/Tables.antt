@@ -223,6 +223,22 @@ market_data_snapshot_rows =
     ∷ inside 268 (takes 278 Identifier)
     ∷ []
 
+-- the rows of one entry
+abbrev pub market_data_entry_rows : List Row
+market_data_entry_rows =
+    needs 269 Character
+    ∷ takes 270 Price
+    ∷ takes 271 Amount
+    ∷ takes 278 Identifier
+    ∷ []
+
+-- the row of one entry type, and that of the instrument asked for
+abbrev pub entry_type_rows : List Row
+entry_type_rows = needs 269 Character ∷ []
+
+abbrev pub instrument_rows : List Row
+instrument_rows = needs 55 Identifier ∷ []
+
 abbrev pub market_data_request_reject_rows : List Row
 market_data_request_reject_rows =
     needs 262 Identifier
@@ -255,6 +271,8 @@ rows_of types.TheVariants.OrderCancelRequest begin = order_cancel_request_rows
 rows_of types.TheVariants.OrderCancelReplaceRequest begin = order_cancel_replace_request_rows
 rows_of types.TheVariants.ExecutionReport begin = execution_report_rows
 rows_of types.TheVariants.OrderCancelReject begin = order_cancel_reject_rows
+rows_of types.TheVariants.MarketDataRequest begin = market_data_request_rows
+rows_of types.TheVariants.MarketDataSnapshot begin = market_data_snapshot_rows
 rows_of types.TheVariants.MarketDataRequestReject begin = market_data_request_reject_rows
 rows_of types.TheVariants.BusinessMessageReject begin = business_message_reject_rows
 rows_of types.TheVariants.Unsupported begin = []

@@ -1,5 +1,5 @@
 -- The printed text of messages: for each type its tags in order, with what is printed of their values.
-use Rattle.std.specs.Prelude.{ℕ, Bool, true, false, List, [], ◌∷◌, ◌++◌, Option, None, Some, decimal, codes}
+use Rattle.std.specs.Prelude.{ℕ, Bool, true, false, List, [], ◌∷◌, ◌++◌, length, Option, None, Some, decimal, codes}
 use Rattle.fix_fields.specs.Fields.{Entry, fields_text}
 use Rattle.fix_fields.specs.Forms.{price_text}
 use Rattle.sef_moment.specs.Utc.{utc_text}
@@ -28,6 +28,9 @@ use Rattle.fix_dictionary.specs.declared.messages.OrderCancelRequest.{OrderCance
 use Rattle.fix_dictionary.specs.declared.messages.OrderCancelReplaceRequest.{OrderCancelReplaceRequest}
 use Rattle.fix_dictionary.specs.declared.messages.ExecutionReport.{ExecutionReport}
 use Rattle.fix_dictionary.specs.declared.messages.OrderCancelReject.{OrderCancelReject}
+use Rattle.fix_dictionary.specs.declared.messages.MarketDataEntry.{MarketDataEntry}
+use Rattle.fix_dictionary.specs.declared.messages.MarketDataRequest.{MarketDataRequest}
+use Rattle.fix_dictionary.specs.declared.messages.MarketDataSnapshot.{MarketDataSnapshot}
 use Rattle.fix_dictionary.specs.declared.messages.MarketDataRequestReject.{MarketDataRequestReject}
 use Rattle.fix_dictionary.specs.declared.messages.BusinessMessageReject.{BusinessMessageReject}
 
@@ -214,6 +217,37 @@ business_message_reject_slots m =
     ∷ (58, m.text)
     ∷ []
 
+-- the slots of instances, one behind the other
+abbrev pub each_slots : {X : Type 0} → (X → List Slot) → List X → List Slot
+each_slots print [] = []
+each_slots print (x ∷ xs) = print x ++ each_slots print xs
+
+abbrev pub entry_type_slots : ℕ → List Slot
+entry_type_slots c = (269, Some (c ∷ [])) ∷ []
+
+abbrev pub market_data_request_slots : MarketDataRequest → List Slot
+market_data_request_slots m =
+    (262, Some m.request_id)
+    ∷ (263, Some (m.subscription_type ∷ []))
+    ∷ (264, Some (decimal m.depth))
+    ∷ (267, Some (decimal (length m.entry_types)))
+    ∷ (each_slots entry_type_slots m.entry_types ++ (146, Some (decimal 1)) ∷ (55, Some m.symbol) ∷ [])
+
+abbrev pub market_data_entry_slots : MarketDataEntry → List Slot
+market_data_entry_slots m =
+    (269, Some (m.entry_type ∷ []))
+    ∷ (270, given price_text m.price)
+    ∷ (271, given decimal m.size)
+    ∷ (278, m.order_id)
+    ∷ []
+
+abbrev pub market_data_snapshot_slots : MarketDataSnapshot → List Slot
+market_data_snapshot_slots m =
+    (262, Some m.request_id)
+    ∷ (55, Some m.symbol)
+    ∷ (268, Some (decimal (length m.entries)))
+    ∷ each_slots market_data_entry_slots m.entries
+
 abbrev pub app_kind : App → List ℕ
 app_kind (app.QuoteCancel m) = codes "Z"
 app_kind (app.QuoteResponse m) = codes "AJ"
@@ -233,7 +267,7 @@ app_kind (app.NewOrderCross m) = codes "s"
 app_kind (app.MarketDataRequest m) = codes "V"
 app_kind (app.MarketDataSnapshot m) = codes "W"
 
--- a type with groups is printed as its type alone, until it is read
+-- a type that is not read is printed as its type alone
 abbrev pub app_slots : App → List Slot
 app_slots (app.QuoteCancel m) = quote_cancel_slots m
 app_slots (app.QuoteResponse m) = quote_response_slots m
@@ -250,8 +284,8 @@ app_slots (app.QuoteRequest m) = []
 app_slots (app.Quote m) = []
 app_slots (app.QuoteRequestReject m) = []
 app_slots (app.NewOrderCross m) = []
-app_slots (app.MarketDataRequest m) = []
-app_slots (app.MarketDataSnapshot m) = []
+app_slots (app.MarketDataRequest m) = market_data_request_slots m
+app_slots (app.MarketDataSnapshot m) = market_data_snapshot_slots m
 
 abbrev pub admin_kind : Admin → List ℕ
 admin_kind (admin.Heartbeat m) = codes "0"

@@ -78,7 +78,12 @@ fn has_fault(fault: ValueFault, form: Option<Form>, value: &[u8]) -> bool
 }
 
 // The first field whose value has this fault.
-fn faulty(fault: ValueFault, header: &[Row], rows: &[Row], fields: &[Field]) -> Option<u32>
+pub(crate) fn faulty(
+    fault: ValueFault,
+    header: &[Row],
+    rows: &[Row],
+    fields: &[Field],
+) -> Option<u32>
     ensures { result ≡ faulty fault (header.now ++ rows.now) (entries fields.now) }
 {
     for field in fields {

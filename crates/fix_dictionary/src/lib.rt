@@ -4,9 +4,13 @@
 mod copy;
 mod faults;
 mod forms;
+mod group_faults;
+mod group_parts;
+mod group_print;
 mod lists;
 mod messages;
 mod parts;
+mod places;
 mod print;
 mod read;
 mod reading;

@@ -8,6 +8,7 @@ ghost use Rattle.fix_dictionary.specs.Fits.{Given, IsGraphic, IsMoment, FitsHead
 ghost use Rattle.fix_dictionary.specs.Printed.{printed, printed_option, slots};
 ghost use Rattle.fix_dictionary.specs.Text.{with_slot, fields_of, slots_text, given, flag_text, side_text, app_kind, app_slots, admin_kind, admin_slots, body_kind, body_slots, message_slots, message_text, app_text, header_slots, heartbeat_slots, test_request_slots, resend_request_slots, reject_slots, sequence_reset_slots, logout_slots, logon_slots, quote_cancel_slots, quote_response_slots, quote_status_report_slots, new_order_single_slots, order_cancel_request_slots, order_cancel_replace_request_slots, execution_report_slots, order_cancel_reject_slots, market_data_request_reject_slots, business_message_reject_slots};
 
+use crate::group_print::{print_market_data_request, print_market_data_snapshot};
 use crate::messages::{
     Admin, App, Body, BusinessMessageReject, ExecutionReport, Header, Heartbeat, Logon, Logout,
     MarketDataRequestReject, Message, NewOrderSingle, OrderCancelReject, OrderCancelReplaceRequest,
@@ -67,7 +68,7 @@ fn append_optional(out: &mut Vec<u8>, slot: &Slot) -> Result<(), AllocError>
     }
 }
 
-fn append_slots(out: &mut Vec<u8>, list: &[Slot]) -> Result<(), AllocError>
+pub(crate) fn append_slots(out: &mut Vec<u8>, list: &[Slot]) -> Result<(), AllocError>
     ensures { Appends out.old.items out.new.items (slots_text (slots list.now)) result }
 {
     for slot in list {
@@ -85,7 +86,7 @@ fn printed_side<'a>(side: Side) -> Printed<'a>
     }
 }
 
-fn printed_identifier<'a>(v: &'a Option<Identifier>) -> Option<Printed<'a>>
+pub(crate) fn printed_identifier<'a>(v: &'a Option<Identifier>) -> Option<Printed<'a>>
     ensures value { printed_option result ≡ v.now }
     ensures fits { Given (IsText 64) v.now }
 {
@@ -125,7 +126,7 @@ fn printed_quantity<'a>(v: Option<Quantity>) -> Option<Printed<'a>>
     }
 }
 
-fn printed_price<'a>(v: Option<Price>) -> Option<Printed<'a>>
+pub(crate) fn printed_price<'a>(v: Option<Price>) -> Option<Printed<'a>>
     ensures value { printed_option result ≡ given price_text v }
     ensures fits { Given IsPrice v }
 {
@@ -512,12 +513,10 @@ fn append_app(out: &mut Vec<u8>, message: &App) -> Result<(), AllocError>
         App::OrderCancelReject(m) => print_order_cancel_reject(out, m),
         App::MarketDataRequestReject(m) => print_market_data_request_reject(out, m),
         App::BusinessMessageReject(m) => print_business_message_reject(out, m),
-        App::QuoteRequest(_)
-        | App::Quote(_)
-        | App::QuoteRequestReject(_)
-        | App::NewOrderCross(_)
-        | App::MarketDataRequest(_)
-        | App::MarketDataSnapshot(_) => Ok(()),
+        App::QuoteRequest(_) | App::Quote(_) | App::QuoteRequestReject(_) | App::NewOrderCross(_) =>
+            Ok(()),
+        App::MarketDataRequest(m) => print_market_data_request(out, m),
+        App::MarketDataSnapshot(m) => print_market_data_snapshot(out, m),
         App::Unsupported(kind) => {
             let _ = kind.as_slice();
             Ok(())

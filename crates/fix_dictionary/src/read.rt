@@ -1,13 +1,15 @@
 //! Reads messages.
-ghost use Rattle.std.specs.Prelude.{◌≡◌, ◌++◌, ◌⊎◌, ◌≤◌, true, List, length, IfOk, MatchResult};
+ghost use Rattle.std.specs.Prelude.{◌≡◌, ◌++◌, ◌⊎◌, ◌≤◌, true, false, None, List, length, IfOk, MatchResult};
 ghost use Rattle.fix_fields.specs.Fields.{Entry, value_of, AreFields, fields_text};
 ghost use Rattle.fix_dictionary.specs.Tables.{header_rows, rows_of};
 ghost use Rattle.fix_dictionary.specs.Holding.{Holds};
-ghost use Rattle.fix_dictionary.specs.Kinds.{type_of};
+ghost use Rattle.fix_dictionary.specs.GroupHolding.{Clean};
+ghost use Rattle.fix_dictionary.specs.Places.{places};
+ghost use Rattle.fix_dictionary.specs.Kinds.{type_of, is_grouped};
 ghost use Rattle.fix_dictionary.specs.Faults.{first_fault};
 ghost use Rattle.fix_dictionary.specs.Told.{bytes_at};
 ghost use Rattle.fix_dictionary.specs.Values.{IsText};
-ghost use Rattle.fix_dictionary.specs.Messages.{body_in, type_in, begin_in, fault_in, message_in, Spells, HasFault, IsFault};
+ghost use Rattle.fix_dictionary.specs.Messages.{body_in, type_in, begin_in, fault_in, fault_as_type, message_as, message_in, placed_as, Spells, HasFault, IsFault};
 ghost use Rattle.fix_dictionary.specs.Applications.{IsApp, plain_header, app_fault_in, SpellsApp};
 ghost use Rattle.fix_fields.specs.Views.{entries};
 ghost use Rattle.fix_dictionary.specs.declared.messages.Message.{Message};
@@ -16,11 +18,15 @@ ghost use Rattle.fix_dictionary.specs.Fits.{FitsMessage, FitsBody, is_read};
 ghost use Rattle.fix_dictionary.specs.Text.{fields_of, message_slots, message_text, app_text};
 
 use crate::faults::{DictFault, first_fault};
+use crate::group_faults::placed_fault;
 use crate::messages::{Admin, App, Body, Message};
-use crate::parts;
+use crate::places::{Standing, part, placed};
 use crate::reading::{begin_in, bytes_at};
-use crate::table::{MessageType, header, is_session, resend_request_rows, rows_of, type_of};
+use crate::table::{
+    MessageType, header, is_grouped, is_session, resend_request_rows, rows_of, type_of,
+};
 use crate::values::OtherKind;
+use crate::{group_parts, parts};
 use fix_fields::{Field, Fields};
 use std::alloc::{AllocError, Global};
 
@@ -31,6 +37,7 @@ fn body_in(
     fields: &[Field],
 ) -> Result<Body, AllocError>
     requires holds { Holds (rows_of kind begin) (entries fields.now) }
+    requires flat { is_grouped kind ≡ false }
     requires kind { kind ≡ type_in (entries fields.now) }
     requires begin { begin ≡ begin_in (entries fields.now) }
     requires text { IsText 64 (bytes_at 35 (entries fields.now)) }
@@ -84,6 +91,7 @@ fn body_in(
             alloc,
             bytes_at(fields, 35),
         )?)),
+        MessageType::MarketDataRequest | MessageType::MarketDataSnapshot => unreachable!(),
     })
 }
 
@@ -94,14 +102,72 @@ fn message_in(
     fields: &[Field],
 ) -> Result<Message, AllocError>
     requires holds { Holds (header_rows ++ rows_of kind begin) (entries fields.now) }
+    requires flat { is_grouped kind ≡ false }
     requires kind { kind ≡ type_in (entries fields.now) }
     requires begin { begin ≡ begin_in (entries fields.now) }
-    ensures { IfOk result (λ m. m ≡ message_in (entries fields.now)) }
+    ensures { IfOk result (λ m. m ≡ message_as kind (entries fields.now)) }
 {
     Ok(Message {
         header: parts::header(alloc, fields)?,
         body: body_in(alloc, kind, begin, fields)?,
     })
+}
+
+// What is behind the header of a message with groups.
+fn grouped_body(
+    alloc: Global,
+    kind: MessageType,
+    fields: &[Field],
+    placed: &[Standing],
+) -> Result<Body, AllocError>
+    requires grouped { is_grouped kind ≡ true }
+    requires placed { places placed.now ≡ placed_as kind (entries fields.now) }
+    requires clean { Clean header_rows (rows_of kind 0) (places placed.now) }
+    ensures { IfOk result (λ b. b ≡ body_in kind (entries fields.now)) }
+{
+    Ok(Body::App(match kind {
+        MessageType::MarketDataRequest => App::MarketDataRequest(group_parts::market_data_request(
+            alloc, placed,
+        )?),
+        MessageType::MarketDataSnapshot => App::MarketDataSnapshot(
+            group_parts::market_data_snapshot(alloc, placed)?,
+        ),
+        _ => unreachable!(),
+    }))
+}
+
+fn grouped_message(
+    alloc: Global,
+    kind: MessageType,
+    fields: &[Field],
+    placed: &[Standing],
+) -> Result<Message, AllocError>
+    requires grouped { is_grouped kind ≡ true }
+    requires placed { places placed.now ≡ placed_as kind (entries fields.now) }
+    requires clean { Clean header_rows (rows_of kind 0) (places placed.now) }
+    ensures { IfOk result (λ m. m ≡ message_as kind (entries fields.now)) }
+{
+    let outside = part(alloc, placed, 0)?;
+    Ok(Message {
+        header: parts::header(alloc, &outside)?,
+        body: grouped_body(alloc, kind, fields, placed)?,
+    })
+}
+
+fn read_grouped(alloc: Global, kind: MessageType, fields: &[Field]) -> Result<Message, DictFault>
+    requires { is_grouped kind ≡ true }
+    ensures { MatchResult result (λ m. (fault_as_type kind (entries fields.now) ≡ None) × (m ≡ message_as kind (entries fields.now))) (IsFault (fault_as_type kind (entries fields.now))) }
+{
+    let Ok(placed) = placed(alloc, header(), rows_of(kind), fields) else {
+        return Err(DictFault::NoMemory);
+    };
+    match placed_fault(header(), rows_of(kind), &placed, fields) {
+        Some(found) => Err(found),
+        None => match grouped_message(alloc, kind, fields, &placed) {
+            Ok(message) => Ok(message),
+            Err(_) => Err(DictFault::NoMemory),
+        },
+    }
 }
 
 // The first fault, by the header's table and that of the type.
@@ -118,6 +184,9 @@ fn read_fields(alloc: Global, fields: &[Field]) -> Result<Message, DictFault>
     ensures { MatchResult result (λ m. Spells m (entries fields.now)) (IsFault (fault_in (entries fields.now))) }
 {
     let kind = type_of(bytes_at(fields, 35));
+    if is_grouped(kind) {
+        return read_grouped(alloc, kind, fields);
+    }
     let begin = begin_in(fields);
     match fault_in(kind, begin, fields) {
         Some(fault) => Err(fault),

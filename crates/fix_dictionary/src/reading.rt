@@ -163,12 +163,27 @@ pub(crate) fn optional_quantity(fields: &[Field], tag: u32) -> Option<Quantity>
     }
 }
 
+fn amount_in(bytes: &[u8]) -> Amount
+    ensures { result ≡ amount_in bytes.now }
+{
+    match read_amount(bytes) {
+        Ok(amount) => Amount::new(amount),
+        Err(_) => Amount::new(0),
+    }
+}
+
 pub(crate) fn amount(fields: &[Field], tag: u32) -> Amount
     ensures { result ≡ amount_in (bytes_at tag (entries fields.now)) }
 {
-    match read_amount(bytes_at(fields, tag)) {
-        Ok(amount) => Amount::new(amount),
-        Err(_) => Amount::new(0),
+    amount_in(bytes_at(fields, tag))
+}
+
+pub(crate) fn optional_amount(fields: &[Field], tag: u32) -> Option<Amount>
+    ensures { result ≡ told amount_in (value_of tag (entries fields.now)) }
+{
+    match value_of(fields, tag) {
+        Some(bytes) => Some(amount_in(bytes)),
+        None => None,
     }
 }
 

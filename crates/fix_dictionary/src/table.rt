@@ -1,7 +1,7 @@
 //! The table of each message type: its tags in printed order, with their forms.
-ghost use Rattle.std.specs.Prelude.{◌≡◌, ℕ, false};
+ghost use Rattle.std.specs.Prelude.{◌≡◌, ℕ, true, false};
 ghost use Rattle.fix_dictionary.specs.Tables.{header_rows, resend_request_rows, rows_of};
-ghost use Rattle.fix_dictionary.specs.Kinds.{type_of, is_session, is_resend_request};
+ghost use Rattle.fix_dictionary.specs.Kinds.{type_of, is_session, is_grouped, is_resend_request};
 
 /// How a value is written.
 #[derive(Clone, Copy)]
@@ -59,6 +59,30 @@ macro_rules! takes {
     };
 }
 
+// A row that each instance of a group has.
+macro_rules! needs_inside {
+    ($group:expr, $tag:expr, $form:expr) => {
+        Row {
+            tag: $tag,
+            required: true,
+            form: $form,
+            group: $group,
+        }
+    };
+}
+
+// A row that an instance of a group may have.
+macro_rules! takes_inside {
+    ($group:expr, $tag:expr, $form:expr) => {
+        Row {
+            tag: $tag,
+            required: false,
+            form: $form,
+            group: $group,
+        }
+    };
+}
+
 /// The type of a message.
 #[derive(Clone, Copy)]
 pub(crate) enum MessageType {
@@ -92,6 +116,10 @@ pub(crate) enum MessageType {
     ExecutionReport,
     /// `9`
     OrderCancelReject,
+    /// `V`
+    MarketDataRequest,
+    /// `W`
+    MarketDataSnapshot,
     /// `Y`
     MarketDataRequestReject,
     /// `j`
@@ -211,6 +239,26 @@ const ORDER_CANCEL_REJECT: [Row; 7] = [
     takes!(58, Form::Printable),
 ];
 
+const MARKET_DATA_REQUEST: [Row; 7] = [
+    needs!(262, Form::Identifier),
+    needs!(263, Form::Character),
+    needs!(264, Form::Integer(0, 999_999_999)),
+    needs!(267, Form::Integer(1, 64)),
+    needs_inside!(267, 269, Form::Character),
+    needs!(146, Form::Integer(1, 1)),
+    needs_inside!(146, 55, Form::Identifier),
+];
+
+const MARKET_DATA_SNAPSHOT: [Row; 7] = [
+    needs!(262, Form::Identifier),
+    needs!(55, Form::Identifier),
+    needs!(268, Form::Integer(1, 400)),
+    needs_inside!(268, 269, Form::Character),
+    takes_inside!(268, 270, Form::Price),
+    takes_inside!(268, 271, Form::Amount),
+    takes_inside!(268, 278, Form::Identifier),
+];
+
 const MARKET_DATA_REQUEST_REJECT: [Row; 3] = [
     needs!(262, Form::Identifier),
     needs!(281, Form::Character),
@@ -243,7 +291,8 @@ pub(crate) fn resend_request_rows(begin: u32) -> [Row; 2]
 
 /// The rows of a type, other than a resend request.
 pub(crate) fn rows_of(kind: MessageType) -> &'static [Row]
-    ensures { (begin : ℕ) → is_resend_request kind ≡ false → result.now ≡ rows_of kind begin }
+    ensures flat { (begin : ℕ) → is_resend_request kind ≡ false → result.now ≡ rows_of kind begin }
+    ensures grouped { is_grouped kind ≡ true → result.now ≡ rows_of kind 0 }
 {
     match kind {
         MessageType::Heartbeat => &HEARTBEAT,
@@ -260,6 +309,8 @@ pub(crate) fn rows_of(kind: MessageType) -> &'static [Row]
         MessageType::OrderCancelReplaceRequest => &ORDER_CANCEL_REPLACE_REQUEST,
         MessageType::ExecutionReport => &EXECUTION_REPORT,
         MessageType::OrderCancelReject => &ORDER_CANCEL_REJECT,
+        MessageType::MarketDataRequest => &MARKET_DATA_REQUEST,
+        MessageType::MarketDataSnapshot => &MARKET_DATA_SNAPSHOT,
         MessageType::MarketDataRequestReject => &MARKET_DATA_REQUEST_REJECT,
         MessageType::BusinessMessageReject => &BUSINESS_MESSAGE_REJECT,
         MessageType::ResendRequest | MessageType::Unsupported => &[],
@@ -286,6 +337,8 @@ pub(crate) fn type_of(kind: &[u8]) -> MessageType
         b"G" => MessageType::OrderCancelReplaceRequest,
         b"8" => MessageType::ExecutionReport,
         b"9" => MessageType::OrderCancelReject,
+        b"V" => MessageType::MarketDataRequest,
+        b"W" => MessageType::MarketDataSnapshot,
         b"Y" => MessageType::MarketDataRequestReject,
         b"j" => MessageType::BusinessMessageReject,
         _ => MessageType::Unsupported,
@@ -305,5 +358,15 @@ pub(crate) fn is_session(kind: MessageType) -> bool
             | MessageType::SequenceReset
             | MessageType::Logout
             | MessageType::Logon
+    )
+}
+
+/// Whether messages of the type have repeating groups.
+pub(crate) fn is_grouped(kind: MessageType) -> bool
+    ensures { result ≡ is_grouped kind }
+{
+    matches!(
+        kind,
+        MessageType::MarketDataRequest | MessageType::MarketDataSnapshot
     )
 }

@@ -1,4 +1,4 @@
-use Rattle.std.specs.Prelude.{ℕ, ◌≤◌, ◌^◌, Bool, true, false, List, [], ◌∷◌, ◌++◌, length, if◌then◌else◌}
+use Rattle.std.specs.Prelude.{◌≡◌, ℕ, ◌≤◌, ◌^◌, Bool, true, false, List, [], ◌∷◌, ◌++◌, length, if◌then◌else◌}
 use Rattle.fix_dictionary.specs.declared.messages.App.{App}
 use Rattle.fix_dictionary.specs.declared.messages.App.TheVariants.{QuoteRequest, Quote, QuoteCancel, QuoteResponse, QuoteStatusReport, QuoteRequestReject, NewOrderSingle, OrderCancelRequest, OrderCancelReplaceRequest, NewOrderCross, ExecutionReport, OrderCancelReject, MarketDataRequest, MarketDataSnapshot, MarketDataRequestReject, BusinessMessageReject, Unsupported}
 use Rattle.venue_rules.specs.declared.refusals.BusinessRefusal.TheVariants.{UnsupportedMessageType}
@@ -11,7 +11,7 @@ use Rattle.venue_rules.specs.Run.{Input, Message, Tick, Outcome, after, answer_i
 use Rattle.venue_core.specs.Listed.{IsMade}
 use Rattle.venue_core.specs.State.{State}
 
--- the message types that are not served yet; what only the venue sends, and a type that is none of the venue's, has its answer
+-- the messages of a type that has its answer by the rules; those of what only the venue sends are answered as of no supported type
 abbrev pub is_served : App → Bool
 is_served (NewOrderSingle d) = true
 is_served (OrderCancelRequest d) = true
@@ -44,6 +44,14 @@ unfoldable pub served_answer : Market → History → Input → Answer
 served_answer m h (Message taken t) = served_message m h taken t
 served_answer m h (Tick t) = answer_input m h (Tick t)
 
+-- a message as it is served: one of a type that is not served stands as one of no supported type, of the same name
+abbrev pub as_served : Taken → Taken
+as_served taken = if is_served taken.item.app then taken else record { from = taken.from; item = record { number = taken.item.number; app = Unsupported (type_of taken.item.app) } }
+
+abbrev pub served_input : Input → Input
+served_input (Message taken t) = Message (as_served taken) t
+served_input (Tick t) = Tick t
+
 -- what inputs lead to from a history on: each in turn has its answer, and the next is answered after it
 abbrev pub served_run_from : Market → History → List Input → Outcome
 served_run_from m h [] = record { history = h; replies = [] }
@@ -64,7 +72,9 @@ one_more m o i = let a = served_answer m o.history i in record { history = after
 abbrev pub most_items : ℕ
 most_items = 10 ^ 15
 
--- the answer was planned from this state, and there is room for what it adds
+-- the answer is that to an input at this state, and there is room for what it adds
 pub record IsPlanOf (state : State) (a : Answer) : Type 0 where
+  pub input : Input
+  pub answers : a ≡ served_answer state.market state.history input
   pub made : IsMade (length state.market.instruments) (record { facts = state.history.facts; spare = state.spare }) a.facts
   pub items : state.items ≤ most_items

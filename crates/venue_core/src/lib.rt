@@ -15,7 +15,7 @@ mod reports;
 mod unprocessed;
 mod venue;
 
-pub use laws::served_run_goes_on;
+pub use laws::{served_run_goes_on, served_run_is_lawful};
 pub use plan::Plan;
 pub use report_writer::message_of;
 pub use venue::Venue;

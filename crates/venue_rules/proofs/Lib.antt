@@ -46,3 +46,4 @@ pub mod EveryRun
 pub mod EveryRoomTrade
 pub mod AmountLemmas
 pub mod NameLemmas
+pub mod RowLemmas

@@ -34,6 +34,8 @@ pub mod Messages
 pub mod Run
 -- what is reported over a list of inputs
 pub mod Reported
+-- the inputs that rows tell of
+pub mod ReadBack
 -- what every list of inputs keeps
 pub mod Lawful
 pub mod RoomTrades

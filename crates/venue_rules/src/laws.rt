@@ -4,6 +4,7 @@ ghost use Rattle.std.specs.Prelude.{List};
 ghost use Rattle.venue_rules.specs.Amounts.{AmountsStayWithin, FillsAreWithin, PrintedNumbersAreIdentifiers};
 ghost use Rattle.venue_rules.specs.Lawful.{BestOrderTrades, EveryRunIsLawful, LinkedOrdersWait, NumbersArePlaces, OrdersTradeWithin, PricesComeWithFirstQuote, RecipientsAskedTogether, RequestsComeFirst};
 ghost use Rattle.venue_rules.specs.Market.{Market};
+ghost use Rattle.venue_rules.specs.ReadBack.{RowsAreReadBack};
 ghost use Rattle.venue_rules.specs.Reported.{ReportsAreNumbered, TradesAreReported};
 ghost use Rattle.venue_rules.specs.RoomTrades.{RoomTradesAreLawful};
 ghost use Rattle.venue_rules.specs.Run.{Input, run};
@@ -55,4 +56,9 @@ pub fn fills_are_within()
 /// The identifiers that the venue prints for its numbers have the form of an identifier.
 pub fn printed_numbers_are_identifiers()
     ensures { PrintedNumbersAreIdentifiers }
+{}
+
+/// The rows of a list of inputs give the list back, by whatever reads the texts of its messages back.
+pub fn every_row_is_read_back()
+    ensures { RowsAreReadBack }
 {}

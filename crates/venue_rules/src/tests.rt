@@ -1,8 +1,8 @@
 use crate::{
     PictureEntries, Recipients, RowText, Shown, Who, amounts_stay_within,
     every_book_trade_is_lawful, every_report_is_numbered, every_room_trade_is_lawful,
-    every_run_is_lawful, fills_are_within, fixture_instruments, fixture_participants,
-    name_identifier, printed_numbers_are_identifiers, symbol_identifier,
+    every_row_is_read_back, every_run_is_lawful, fills_are_within, fixture_instruments,
+    fixture_participants, name_identifier, printed_numbers_are_identifiers, symbol_identifier,
 };
 use std::test::Fail;
 
@@ -54,6 +54,7 @@ fn laws_are_called() {
     every_room_trade_is_lawful();
     every_book_trade_is_lawful();
     every_report_is_numbered();
+    every_row_is_read_back();
     amounts_stay_within();
     fills_are_within();
     printed_numbers_are_identifiers();

@@ -1,0 +1,29 @@
+use Rattle.std.specs.Prelude.{◌≡◌, ℕ, Bool, true, nat_le, List, [], ◌∷◌, length, Option}
+use Rattle.venue_rules.specs.declared.facts.Fact.{Fact}
+use Rattle.venue_rules.specs.declared.facts.Fact.TheVariants.{Held, Unheld}
+use Rattle.venue_rules.specs.declared.facts.HeldSide.{HeldSide}
+use Rattle.venue_rules.specs.Delay.{held, held_room}
+use Rattle.cross_delay.specs.declared.held.Refusal.{Refusal}
+use Rattle.cross_delay.specs.declared.held.Refusal.TheVariants.{Full, NoMemory}
+use Rattle.cross_delay.specs.Plan.{Plan}
+
+-- no more sides may be held
+abbrev pub is_full : List Fact → Bool
+is_full facts = nat_le held_room (length (held facts))
+
+-- a plan that changes nothing
+abbrev pub no_plan : Plan
+no_plan = record { facts = [] }
+
+-- the plan of a side that is held
+abbrev pub hold_plan : HeldSide → Plan
+hold_plan h = record { facts = Held h ∷ [] }
+
+-- the plan of a side that is held no longer: a cancel of this identifier took it away, or, with none, its moment came
+abbrev pub drop_plan : ℕ → List ℕ → Option (List ℕ) → Plan
+drop_plan who id cancel = record { facts = Unheld (record { who = who; id = id; cancel = cancel }) ∷ [] }
+
+-- why a side is not held
+abbrev pub IsHoldRefused : List Fact → Refusal → Type 0
+IsHoldRefused facts Full = is_full facts ≡ true
+IsHoldRefused facts NoMemory = Unit {0}

@@ -1,0 +1,51 @@
+//! What a request adds to the held sides, before it does.
+ghost use Rattle.std.specs.Prelude.{◌≡◌};
+ghost use Rattle.cross_delay.specs.Plans.{no_plan};
+
+use std::alloc::Global;
+use std::marker::Model;
+use venue_rules::Fact;
+
+/// The facts that a request adds to the held sides.
+#[derive(Drop)]
+pub struct HoldPlan {
+    facts: Vec<Fact>,
+}
+
+impl Model for HoldPlan {
+    ghost use Rattle.cross_delay.specs.Plan.{Plan};
+
+    ghost Value = { Plan };
+
+    ghost view = { λ p. record { facts = p.facts.items } };
+}
+
+impl HoldPlan {
+    pub(crate) fn of(facts: Vec<Fact>) -> HoldPlan
+        ensures { result ≡ record { facts = facts.items } }
+    {
+        HoldPlan { facts }
+    }
+
+    /// A plan that changes nothing.
+    pub fn nothing(alloc: Global) -> HoldPlan
+        ensures { result ≡ no_plan }
+    {
+        HoldPlan {
+            facts: Vec::new(alloc),
+        }
+    }
+
+    /// The facts that are added.
+    pub fn facts(&self) -> &[Fact]
+        ensures { result.now ≡ self.now.facts }
+    {
+        &self.facts
+    }
+
+    pub(crate) fn into_facts(self) -> Vec<Fact>
+        ensures { result.items ≡ self.facts }
+    {
+        self.facts
+    }
+}

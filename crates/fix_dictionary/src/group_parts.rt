@@ -1,0 +1,153 @@
+//! Reads each message type with repeating groups from fields in which its table found no fault.
+ghost use Rattle.std.specs.Prelude.{◌≡◌, ◌≤◌, IfOk, map, length};
+ghost use Rattle.fix_fields.specs.Views.{entries};
+ghost use Rattle.fix_dictionary.specs.Tables.{header_rows, entry_type_rows, instrument_rows, market_data_entry_rows, market_data_request_rows, market_data_snapshot_rows};
+ghost use Rattle.fix_dictionary.specs.Holding.{Holds};
+ghost use Rattle.fix_dictionary.specs.GroupHolding.{members, Clean, EachHolds};
+ghost use Rattle.fix_dictionary.specs.Places.{places, part, begins, instances, sole};
+ghost use Rattle.fix_dictionary.specs.Values.{FitsEntryTypes, FitsEntries};
+ghost use Rattle.fix_dictionary.specs.Told.{bytes_at, character_in, number_in};
+ghost use Rattle.fix_dictionary.specs.Messages.{entry_type, market_data_entry, market_data_request, market_data_snapshot};
+
+use crate::lists::{EntryTypes, MarketDataEntries};
+use crate::messages::{MarketDataEntry, MarketDataRequest, MarketDataSnapshot};
+use crate::places::{Standing, begins, part};
+use crate::reading::{
+    character, identifier, number, optional_amount, optional_identifier, optional_price,
+};
+use crate::values::{FixChar, Identifier};
+use fix_fields::Field;
+use std::alloc::{AllocError, Global};
+
+fn market_data_entry(alloc: Global, fields: &[Field]) -> Result<MarketDataEntry, AllocError>
+    requires { Holds market_data_entry_rows (entries fields.now) }
+    ensures { IfOk result (λ m. m ≡ market_data_entry (entries fields.now)) }
+{
+    Ok(MarketDataEntry {
+        entry_type: character(fields, 269),
+        price: optional_price(fields, 270),
+        size: optional_amount(fields, 271),
+        order_id: optional_identifier(alloc, fields, 278)?,
+    })
+}
+
+fn market_data_entries(
+    alloc: Global,
+    placed: &[Standing],
+) -> Result<Vec<MarketDataEntry>, AllocError>
+    requires { EachHolds market_data_entry_rows 269 0 (places placed.now) }
+    ensures { IfOk result (λ list. list.items ≡ map market_data_entry (instances 269 0 (places placed.now))) }
+{
+    let begins = begins(alloc, placed, 269, 0)?;
+    let mut list = Vec::new(alloc);
+    for begin in &begins {
+        let fields = part(alloc, placed, *begin)?;
+        list.push(market_data_entry(alloc, &fields)?)?;
+    }
+    Ok(list)
+}
+
+fn entry_types(alloc: Global, placed: &[Standing]) -> Result<Vec<FixChar>, AllocError>
+    requires { EachHolds entry_type_rows 269 0 (places placed.now) }
+    ensures { IfOk result (λ list. list.items ≡ map entry_type (instances 269 0 (places placed.now))) }
+{
+    let begins = begins(alloc, placed, 269, 0)?;
+    let mut list = Vec::new(alloc);
+    for begin in &begins {
+        let fields = part(alloc, placed, *begin)?;
+        list.push(character(&fields, 269))?;
+    }
+    Ok(list)
+}
+
+// The fields of the only instance of a group outside of groups.
+fn sole<'a>(
+    alloc: Global,
+    placed: &[Standing<'a>],
+    first: u32,
+) -> Result<Vec<Field<'a>>, AllocError>
+    ensures { IfOk result (λ fields. entries fields.items ≡ sole first (places placed.now)) }
+{
+    let begins = begins(alloc, placed, first, 0)?;
+    match begins.as_slice() {
+        [begin, ..] => part(alloc, placed, *begin),
+        [] => Ok(Vec::new(alloc)),
+    }
+}
+
+// The instrument that a group names.
+fn symbol(alloc: Global, placed: &[Standing]) -> Result<Identifier, AllocError>
+    requires { Holds instrument_rows (sole 55 (places placed.now)) }
+    ensures { IfOk result (λ id. id ≡ bytes_at 55 (sole 55 (places placed.now))) }
+{
+    let fields = sole(alloc, placed, 55)?;
+    identifier(alloc, &fields, 55)
+}
+
+fn request_of(
+    alloc: Global,
+    fields: &[Field],
+    list: EntryTypes,
+    symbol: Identifier,
+) -> Result<MarketDataRequest, AllocError>
+    requires { Holds (members 0 market_data_request_rows) (entries fields.now) }
+    ensures { IfOk result (λ m. m ≡ record {
+      request_id = bytes_at 262 (entries fields.now);
+      subscription_type = character_in (bytes_at 263 (entries fields.now));
+      depth = number_in (bytes_at 264 (entries fields.now));
+      entry_types = list;
+      symbol = symbol;
+    }) }
+{
+    Ok(MarketDataRequest {
+        request_id: identifier(alloc, fields, 262)?,
+        subscription_type: character(fields, 263),
+        depth: number(fields, 264),
+        entry_types: list,
+        symbol,
+    })
+}
+
+pub(crate) fn market_data_request(
+    alloc: Global,
+    placed: &[Standing],
+) -> Result<MarketDataRequest, AllocError>
+    requires { Clean header_rows market_data_request_rows (places placed.now) }
+    ensures { IfOk result (λ m. m ≡ market_data_request (places placed.now)) }
+{
+    let fields = part(alloc, placed, 0)?;
+    let list = EntryTypes::from_vec(entry_types(alloc, placed)?);
+    let symbol = symbol(alloc, placed)?;
+    request_of(alloc, &fields, list, symbol)
+}
+
+fn snapshot_of(
+    alloc: Global,
+    fields: &[Field],
+    list: MarketDataEntries,
+) -> Result<MarketDataSnapshot, AllocError>
+    requires { Holds (members 0 market_data_snapshot_rows) (entries fields.now) }
+    ensures { IfOk result (λ m. m ≡ record {
+      request_id = bytes_at 262 (entries fields.now);
+      symbol = bytes_at 55 (entries fields.now);
+      entries = list;
+    }) }
+{
+    Ok(MarketDataSnapshot {
+        request_id: identifier(alloc, fields, 262)?,
+        symbol: identifier(alloc, fields, 55)?,
+        entries: list,
+    })
+}
+
+pub(crate) fn market_data_snapshot(
+    alloc: Global,
+    placed: &[Standing],
+) -> Result<MarketDataSnapshot, AllocError>
+    requires { Clean header_rows market_data_snapshot_rows (places placed.now) }
+    ensures { IfOk result (λ m. m ≡ market_data_snapshot (places placed.now)) }
+{
+    let fields = part(alloc, placed, 0)?;
+    let list = MarketDataEntries::from_vec(market_data_entries(alloc, placed)?);
+    snapshot_of(alloc, &fields, list)
+}

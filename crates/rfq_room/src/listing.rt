@@ -1,0 +1,30 @@
+//! What the instrument file says of an instrument.
+ghost use Rattle.std.specs.Prelude.{◌≡◌, ◌<◌, true, false, length, nat_lt, MatchOption};
+ghost use Rattle.instruments.specs.Listing.{instrument_of, is_unknown_instrument, least_of};
+
+use fix_dictionary::{Identifier, Quantity};
+use instruments::Instruments;
+
+/// The instrument of a symbol, by its place in the file.
+pub(crate) fn instrument_of(instruments: &Instruments, symbol: &Identifier) -> Option<u32>
+    ensures { MatchOption result (is_unknown_instrument instruments.now symbol.now ≡ true) (λ x. (x ≡ instrument_of instruments.now symbol.now) × (x < length instruments.now) × (is_unknown_instrument instruments.now symbol.now ≡ false)) }
+{
+    instruments.find(symbol.as_slice())
+}
+
+/// The instrument of a symbol that is listed.
+pub(crate) fn listed_instrument(instruments: &Instruments, symbol: &Identifier) -> u32
+    requires { is_unknown_instrument instruments.now symbol.now ≡ false }
+    ensures value { result ≡ instrument_of instruments.now symbol.now }
+    ensures listed { result < length instruments.now }
+{
+    instrument_of(instruments, symbol).unwrap()
+}
+
+/// Whether a quantity is below the instrument's least.
+pub(crate) fn is_below_least(instruments: &Instruments, instrument: u32, quantity: Quantity) -> bool
+    requires { instrument < length instruments.now }
+    ensures { result ≡ nat_lt quantity (least_of instruments.now instrument) }
+{
+    quantity.get() < instruments.get(instrument).least
+}

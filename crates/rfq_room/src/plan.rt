@@ -1,0 +1,57 @@
+//! What a request adds to the rooms, before it does.
+ghost use Rattle.std.specs.Prelude.{◌≡◌, [], option_map, slice_get};
+
+use crate::decision::Hit;
+use std::marker::Model;
+use venue_rules::{Fact, RoomQuote};
+
+/// What a request adds to the rooms: its facts, the quotes that it withdraws, and the hit that it is.
+#[derive(Drop)]
+pub struct RoomPlan {
+    facts: Vec<Fact>,
+    quotes: Vec<RoomQuote>,
+    hit: Option<Hit>,
+}
+
+impl Model for RoomPlan {
+    ghost use Rattle.rfq_room.specs.Plan.{Plan};
+
+    ghost Value = { Plan };
+
+    ghost view = { λ p. record { facts = p.facts.items; quotes = p.quotes.items; hit = p.hit } };
+}
+
+impl RoomPlan {
+    pub(crate) fn of(facts: Vec<Fact>, quotes: Vec<RoomQuote>, hit: Option<Hit>) -> RoomPlan
+        ensures { result ≡ record { facts = facts.items; quotes = quotes.items; hit = hit } }
+    {
+        RoomPlan { facts, quotes, hit }
+    }
+
+    /// The facts that the rooms gain.
+    pub fn facts(&self) -> &[Fact]
+        ensures { result.now ≡ self.now.facts }
+    {
+        &self.facts
+    }
+
+    /// The quotes that a withdrawal takes away, by their numbers.
+    pub fn quotes(&self) -> &[RoomQuote]
+        ensures { result.now ≡ self.now.quotes }
+    {
+        &self.quotes
+    }
+
+    /// The hit that an answer to a quote is; none where it is a pass.
+    pub fn hit(&self) -> Option<Hit>
+        ensures { result ≡ self.now.hit }
+    {
+        self.hit
+    }
+
+    pub(crate) fn into_facts(self) -> Vec<Fact>
+        ensures { result.items ≡ self.facts }
+    {
+        self.facts
+    }
+}

@@ -1,0 +1,230 @@
+//! A quote in a room (Quote, S).
+ghost use Rattle.std.specs.Prelude.{◌≡◌, ◌<◌, ◌==◌, None, IfOk, IfErr, length, nat_lt, not, true};
+ghost use Rattle.venue_rules.specs.Quotes.{is_absent_or, is_crossed, is_price_off_tick, lacks_price, quote_end};
+ghost use Rattle.rfq_room.specs.Causes.{quote_cause, quote_causes, terms_causes};
+ghost use Rattle.rfq_room.specs.Kept.{are_listed};
+ghost use Rattle.rfq_room.specs.Plans.{IsQuotePlanned, quote_made, quote_plan};
+ghost use Rattle.rfq_room.specs.Refusals.{IsQuoteRefused};
+ghost use Rattle.rfq_room.specs.Views.{first_cause};
+
+use crate::plan::RoomPlan;
+use crate::quotes::{is_quote_id_used, next_quote};
+use crate::recipients::is_among;
+use crate::refusal::{Refusal, quote_refusal};
+use crate::requests::{find_room, is_open};
+use fix_dictionary::{FixChar, Price, Quantity, Quote, Side};
+use instruments::Instruments;
+use participants::{Participants, Who};
+use sef_moment::Moment;
+use std::alloc::{AllocError, Global};
+use venue_rules::{Fact, QuoteRefusal, Room, RoomQuote};
+
+// QuoteType (537) is absent or 1, tradeable.
+fn is_tradeable(quote_type: Option<FixChar>) -> bool
+    ensures { result ≡ is_absent_or (λ c. c == 49) quote_type }
+{
+    match quote_type {
+        Some(c) => c.get() == b'1',
+        None => true,
+    }
+}
+
+// The quote lacks the price that the requester's side needs.
+fn lacks_price(side: Option<Side>, bid: Option<Price>, offer: Option<Price>) -> bool
+    ensures { result ≡ lacks_price side bid offer }
+{
+    match side {
+        Some(Side::Buy) => offer.is_none(),
+        Some(Side::Sell) => bid.is_none(),
+        None => bid.is_none() && offer.is_none(),
+    }
+}
+
+fn is_price_off_tick(
+    participants: &Participants,
+    instruments: &Instruments,
+    instrument: u32,
+    price: Option<Price>,
+) -> bool
+    requires { instrument < length instruments.now }
+    ensures { result ≡ is_price_off_tick (record { participants = participants.now; instruments = instruments.now }) instrument price }
+{
+    match price {
+        Some(price) => price.get().unsigned_abs() % instruments.get(instrument).tick != 0,
+        None => false,
+    }
+}
+
+// The bid is above the offer.
+fn is_crossed(bid: Option<Price>, offer: Option<Price>) -> bool
+    ensures { result ≡ is_crossed bid offer }
+{
+    match (bid, offer) {
+        (Some(bid), Some(offer)) => offer.get() < bid.get(),
+        _ => false,
+    }
+}
+
+// A size is absent or the asked one.
+fn is_size(size: Option<Quantity>, quantity: Quantity) -> bool
+    ensures { result ≡ is_absent_or (λ q. q == quantity) size }
+{
+    match size {
+        Some(size) => size.get() == quantity.get(),
+        None => true,
+    }
+}
+
+// The end is absent or not yet passed.
+fn is_to_come(end: Option<Moment>, moment: Moment) -> bool
+    ensures { result ≡ is_absent_or (λ u. not (nat_lt u moment)) end }
+{
+    match end {
+        Some(end) => moment.ms() <= end.ms(),
+        None => true,
+    }
+}
+
+// Why a quote is refused for its own terms.
+fn terms_cause(
+    participants: &Participants,
+    instruments: &Instruments,
+    room: &Room,
+    quote: &Quote,
+    moment: Moment,
+) -> Option<QuoteRefusal>
+    requires { room.now.instrument < length instruments.now }
+    ensures { result ≡ first_cause (terms_causes (record { participants = participants.now; instruments = instruments.now }) room.now quote.now moment) }
+{
+    if !is_tradeable(quote.quote_type) {
+        return Some(QuoteRefusal::NotTradeable);
+    }
+    if lacks_price(room.side, quote.bid_price, quote.offer_price)
+        || (is_price_off_tick(participants, instruments, room.instrument, quote.bid_price)
+            || (is_price_off_tick(
+                participants,
+                instruments,
+                room.instrument,
+                quote.offer_price,
+            ) || is_crossed(quote.bid_price, quote.offer_price)))
+    {
+        return Some(QuoteRefusal::InvalidPrice);
+    }
+    if !is_size(quote.bid_size, room.quantity) || !is_size(quote.offer_size, room.quantity) {
+        return Some(QuoteRefusal::Size);
+    }
+    if !is_to_come(quote.valid_until, moment) {
+        return Some(QuoteRefusal::EndPassed);
+    }
+    None
+}
+
+// Why a quote in a room is refused.
+fn quote_cause(
+    participants: &Participants,
+    instruments: &Instruments,
+    facts: &[Fact],
+    who: Who,
+    room: &Room,
+    quote: &Quote,
+    moment: Moment,
+) -> Option<QuoteRefusal>
+    requires { room.now.instrument < length instruments.now }
+    ensures { result ≡ first_cause (quote_causes (record { participants = participants.now; instruments = instruments.now }) facts.now who room.now quote.now moment) }
+{
+    if !is_among(room.recipients.as_slice(), who) {
+        return Some(QuoteRefusal::NotAsked);
+    }
+    if !is_open(facts, moment, room) {
+        return Some(QuoteRefusal::RoomOver);
+    }
+    if !instruments
+        .get(room.instrument)
+        .symbol
+        .is(quote.symbol.as_slice())
+    {
+        return Some(QuoteRefusal::UnknownInstrument);
+    }
+    if is_quote_id_used(facts, who, &quote.quote_id) {
+        return Some(QuoteRefusal::DuplicateQuote);
+    }
+    terms_cause(participants, instruments, room, quote, moment)
+}
+
+// A quote lives until the earlier of its own end and the room's.
+fn quote_end(room: &Room, quote: &Quote) -> Moment
+    ensures { result ≡ quote_end room.now quote.now }
+{
+    match quote.valid_until {
+        Some(end) => {
+            if end.ms() < room.end.ms() {
+                end
+            } else {
+                room.end
+            }
+        }
+        None => room.end,
+    }
+}
+
+/// The quote that a message makes in a room.
+fn quote_made(
+    alloc: Global,
+    facts: &[Fact],
+    who: Who,
+    room: &Room,
+    quote: &Quote,
+) -> Result<RoomQuote, AllocError>
+    ensures { IfOk result (λ q. q ≡ quote_made facts.now who room.now quote.now) }
+{
+    Ok(RoomQuote {
+        number: next_quote(facts),
+        room: room.number,
+        maker: who,
+        id: quote.quote_id.copy(alloc)?,
+        bid: quote.bid_price,
+        offer: quote.offer_price,
+        end: quote_end(room, quote),
+    })
+}
+
+/// The plan of a quote in a room, before space is made for it.
+fn draft_in(
+    alloc: Global,
+    facts: &[Fact],
+    who: Who,
+    room: &Room,
+    quote: &Quote,
+) -> Result<RoomPlan, AllocError>
+    ensures { IfOk result (λ p. p ≡ quote_plan (quote_made facts.now who room.now quote.now)) }
+{
+    let quote = quote_made(alloc, facts, who, room, quote)?;
+    let facts = vec![in alloc; Fact::Quoted(quote)]?;
+    Ok(RoomPlan::of(facts, Vec::new(alloc), None))
+}
+
+/// The plan of a quote, before space is made for it.
+pub(crate) fn draft_quote(
+    alloc: Global,
+    participants: &Participants,
+    instruments: &Instruments,
+    facts: &[Fact],
+    who: Who,
+    quote: &Quote,
+    moment: Moment,
+) -> Result<RoomPlan, Refusal>
+    requires { are_listed (length instruments.now) facts.now ≡ true }
+    ensures planned { IfOk result (λ p. (quote_cause (record { participants = participants.now; instruments = instruments.now }) facts.now who quote.now moment ≡ None) × IsQuotePlanned facts.now who quote.now p) }
+    ensures refused { IfErr result (IsQuoteRefused (quote_cause (record { participants = participants.now; instruments = instruments.now }) facts.now who quote.now moment)) }
+{
+    let Some(room) = find_room(facts, &quote.request_id) else {
+        return Err(quote_refusal(QuoteRefusal::UnknownRequest));
+    };
+    if let Some(cause) = quote_cause(participants, instruments, facts, who, room, quote, moment) {
+        return Err(quote_refusal(cause));
+    }
+    let Ok(plan) = draft_in(alloc, facts, who, room, quote) else {
+        return Err(Refusal::NoMemory);
+    };
+    Ok(plan)
+}

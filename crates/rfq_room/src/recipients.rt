@@ -1,0 +1,77 @@
+//! The recipients of a request.
+ghost use Rattle.std.specs.Prelude.{◌≡◌, ◌==◌, is_none, IfOk};
+ghost use Rattle.std.specs.List.{list_any};
+ghost use Rattle.venue_rules.specs.Requests.{has_twice};
+ghost use Rattle.rfq_room.specs.Views.{is_recipient, is_unknown, places_of, recipients_of};
+
+use fix_dictionary::Party;
+use participants::{Participants, Who};
+use std::alloc::{AllocError, Global};
+
+// A party with source D (447) and role 35 (452), a liquidity provider.
+fn is_recipient(party: &Party) -> bool
+    ensures { result ≡ is_recipient party.now }
+{
+    party.source.get() == b'D' && party.role.get() == 35
+}
+
+// Whether the party is a recipient that is not in the file.
+fn is_unknown(participants: &Participants, party: &Party) -> bool
+    ensures { result ≡ is_unknown participants.now party.now }
+{
+    is_recipient(party) && participants.find(party.id.as_slice()).is_none()
+}
+
+fn any_unknown(participants: &Participants, parties: &[Party]) -> bool
+    ensures { result ≡ list_any (is_unknown participants.now) parties.now }
+{
+    parties.iter().any(|party| is_unknown(participants, party))
+}
+
+/// Whether a recipient is not in the file.
+#[tactic(auto, using(crate::proofs::Parties::any_unknown))]
+pub(crate) fn has_unknown(participants: &Participants, parties: &[Party]) -> bool
+    ensures { result ≡ list_any is_none (places_of participants.now parties.now) }
+{
+    any_unknown(participants, parties)
+}
+
+/// Whether this participant is among the recipients.
+pub(crate) fn is_among(recipients: &[Who], who: Who) -> bool
+    ensures { result ≡ list_any (λ r. r == who) recipients.now }
+{
+    recipients.iter().any(|r| r.place() == who.place())
+}
+
+/// Whether a recipient stands twice.
+#[tactic(auto, using(crate::proofs::Parties::parties))]
+pub(crate) fn has_twice(recipients: &[Who]) -> bool
+    ensures { result ≡ has_twice recipients.now }
+{
+    for k in 0..recipients.len() {
+        if is_among(&recipients[k + 1..], recipients[k]) {
+            return true;
+        }
+    }
+    false
+}
+
+/// The recipients, in the request's order; those that are not in the file are left out.
+#[tactic(auto, using(crate::proofs::Parties::parties))]
+pub(crate) fn recipients(
+    alloc: Global,
+    participants: &Participants,
+    parties: &[Party],
+) -> Result<Vec<Who>, AllocError>
+    ensures { IfOk result (λ v. v.items ≡ recipients_of participants.now parties.now) }
+{
+    let mut recipients = Vec::new(alloc);
+    for party in parties {
+        if is_recipient(party) {
+            if let Some(who) = participants.find(party.id.as_slice()) {
+                recipients.push(who)?;
+            }
+        }
+    }
+    Ok(recipients)
+}
