@@ -44,6 +44,10 @@ pub mod EveryReport
 -- over every list of inputs each fact follows those before it; the laws
 pub mod EveryRun
 pub mod EveryRoomTrade
+-- a room is closed right after its trade, so it trades once
+pub mod Shut
+pub mod ShutEach
+pub mod OneTrade
 pub mod AmountLemmas
 pub mod NameLemmas
 pub mod RowLemmas

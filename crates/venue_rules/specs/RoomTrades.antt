@@ -56,3 +56,7 @@ pub record RoomTradeIsLawful (m : Market) (is : List Input) (before : List Fact)
 
 abbrev pub RoomTradesAreLawful : Market → List Input → Type 0
 RoomTradesAreLawful m is = (before : List Fact) (trade : Trade) (room quote : ℕ) → HappenedAfter (run m is).history.facts before (Traded trade) → trade.place ≡ InRoom room quote → RoomTradeIsLawful m is before trade room quote
+
+-- no room trades twice
+abbrev pub RoomsTradeOnce : List Fact → Type 0
+RoomsTradeOnce facts = (before : List Fact) (first second : Trade) (room quote other : ℕ) → HappenedAfter facts before (Traded second) → Contains before (Traded first) → first.place ≡ InRoom room quote → second.place ≡ InRoom room other → ⊥

@@ -6,7 +6,7 @@ ghost use Rattle.venue_rules.specs.Lawful.{BestOrderTrades, EveryRunIsLawful, Li
 ghost use Rattle.venue_rules.specs.Market.{Market};
 ghost use Rattle.venue_rules.specs.ReadBack.{RowsAreReadBack};
 ghost use Rattle.venue_rules.specs.Reported.{ReportsAreNumbered, TradesAreReported};
-ghost use Rattle.venue_rules.specs.RoomTrades.{RoomTradesAreLawful};
+ghost use Rattle.venue_rules.specs.RoomTrades.{RoomsTradeOnce, RoomTradesAreLawful};
 ghost use Rattle.venue_rules.specs.Run.{Input, run};
 
 /// The laws of the venue hold over every list of inputs, for all participants and instruments. The functions below say
@@ -17,12 +17,13 @@ pub fn every_run_is_lawful()
 
 /// Each trade in a room followed a request to three participants unrelated to the requester and to each other, all
 /// asked in one answer; it is with one of them, at its live quote; and the requester was shown the resting firm prices
-/// right before the room's first quote (17 CFR 37.9(a)(2), (a)(3)).
+/// right before the room's first quote (17 CFR 37.9(a)(2), (a)(3)). No room trades twice.
 pub fn every_room_trade_is_lawful()
     ensures joined { (m : Market) (is : List Input) → RoomTradesAreLawful m is }
     ensures followed_a_request { (m : Market) (is : List Input) → RequestsComeFirst m (run m is).history.facts }
     ensures prices_with_first_quote { (m : Market) (is : List Input) → PricesComeWithFirstQuote m (run m is) }
     ensures recipients_together { (m : Market) (is : List Input) → RecipientsAskedTogether m is }
+    ensures once { (m : Market) (is : List Input) → RoomsTradeOnce (run m is).history.facts }
 {}
 
 /// Each trade in the book is with the first resting order of its side then, at that order's price and within the
