@@ -126,7 +126,7 @@ member_placed : (header rows : List Row) (s : State) (q tag : ℕ) (o : Option (
 member_placed header rows s q tag None fs rest h e = e
 member_placed header rows s q tag (Some bytes) fs rest h e = rw (h, e) refl
 
-members_placed : (header rows : List Row) (s : State) (q : ℕ) (slots : List Slot) (fs : List Entry) → AllByRecursion (λ (t : Slot). step header rows s t.0 ≡ record { stand = Within q; state = s }) slots
+pub members_placed : (header rows : List Row) (s : State) (q : ℕ) (slots : List Slot) (fs : List Entry) → AllByRecursion (λ (t : Slot). step header rows s t.0 ≡ record { stand = Within q; state = s }) slots
     → placed header rows s (fields_of slots ++ fs) ≡ goes_on_in q slots (placed header rows s fs)
 members_placed header rows s q [] fs h = refl
 members_placed header rows s q (t ∷ ts) fs h =
@@ -283,7 +283,7 @@ other_lacking g first tag k (x ∷ xs) rest d h =
 
 -- Nothing of theirs is a count.
 
-passed_counted : (rows : List Row) (all : List Placed) (q : ℕ) (slots : List Slot) (rest : List Placed) → are_plain rows slots → miscounted rows all (goes_on_in q slots rest) ≡ miscounted rows all rest
+pub passed_counted : (rows : List Row) (all : List Placed) (q : ℕ) (slots : List Slot) (rest : List Placed) → are_plain rows slots → miscounted rows all (goes_on_in q slots rest) ≡ miscounted rows all rest
 passed_counted rows all q [] rest h = refl
 passed_counted rows all q (s ∷ ss) rest h = one s.0 s.1 (goes_on_in q ss rest) h.0 (passed_counted rows all q ss rest h.1)
   where
@@ -475,3 +475,39 @@ counts_pass t tag rest h k = rw (h, k) refl
 
 pub count_fine : (n b tag : ℕ) (rest : Option ℕ) → b ≡ n → n ≤ 1_000 → rest ≡ None → or_next (cond (not (tells b (decimal n))) (Some tag) None) rest ≡ None
 count_fine n b tag rest e h k = counts_pass (tells b (decimal n)) tag rest (count_told n b e h) k
+
+-- Slots outside of groups, where none of them opens a group.
+
+goes_on_zero : (slots : List Slot) (rest : List Placed) → goes_on_in 0 slots rest ≡ at_zero (fields_of slots) rest
+goes_on_zero [] rest = refl
+goes_on_zero (s ∷ ss) rest = one s.0 s.1 (fields_of ss) (goes_on_in 0 ss rest) (goes_on_zero ss rest)
+  where
+    one : (tag : ℕ) (o : Option (List ℕ)) (fs : List Entry) (ps : List Placed) → ps ≡ at_zero fs rest → with_placed tag o (Within 0) ps ≡ at_zero (with_slot tag o fs) rest
+    one tag None fs ps e = e
+    one tag (Some bytes) fs ps e = ap (λ (l : List Placed). ((tag, bytes), Within 0) ∷ l) e
+
+pub zero_placed : (header rows : List Row) (s : State) (slots : List Slot) (fs : List Entry) → AllByRecursion (λ (t : Slot). step header rows s t.0 ≡ record { stand = Within 0; state = s }) slots
+    → placed header rows s (fields_of slots ++ fs) ≡ at_zero (fields_of slots) (placed header rows s fs)
+zero_placed header rows s slots fs h = members_placed header rows s 0 slots fs h ∙ goes_on_zero slots (placed header rows s fs)
+
+-- One instance.
+
+pub one_lacking : {X : Type 0} (g : GroupOf X) (tag k : ℕ) (x : X) (rest : List Placed) → has_tag tag (fields_of (slots_of g x)) ≡ true → lacking g.first tag rest ≡ false → lacking g.first tag (chunk g k (x ∷ []) rest) ≡ false
+one_lacking {X = X} g tag k x rest d h =
+    let found : has_tag tag (part (k + 1) (chunk g k (x ∷ []) rest)) ≡ true =
+    ap (has_tag tag) (part_here g k x [] rest) ∙ has_tag_append tag (fields_of (slots_of g x)) (part (k + 1) rest) ∙ or_true _ _ d in
+    nothing_lacks (g.first == g.first) (has_tag tag (part (k + 1) (chunk g k (x ∷ []) rest))) _ found
+    (lacking_passed g.first tag (k + 1) (g.more x) rest ∙ h)
+
+pub one_single : {X : Type 0} (g : GroupOf X) (k : ℕ) (x : X) (rest : List Placed) → are_distinct (slots_of g x) ≡ true → AreFree k 1 rest → (q : ℕ) → are_single (part q rest) ≡ true → are_single (part q (chunk g k (x ∷ []) rest)) ≡ true
+one_single {X = X} g k x rest d free q h =
+    elim (cases_eq (k + 1) q) [
+      | inl same ↦
+          subst (λ (n : ℕ). are_single (part n (chunk g k (x ∷ []) rest)) ≡ true) same
+          (let none : part (k + 1) rest ≡ [] = free (k + 1) (omega arith) (omega arith) in
+          subst (λ (l : List Entry). are_single l ≡ true) (sym (part_here g k x [] rest ∙ ap (λ (l : List Entry). fields_of (slots_of g x) ++ l) none ∙ append-nil (fields_of (slots_of g x))))
+          (single_fields (slots_of g x) d))
+      | inr other ↦
+          let test : (k + 1 == q) ≡ false = grind (arith, nat_tests) in
+          subst (λ (l : List Entry). are_single l ≡ true) (sym (part_later g q k x [] rest test)) h
+    ]

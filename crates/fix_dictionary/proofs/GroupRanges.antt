@@ -15,7 +15,7 @@ use Rattle.fix_dictionary.proofs.HoldLemmas.{HasOwnForms}
 use Rattle.fix_dictionary.proofs.TableLemmas.{own_forms, own_part}
 use Rattle.fix_dictionary.proofs.PlaceLemmas.{flat_holds, each_holds, count_range, sole_holds}
 
-mapped_length : {X : Type 0} (f : List Entry → X) (first around : ℕ) (ps : List Placed) → length (map f (instances first around ps)) ≡ length (begins first around ps)
+pub mapped_length : {X : Type 0} (f : List Entry → X) (first around : ℕ) (ps : List Placed) → length (map f (instances first around ps)) ≡ length (begins first around ps)
 mapped_length f first around ps = length-map (instances first around ps) f ∙ length-map (begins first around ps) (λ (q : ℕ). part q ps)
 
 snapshot_forms : HasOwnForms (header_rows ++ market_data_snapshot_rows) market_data_snapshot_rows

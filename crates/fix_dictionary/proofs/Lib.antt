@@ -15,6 +15,8 @@ pub mod OtherLaws
 pub mod PlaceLemmas
 pub mod PrintedLaws
 pub mod QuoteLaws
+pub mod QuoteRanges
+pub mod RequestLaws
 pub mod ResendLemmas
 pub mod RowLemmas
 pub mod SessionLaws

@@ -108,7 +108,7 @@ are_first (f ∷ fs) h =
 some_not_none : {X : Type 0} (x : X) → None ≡ Some x → ⊥
 some_not_none x h = search (h, rules)
 
-present : (tag : ℕ) (bytes : List ℕ) (fs : List Entry) → value_of tag fs ≡ Some bytes → has_tag tag fs ≡ true
+pub present : (tag : ℕ) (bytes : List ℕ) (fs : List Entry) → value_of tag fs ≡ Some bytes → has_tag tag fs ≡ true
 present tag bytes [] h = absurd (some_not_none bytes h)
 present tag bytes (f ∷ fs) h =
     elim (cases_eq f.0 tag) [

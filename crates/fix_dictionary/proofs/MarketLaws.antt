@@ -273,7 +273,7 @@ fill_request_head m fits =
 abbrev pub one_instrument_rows : List Row
 one_instrument_rows = needs 146 (Integer 1 1) ∷ needs 55 Identifier ∷ []
 
-fill_instrument : (symbol : List ℕ) → IsText 64 symbol → Fill one_instrument_rows (instrument_slots symbol)
+pub fill_instrument : (symbol : List ℕ) → IsText 64 symbol → Fill one_instrument_rows (instrument_slots symbol)
 fill_instrument symbol h = (refl, (form.number 146 1 1 1 (omega arith, omega arith) refl, (refl, (form.identifier 55 symbol h, tt))))
 
 request_right : (m : MarketDataRequest) → FitsMarketDataRequest m → AreRight (header_rows ++ market_data_request_rows) (fields_of (market_data_request_slots m))

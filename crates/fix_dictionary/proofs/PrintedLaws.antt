@@ -21,6 +21,7 @@ use Rattle.fix_dictionary.proofs.AppLaw as application
 use Rattle.fix_dictionary.proofs.GroupLaws.{fields_append, fields_both, slots_length}
 use Rattle.fix_dictionary.proofs.GroupHeads.{IsHead, printed_head, added_head, added_slots}
 use Rattle.fix_dictionary.proofs.MarketLaws as market
+use Rattle.fix_dictionary.proofs.RequestLaws as request
 
 false_not_true : false ≡ true → ⊥
 false_not_true h = search (h, rules)
@@ -42,9 +43,12 @@ spelled h (body.App (app.OrderCancelReject m)) head read fits = flat.message_spe
 spelled h (body.App (app.MarketDataRequestReject m)) head read fits = flat.message_spelled h (body.App (app.MarketDataRequestReject m)) head refl fits
 spelled h (body.App (app.BusinessMessageReject m)) head read fits = flat.message_spelled h (body.App (app.BusinessMessageReject m)) head refl fits
 spelled h (body.App (app.Unsupported kind)) head read fits = flat.message_spelled h (body.App (app.Unsupported kind)) head refl fits
-spelled h (body.App (app.QuoteRequest m)) head read fits = absurd (false_not_true read)
-spelled h (body.App (app.Quote m)) head read fits = absurd (false_not_true read)
-spelled h (body.App (app.QuoteRequestReject m)) head read fits = absurd (false_not_true read)
+spelled h (body.App (app.QuoteRequest m)) head read fits =
+    request.asked_law h (codes "R") (head_slots h (codes "R")) m head refl fits (printed_head h (codes "R") head refl) refl (refl, (refl, (refl, (refl, (refl, (refl, (refl, (refl, (refl, tt)))))))))
+spelled h (body.App (app.Quote m)) head read fits =
+    request.quote_law h (codes "S") (head_slots h (codes "S")) m head refl fits (printed_head h (codes "S") head refl) refl (refl, (refl, (refl, (refl, (refl, (refl, (refl, (refl, (refl, tt)))))))))
+spelled h (body.App (app.QuoteRequestReject m)) head read fits =
+    request.reject_law h (codes "AG") (head_slots h (codes "AG")) m head refl fits (printed_head h (codes "AG") head refl) refl (refl, (refl, (refl, (refl, (refl, (refl, (refl, (refl, (refl, tt)))))))))
 spelled h (body.App (app.NewOrderCross m)) head read fits = absurd (false_not_true read)
 spelled h (body.App (app.MarketDataRequest m)) head read fits =
     market.request_law h (codes "V") (head_slots h (codes "V")) m head refl fits (printed_head h (codes "V") head refl) refl (refl, (refl, (refl, (refl, (refl, (refl, (refl, (refl, (refl, tt)))))))))
@@ -64,9 +68,15 @@ spelled_app (app.OrderCancelReject m) read fits = application.app_spelled (app.O
 spelled_app (app.MarketDataRequestReject m) read fits = application.app_spelled (app.MarketDataRequestReject m) refl fits
 spelled_app (app.BusinessMessageReject m) read fits = application.app_spelled (app.BusinessMessageReject m) refl fits
 spelled_app (app.Unsupported kind) read fits = application.app_spelled (app.Unsupported kind) refl fits
-spelled_app (app.QuoteRequest m) read fits = absurd (false_not_true read)
-spelled_app (app.Quote m) read fits = absurd (false_not_true read)
-spelled_app (app.QuoteRequestReject m) read fits = absurd (false_not_true read)
+spelled_app (app.QuoteRequest m) read fits =
+    let law = request.asked_law application.plain (codes "R") (added_slots (codes "R")) m application.plain_fits refl fits (added_head (codes "R") refl) refl (refl, (refl, (refl, (refl, (refl, tt))))) in
+    (law.0, ap (λ (x : Message). x.body) law.1)
+spelled_app (app.Quote m) read fits =
+    let law = request.quote_law application.plain (codes "S") (added_slots (codes "S")) m application.plain_fits refl fits (added_head (codes "S") refl) refl (refl, (refl, (refl, (refl, (refl, tt))))) in
+    (law.0, ap (λ (x : Message). x.body) law.1)
+spelled_app (app.QuoteRequestReject m) read fits =
+    let law = request.reject_law application.plain (codes "AG") (added_slots (codes "AG")) m application.plain_fits refl fits (added_head (codes "AG") refl) refl (refl, (refl, (refl, (refl, (refl, tt))))) in
+    (law.0, ap (λ (x : Message). x.body) law.1)
 spelled_app (app.NewOrderCross m) read fits = absurd (false_not_true read)
 spelled_app (app.MarketDataRequest m) read fits =
     let law = market.request_law application.plain (codes "V") (added_slots (codes "V")) m application.plain_fits refl fits (added_head (codes "V") refl) refl (refl, (refl, (refl, (refl, (refl, tt))))) in
@@ -93,9 +103,9 @@ printed h (body.App (app.OrderCancelReject m)) head read fits = flat.printed_fie
 printed h (body.App (app.MarketDataRequestReject m)) head read fits = flat.printed_fields (the_message h (body.App (app.MarketDataRequestReject m))) refl (record { header = head; body = fits })
 printed h (body.App (app.BusinessMessageReject m)) head read fits = flat.printed_fields (the_message h (body.App (app.BusinessMessageReject m))) refl (record { header = head; body = fits })
 printed h (body.App (app.Unsupported m)) head read fits = flat.printed_fields (the_message h (body.App (app.Unsupported m))) refl (record { header = head; body = fits })
-printed h (body.App (app.QuoteRequest m)) head read fits = absurd (false_not_true read)
-printed h (body.App (app.Quote m)) head read fits = absurd (false_not_true read)
-printed h (body.App (app.QuoteRequestReject m)) head read fits = absurd (false_not_true read)
+printed h (body.App (app.QuoteRequest m)) head read fits = grouped_fields h (codes "R") (app_slots (app.QuoteRequest m)) head refl (request.asked_fields m fits)
+printed h (body.App (app.Quote m)) head read fits = grouped_fields h (codes "S") (app_slots (app.Quote m)) head refl (request.quote_fields m fits)
+printed h (body.App (app.QuoteRequestReject m)) head read fits = grouped_fields h (codes "AG") (app_slots (app.QuoteRequestReject m)) head refl (request.reject_fields m fits)
 printed h (body.App (app.NewOrderCross m)) head read fits = absurd (false_not_true read)
 printed h (body.App (app.MarketDataRequest m)) head read fits = grouped_fields h (codes "V") (app_slots (app.MarketDataRequest m)) head refl (market.request_fields m fits)
 printed h (body.App (app.MarketDataSnapshot m)) head read fits = grouped_fields h (codes "W") (app_slots (app.MarketDataSnapshot m)) head refl (market.snapshot_fields m fits)
@@ -112,9 +122,9 @@ printed_app (app.OrderCancelReject m) read fits = application.app_fields_are (ap
 printed_app (app.MarketDataRequestReject m) read fits = application.app_fields_are (app.MarketDataRequestReject m) refl fits
 printed_app (app.BusinessMessageReject m) read fits = application.app_fields_are (app.BusinessMessageReject m) refl fits
 printed_app (app.Unsupported m) read fits = application.app_fields_are (app.Unsupported m) refl fits
-printed_app (app.QuoteRequest m) read fits = absurd (false_not_true read)
-printed_app (app.Quote m) read fits = absurd (false_not_true read)
-printed_app (app.QuoteRequestReject m) read fits = absurd (false_not_true read)
+printed_app (app.QuoteRequest m) read fits = application.with_kind (codes "R") (app_slots (app.QuoteRequest m)) refl (request.asked_fields m fits)
+printed_app (app.Quote m) read fits = application.with_kind (codes "S") (app_slots (app.Quote m)) refl (request.quote_fields m fits)
+printed_app (app.QuoteRequestReject m) read fits = application.with_kind (codes "AG") (app_slots (app.QuoteRequestReject m)) refl (request.reject_fields m fits)
 printed_app (app.NewOrderCross m) read fits = absurd (false_not_true read)
 printed_app (app.MarketDataRequest m) read fits = application.with_kind (codes "V") (app_slots (app.MarketDataRequest m)) refl (market.request_fields m fits)
 printed_app (app.MarketDataSnapshot m) read fits = application.with_kind (codes "W") (app_slots (app.MarketDataSnapshot m)) refl (market.snapshot_fields m fits)
@@ -137,9 +147,9 @@ short h (body.App (app.OrderCancelReject m)) head read fits = flat.message_lengt
 short h (body.App (app.MarketDataRequestReject m)) head read fits = flat.message_length (the_message h (body.App (app.MarketDataRequestReject m))) refl (record { header = head; body = fits })
 short h (body.App (app.BusinessMessageReject m)) head read fits = flat.message_length (the_message h (body.App (app.BusinessMessageReject m))) refl (record { header = head; body = fits })
 short h (body.App (app.Unsupported m)) head read fits = flat.message_length (the_message h (body.App (app.Unsupported m))) refl (record { header = head; body = fits })
-short h (body.App (app.QuoteRequest m)) head read fits = absurd (false_not_true read)
-short h (body.App (app.Quote m)) head read fits = absurd (false_not_true read)
-short h (body.App (app.QuoteRequestReject m)) head read fits = absurd (false_not_true read)
+short h (body.App (app.QuoteRequest m)) head read fits = grouped_length h (codes "R") (app_slots (app.QuoteRequest m)) head refl (request.asked_length m fits)
+short h (body.App (app.Quote m)) head read fits = grouped_length h (codes "S") (app_slots (app.Quote m)) head refl (request.quote_length m fits)
+short h (body.App (app.QuoteRequestReject m)) head read fits = grouped_length h (codes "AG") (app_slots (app.QuoteRequestReject m)) head refl (request.reject_length m fits)
 short h (body.App (app.NewOrderCross m)) head read fits = absurd (false_not_true read)
 short h (body.App (app.MarketDataRequest m)) head read fits = grouped_length h (codes "V") (app_slots (app.MarketDataRequest m)) head refl (market.request_length m fits)
 short h (body.App (app.MarketDataSnapshot m)) head read fits = grouped_length h (codes "W") (app_slots (app.MarketDataSnapshot m)) head refl (market.snapshot_length m fits)

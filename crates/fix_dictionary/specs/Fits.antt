@@ -8,7 +8,7 @@ use Rattle.fix_dictionary.specs.declared.messages.Body.{Body}
 use Rattle.fix_dictionary.specs.declared.messages.Body.TheVariants as body
 use Rattle.fix_dictionary.specs.declared.messages.Message.{Message}
 use Rattle.sef_moment.specs.Utc.{greatest}
-use Rattle.fix_dictionary.specs.Values.{IsText, is_graphic, IsQuantity, IsAmount, IsPrice, IsFixInt, IsSequenceNumber, IsNewSequenceNumber, IsInterval, Resend, IsResend, FitsEntryTypes, FitsEntries}
+use Rattle.fix_dictionary.specs.Values.{IsText, is_graphic, IsQuantity, IsAmount, IsPrice, IsFixInt, IsSequenceNumber, IsNewSequenceNumber, IsInterval, Resend, IsResend, FitsParties, FitsEntryTypes, FitsEntries}
 use Rattle.fix_dictionary.specs.declared.messages.Header.{Header}
 use Rattle.fix_dictionary.specs.declared.messages.Heartbeat.{Heartbeat}
 use Rattle.fix_dictionary.specs.declared.messages.TestRequest.{TestRequest}
@@ -24,6 +24,10 @@ use Rattle.fix_dictionary.specs.declared.messages.OrderCancelRequest.{OrderCance
 use Rattle.fix_dictionary.specs.declared.messages.OrderCancelReplaceRequest.{OrderCancelReplaceRequest}
 use Rattle.fix_dictionary.specs.declared.messages.ExecutionReport.{ExecutionReport}
 use Rattle.fix_dictionary.specs.declared.messages.OrderCancelReject.{OrderCancelReject}
+use Rattle.fix_dictionary.specs.declared.messages.Party.{Party}
+use Rattle.fix_dictionary.specs.declared.messages.QuoteRequest.{QuoteRequest}
+use Rattle.fix_dictionary.specs.declared.messages.Quote.{Quote}
+use Rattle.fix_dictionary.specs.declared.messages.QuoteRequestReject.{QuoteRequestReject}
 use Rattle.fix_dictionary.specs.declared.messages.MarketDataEntry.{MarketDataEntry}
 use Rattle.fix_dictionary.specs.declared.messages.MarketDataRequest.{MarketDataRequest}
 use Rattle.fix_dictionary.specs.declared.messages.MarketDataSnapshot.{MarketDataSnapshot}
@@ -151,6 +155,37 @@ pub record FitsBusinessMessageReject (m : BusinessMessageReject) : Type 0 where
   pub reject_reason : IsFixInt m.reject_reason
   pub text : Given (IsText 200) m.text
 
+pub record FitsParty (m : Party) : Type 0 where
+  pub id : IsText 64 m.id
+  pub source : IsGraphic m.source
+  pub role : IsFixInt m.role
+
+pub record FitsQuoteRequest (m : QuoteRequest) : Type 0 where
+  pub request_id : IsText 64 m.request_id
+  pub symbol : IsText 64 m.symbol
+  pub quantity : IsQuantity m.quantity
+  pub parties : AllByRecursion FitsParty m.parties
+  pub number : FitsParties (length m.parties)
+
+pub record FitsQuote (m : Quote) : Type 0 where
+  pub quote_id : IsText 64 m.quote_id
+  pub request_id : IsText 64 m.request_id
+  pub quote_type : Given IsGraphic m.quote_type
+  pub parties : AllByRecursion FitsParty m.parties
+  pub number : FitsParties (length m.parties)
+  pub symbol : IsText 64 m.symbol
+  pub bid_price : Given IsPrice m.bid_price
+  pub offer_price : Given IsPrice m.offer_price
+  pub bid_size : Given IsQuantity m.bid_size
+  pub offer_size : Given IsQuantity m.offer_size
+  pub valid_until : Given IsMoment m.valid_until
+
+pub record FitsQuoteRequestReject (m : QuoteRequestReject) : Type 0 where
+  pub request_id : IsText 64 m.request_id
+  pub reject_reason : IsFixInt m.reject_reason
+  pub symbol : IsText 64 m.symbol
+  pub text : Given (IsText 200) m.text
+
 pub record FitsMarketDataRequest (m : MarketDataRequest) : Type 0 where
   pub request_id : IsText 64 m.request_id
   pub subscription_type : IsGraphic m.subscription_type
@@ -191,9 +226,9 @@ FitsBody (body.App (app.OrderCancelReject m)) = FitsOrderCancelReject m
 FitsBody (body.App (app.MarketDataRequestReject m)) = FitsMarketDataRequestReject m
 FitsBody (body.App (app.BusinessMessageReject m)) = FitsBusinessMessageReject m
 FitsBody (body.App (app.Unsupported kind)) = IsOtherKind kind
-FitsBody (body.App (app.QuoteRequest m)) = Unit {0}
-FitsBody (body.App (app.Quote m)) = Unit {0}
-FitsBody (body.App (app.QuoteRequestReject m)) = Unit {0}
+FitsBody (body.App (app.QuoteRequest m)) = FitsQuoteRequest m
+FitsBody (body.App (app.Quote m)) = FitsQuote m
+FitsBody (body.App (app.QuoteRequestReject m)) = FitsQuoteRequestReject m
 FitsBody (body.App (app.NewOrderCross m)) = Unit {0}
 FitsBody (body.App (app.MarketDataRequest m)) = FitsMarketDataRequest m
 FitsBody (body.App (app.MarketDataSnapshot m)) = FitsMarketDataSnapshot m
@@ -201,9 +236,9 @@ FitsBody (body.App (app.MarketDataSnapshot m)) = FitsMarketDataSnapshot m
 -- The type is read. Those that are not are read as unsupported, and printed as their type alone.
 abbrev pub is_read : Body → Bool
 is_read (body.Admin m) = true
-is_read (body.App (app.QuoteRequest m)) = false
-is_read (body.App (app.Quote m)) = false
-is_read (body.App (app.QuoteRequestReject m)) = false
+is_read (body.App (app.QuoteRequest m)) = true
+is_read (body.App (app.Quote m)) = true
+is_read (body.App (app.QuoteRequestReject m)) = true
 is_read (body.App (app.NewOrderCross m)) = false
 is_read (body.App (app.MarketDataRequest m)) = true
 is_read (body.App (app.MarketDataSnapshot m)) = true

@@ -15,6 +15,9 @@ type_of kind =
     if bytes_eq kind (codes "4") then types.SequenceReset else (
     if bytes_eq kind (codes "5") then types.Logout else (
     if bytes_eq kind (codes "A") then types.Logon else (
+    if bytes_eq kind (codes "R") then types.QuoteRequest else (
+    if bytes_eq kind (codes "S") then types.Quote else (
+    if bytes_eq kind (codes "AG") then types.QuoteRequestReject else (
     if bytes_eq kind (codes "Z") then types.QuoteCancel else (
     if bytes_eq kind (codes "AJ") then types.QuoteResponse else (
     if bytes_eq kind (codes "AI") then types.QuoteStatusReport else (
@@ -27,7 +30,7 @@ type_of kind =
     if bytes_eq kind (codes "W") then types.MarketDataSnapshot else (
     if bytes_eq kind (codes "Y") then types.MarketDataRequestReject else (
     if bytes_eq kind (codes "j") then types.BusinessMessageReject else (
-    types.Unsupported)))))))))))))))))))
+    types.Unsupported))))))))))))))))))))))
 
 -- the types of the session's own messages
 abbrev pub is_session : MessageType → Bool
@@ -42,6 +45,9 @@ is_session _ = false
 
 -- the types whose messages have repeating groups
 abbrev pub is_grouped : MessageType → Bool
+is_grouped types.QuoteRequest = true
+is_grouped types.Quote = true
+is_grouped types.QuoteRequestReject = true
 is_grouped types.MarketDataRequest = true
 is_grouped types.MarketDataSnapshot = true
 is_grouped _ = false

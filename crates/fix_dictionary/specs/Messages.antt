@@ -1,5 +1,5 @@
 -- What the fields of a body say, type by type. Where the table of the type finds a fault nothing is asked of it.
-use Rattle.std.specs.Prelude.{◌≡◌, ℕ, if◌then◌else◌, List, map, ◌++◌, Option, None, Some}
+use Rattle.std.specs.Prelude.{◌≡◌, ℕ, if◌then◌else◌, List, [], map, ◌++◌, Option, None, Some}
 use Rattle.fix_fields.specs.Fields.{Entry, value_of}
 use Rattle.fix_fields.specs.Forms.{integer_in}
 use Rattle.sef_moment.specs.Utc.{moment_of}
@@ -11,7 +11,7 @@ use Rattle.fix_dictionary.specs.declared.table.MessageType.TheVariants as types
 use Rattle.fix_dictionary.specs.Tables.{header_rows, rows_of}
 use Rattle.fix_dictionary.specs.Faults.{first_fault}
 use Rattle.fix_dictionary.specs.Kinds.{type_of, is_grouped}
-use Rattle.fix_dictionary.specs.Places.{Placed, placed, start, part, instances, sole}
+use Rattle.fix_dictionary.specs.Places.{Placed, placed, start, part, instances, first_begin, sole}
 use Rattle.fix_dictionary.specs.GroupFaults.{placed_fault}
 use Rattle.fix_dictionary.specs.declared.messages.App.TheVariants as app
 use Rattle.fix_dictionary.specs.declared.messages.Admin.TheVariants as admin
@@ -34,6 +34,10 @@ use Rattle.fix_dictionary.specs.declared.messages.OrderCancelRequest.{OrderCance
 use Rattle.fix_dictionary.specs.declared.messages.OrderCancelReplaceRequest.{OrderCancelReplaceRequest}
 use Rattle.fix_dictionary.specs.declared.messages.ExecutionReport.{ExecutionReport}
 use Rattle.fix_dictionary.specs.declared.messages.OrderCancelReject.{OrderCancelReject}
+use Rattle.fix_dictionary.specs.declared.messages.Party.{Party}
+use Rattle.fix_dictionary.specs.declared.messages.QuoteRequest.{QuoteRequest}
+use Rattle.fix_dictionary.specs.declared.messages.Quote.{Quote}
+use Rattle.fix_dictionary.specs.declared.messages.QuoteRequestReject.{QuoteRequestReject}
 use Rattle.fix_dictionary.specs.declared.messages.MarketDataEntry.{MarketDataEntry}
 use Rattle.fix_dictionary.specs.declared.messages.MarketDataRequest.{MarketDataRequest}
 use Rattle.fix_dictionary.specs.declared.messages.MarketDataSnapshot.{MarketDataSnapshot}
@@ -222,6 +226,52 @@ market_data_snapshot ps = record {
   entries = map market_data_entry (instances 269 0 ps);
 }
 
+abbrev pub party : List Entry → Party
+party fields = record {
+  id = bytes_at 448 fields;
+  source = character_in (bytes_at 447 fields);
+  role = number_in (bytes_at 452 fields);
+}
+
+-- the parties that a count field counts, if there is one
+abbrev pub counted_parties : Option (List ℕ) → List Party → List Party
+counted_parties None list = []
+counted_parties (Some bytes) list = list
+
+abbrev pub parties_in : ℕ → List Placed → List Party
+parties_in q ps = counted_parties (value_of 453 (part q ps)) (map party (instances 448 q ps))
+
+abbrev pub quote_request : List Placed → QuoteRequest
+quote_request ps = record {
+  request_id = bytes_at 131 (part 0 ps);
+  symbol = bytes_at 55 (part (first_begin 55 ps) ps);
+  side = told side_in (value_of 54 (part (first_begin 55 ps) ps));
+  quantity = quantity_in (bytes_at 38 (part (first_begin 55 ps) ps));
+  parties = parties_in (first_begin 55 ps) ps;
+}
+
+abbrev pub quote : List Placed → Quote
+quote ps = record {
+  quote_id = bytes_at 117 (part 0 ps);
+  request_id = bytes_at 131 (part 0 ps);
+  quote_type = told character_in (value_of 537 (part 0 ps));
+  parties = parties_in 0 ps;
+  symbol = bytes_at 55 (part 0 ps);
+  bid_price = told price_in (value_of 132 (part 0 ps));
+  offer_price = told price_in (value_of 133 (part 0 ps));
+  bid_size = told quantity_in (value_of 134 (part 0 ps));
+  offer_size = told quantity_in (value_of 135 (part 0 ps));
+  valid_until = told moment_of (value_of 62 (part 0 ps));
+}
+
+abbrev pub quote_request_reject : List Placed → QuoteRequestReject
+quote_request_reject ps = record {
+  request_id = bytes_at 131 (part 0 ps);
+  reject_reason = number_in (bytes_at 658 (part 0 ps));
+  symbol = bytes_at 55 (sole 55 ps);
+  text = value_of 58 (part 0 ps);
+}
+
 -- where the fields of a type with groups stand
 abbrev pub placed_as : MessageType → List Entry → List Placed
 placed_as kind fields = placed header_rows (rows_of kind 0) start fields
@@ -235,6 +285,9 @@ body_in types.Reject fields = body.Admin (admin.Reject (reject fields))
 body_in types.SequenceReset fields = body.Admin (admin.SequenceReset (sequence_reset fields))
 body_in types.Logout fields = body.Admin (admin.Logout (logout fields))
 body_in types.Logon fields = body.Admin (admin.Logon (logon fields))
+body_in types.QuoteRequest fields = body.App (app.QuoteRequest (quote_request (placed_as types.QuoteRequest fields)))
+body_in types.Quote fields = body.App (app.Quote (quote (placed_as types.Quote fields)))
+body_in types.QuoteRequestReject fields = body.App (app.QuoteRequestReject (quote_request_reject (placed_as types.QuoteRequestReject fields)))
 body_in types.QuoteCancel fields = body.App (app.QuoteCancel (quote_cancel fields))
 body_in types.QuoteResponse fields = body.App (app.QuoteResponse (quote_response fields))
 body_in types.QuoteStatusReport fields = body.App (app.QuoteStatusReport (quote_status_report fields))

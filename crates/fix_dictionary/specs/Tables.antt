@@ -77,6 +77,23 @@ quote_request_rows =
     ∷ inside 453 (needs 452 (Integer 0 999_999_999))
     ∷ []
 
+-- the rows of one party
+abbrev pub party_rows : List Row
+party_rows =
+    needs 448 Identifier
+    ∷ needs 447 Character
+    ∷ needs 452 (Integer 0 999_999_999)
+    ∷ []
+
+-- the rows of the instrument that a request asks for
+abbrev pub asked_rows : List Row
+asked_rows =
+    needs 55 Identifier
+    ∷ takes 54 OneOrTwo
+    ∷ needs 38 Quantity
+    ∷ takes 453 (Integer 1 64)
+    ∷ []
+
 abbrev pub quote_rows : List Row
 quote_rows =
     needs 117 Identifier
@@ -263,6 +280,9 @@ rows_of types.TheVariants.Reject begin = reject_rows
 rows_of types.TheVariants.SequenceReset begin = sequence_reset_rows
 rows_of types.TheVariants.Logout begin = logout_rows
 rows_of types.TheVariants.Logon begin = logon_rows
+rows_of types.TheVariants.QuoteRequest begin = quote_request_rows
+rows_of types.TheVariants.Quote begin = quote_rows
+rows_of types.TheVariants.QuoteRequestReject begin = quote_request_reject_rows
 rows_of types.TheVariants.QuoteCancel begin = quote_cancel_rows
 rows_of types.TheVariants.QuoteResponse begin = quote_response_rows
 rows_of types.TheVariants.QuoteStatusReport begin = quote_status_report_rows

@@ -28,6 +28,10 @@ use Rattle.fix_dictionary.specs.declared.messages.OrderCancelRequest.{OrderCance
 use Rattle.fix_dictionary.specs.declared.messages.OrderCancelReplaceRequest.{OrderCancelReplaceRequest}
 use Rattle.fix_dictionary.specs.declared.messages.ExecutionReport.{ExecutionReport}
 use Rattle.fix_dictionary.specs.declared.messages.OrderCancelReject.{OrderCancelReject}
+use Rattle.fix_dictionary.specs.declared.messages.Party.{Party}
+use Rattle.fix_dictionary.specs.declared.messages.QuoteRequest.{QuoteRequest}
+use Rattle.fix_dictionary.specs.declared.messages.Quote.{Quote}
+use Rattle.fix_dictionary.specs.declared.messages.QuoteRequestReject.{QuoteRequestReject}
 use Rattle.fix_dictionary.specs.declared.messages.MarketDataEntry.{MarketDataEntry}
 use Rattle.fix_dictionary.specs.declared.messages.MarketDataRequest.{MarketDataRequest}
 use Rattle.fix_dictionary.specs.declared.messages.MarketDataSnapshot.{MarketDataSnapshot}
@@ -222,6 +226,52 @@ abbrev pub each_slots : {X : Type 0} → (X → List Slot) → List X → List S
 each_slots print [] = []
 each_slots print (x ∷ xs) = print x ++ each_slots print xs
 
+abbrev pub party_slots : Party → List Slot
+party_slots m = (448, Some m.id) ∷ (447, Some (m.source ∷ [])) ∷ (452, Some (decimal m.role)) ∷ []
+
+-- no count is printed where there are no parties
+abbrev pub party_count : List Party → Option (List ℕ)
+party_count [] = None
+party_count (p ∷ ps) = Some (decimal (length (p ∷ ps)))
+
+abbrev pub quote_request_slots : QuoteRequest → List Slot
+quote_request_slots m =
+    (131, Some m.request_id)
+    ∷ (146, Some (decimal 1))
+    ∷ (55, Some m.symbol)
+    ∷ (54, given side_text m.side)
+    ∷ (38, Some (decimal m.quantity))
+    ∷ (453, party_count m.parties)
+    ∷ each_slots party_slots m.parties
+
+-- what stands behind the parties of a quote
+abbrev pub quote_rest_slots : Quote → List Slot
+quote_rest_slots m =
+    (55, Some m.symbol)
+    ∷ (132, given price_text m.bid_price)
+    ∷ (133, given price_text m.offer_price)
+    ∷ (134, given decimal m.bid_size)
+    ∷ (135, given decimal m.offer_size)
+    ∷ (62, given utc_text m.valid_until)
+    ∷ []
+
+abbrev pub quote_slots : Quote → List Slot
+quote_slots m =
+    (117, Some m.quote_id)
+    ∷ (131, Some m.request_id)
+    ∷ (537, given (λ c. c ∷ []) m.quote_type)
+    ∷ (453, party_count m.parties)
+    ∷ (each_slots party_slots m.parties ++ quote_rest_slots m)
+
+abbrev pub quote_request_reject_slots : QuoteRequestReject → List Slot
+quote_request_reject_slots m =
+    (131, Some m.request_id)
+    ∷ (658, Some (decimal m.reject_reason))
+    ∷ (146, Some (decimal 1))
+    ∷ (55, Some m.symbol)
+    ∷ (58, m.text)
+    ∷ []
+
 abbrev pub entry_type_slots : ℕ → List Slot
 entry_type_slots c = (269, Some (c ∷ [])) ∷ []
 
@@ -280,9 +330,9 @@ app_slots (app.OrderCancelReject m) = order_cancel_reject_slots m
 app_slots (app.MarketDataRequestReject m) = market_data_request_reject_slots m
 app_slots (app.BusinessMessageReject m) = business_message_reject_slots m
 app_slots (app.Unsupported kind) = []
-app_slots (app.QuoteRequest m) = []
-app_slots (app.Quote m) = []
-app_slots (app.QuoteRequestReject m) = []
+app_slots (app.QuoteRequest m) = quote_request_slots m
+app_slots (app.Quote m) = quote_slots m
+app_slots (app.QuoteRequestReject m) = quote_request_reject_slots m
 app_slots (app.NewOrderCross m) = []
 app_slots (app.MarketDataRequest m) = market_data_request_slots m
 app_slots (app.MarketDataSnapshot m) = market_data_snapshot_slots m

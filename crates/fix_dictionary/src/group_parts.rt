@@ -76,7 +76,7 @@ fn sole<'a>(
 }
 
 // The instrument that a group names.
-fn symbol(alloc: Global, placed: &[Standing]) -> Result<Identifier, AllocError>
+pub(crate) fn symbol(alloc: Global, placed: &[Standing]) -> Result<Identifier, AllocError>
     requires { Holds instrument_rows (sole 55 (places placed.now)) }
     ensures { IfOk result (λ id. id ≡ bytes_at 55 (sole 55 (places placed.now))) }
 {

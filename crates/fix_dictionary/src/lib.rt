@@ -12,6 +12,8 @@ mod messages;
 mod parts;
 mod places;
 mod print;
+mod quote_parts;
+mod quote_print;
 mod read;
 mod reading;
 mod table;

@@ -1,7 +1,7 @@
 //! Where the fields of a message with repeating groups stand.
 ghost use Rattle.std.specs.Prelude.{◌≡◌, ◌≤◌, ◌<◌, ◌+◌, length, IfOk};
 ghost use Rattle.fix_fields.specs.Views.{entries};
-ghost use Rattle.fix_dictionary.specs.Places.{group_of, first_tag, is_count, opened, opened_in, goes_on, entered, astray, unopened, outer_step, inner_step, step_in, header_step, step, start, placed, places, is_in, part, begins};
+ghost use Rattle.fix_dictionary.specs.Places.{group_of, first_tag, is_count, opened, opened_in, goes_on, entered, astray, unopened, outer_step, inner_step, step_in, header_step, step, start, placed, places, is_in, part, begins, first_begin};
 
 use crate::table::Row;
 use fix_fields::Field;
@@ -355,4 +355,18 @@ pub(crate) fn begins(
         }
     }
     Ok(parts)
+}
+
+/// The part of the first instance of a group outside of groups, or 0 where there is none.
+pub(crate) fn first_begin(placed: &[Standing], first: u32) -> usize
+    ensures { result ≡ first_begin first (places placed.now) }
+{
+    for one in placed {
+        if let Stand::Begins(part, around) = one.stand {
+            if one.field.tag == first && around == 0 {
+                return part;
+            }
+        }
+    }
+    0
 }

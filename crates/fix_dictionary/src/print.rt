@@ -15,6 +15,7 @@ use crate::messages::{
     OrderCancelRequest, QuoteCancel, QuoteResponse, QuoteStatusReport, Reject, ResendRequest,
     SequenceReset, TestRequest,
 };
+use crate::quote_print::{print_quote, print_quote_request, print_quote_request_reject};
 use crate::values::{FixChar, FixInt, Identifier, Price, Quantity, Side, Text};
 use fix_fields::{append_bytes, append_moment, append_number, append_price};
 use sef_moment::Moment;
@@ -96,7 +97,7 @@ pub(crate) fn printed_identifier<'a>(v: &'a Option<Identifier>) -> Option<Printe
     }
 }
 
-fn printed_text<'a>(v: &'a Option<Text>) -> Option<Printed<'a>>
+pub(crate) fn printed_text<'a>(v: &'a Option<Text>) -> Option<Printed<'a>>
     ensures value { printed_option result ≡ v.now }
     ensures fits { Given (IsText 200) v.now }
 {
@@ -116,7 +117,7 @@ fn printed_number<'a>(v: Option<FixInt>) -> Option<Printed<'a>>
     }
 }
 
-fn printed_quantity<'a>(v: Option<Quantity>) -> Option<Printed<'a>>
+pub(crate) fn printed_quantity<'a>(v: Option<Quantity>) -> Option<Printed<'a>>
     ensures value { printed_option result ≡ given decimal v }
     ensures fits { Given IsQuantity v }
 {
@@ -136,7 +137,7 @@ pub(crate) fn printed_price<'a>(v: Option<Price>) -> Option<Printed<'a>>
     }
 }
 
-fn printed_character<'a>(v: Option<FixChar>) -> Option<Printed<'a>>
+pub(crate) fn printed_character<'a>(v: Option<FixChar>) -> Option<Printed<'a>>
     ensures value { printed_option result ≡ given (λ c. c ∷ []) v }
     ensures fits { Given IsGraphic v }
 {
@@ -154,7 +155,7 @@ fn printed_time<'a>(v: Moment) -> Printed<'a>
     Printed::Moment(v)
 }
 
-fn printed_moment<'a>(v: Option<Moment>) -> Option<Printed<'a>>
+pub(crate) fn printed_moment<'a>(v: Option<Moment>) -> Option<Printed<'a>>
     ensures value { printed_option result ≡ given utc_text v }
     ensures fits { Given IsMoment v }
 {
@@ -164,7 +165,7 @@ fn printed_moment<'a>(v: Option<Moment>) -> Option<Printed<'a>>
     }
 }
 
-fn printed_optional_side<'a>(v: Option<Side>) -> Option<Printed<'a>>
+pub(crate) fn printed_optional_side<'a>(v: Option<Side>) -> Option<Printed<'a>>
     ensures { printed_option result ≡ given side_text v }
 {
     match v {
@@ -513,8 +514,10 @@ fn append_app(out: &mut Vec<u8>, message: &App) -> Result<(), AllocError>
         App::OrderCancelReject(m) => print_order_cancel_reject(out, m),
         App::MarketDataRequestReject(m) => print_market_data_request_reject(out, m),
         App::BusinessMessageReject(m) => print_business_message_reject(out, m),
-        App::QuoteRequest(_) | App::Quote(_) | App::QuoteRequestReject(_) | App::NewOrderCross(_) =>
-            Ok(()),
+        App::NewOrderCross(_) => Ok(()),
+        App::QuoteRequest(m) => print_quote_request(out, m),
+        App::Quote(m) => print_quote(out, m),
+        App::QuoteRequestReject(m) => print_quote_request_reject(out, m),
         App::MarketDataRequest(m) => print_market_data_request(out, m),
         App::MarketDataSnapshot(m) => print_market_data_snapshot(out, m),
         App::Unsupported(kind) => {

@@ -26,7 +26,7 @@ use crate::table::{
     MessageType, header, is_grouped, is_session, resend_request_rows, rows_of, type_of,
 };
 use crate::values::OtherKind;
-use crate::{group_parts, parts};
+use crate::{group_parts, parts, quote_parts};
 use fix_fields::{Field, Fields};
 use std::alloc::{AllocError, Global};
 
@@ -91,7 +91,11 @@ fn body_in(
             alloc,
             bytes_at(fields, 35),
         )?)),
-        MessageType::MarketDataRequest | MessageType::MarketDataSnapshot => unreachable!(),
+        MessageType::QuoteRequest
+        | MessageType::Quote
+        | MessageType::QuoteRequestReject
+        | MessageType::MarketDataRequest
+        | MessageType::MarketDataSnapshot => unreachable!(),
     })
 }
 
@@ -126,6 +130,13 @@ fn grouped_body(
     ensures { IfOk result (λ b. b ≡ body_in kind (entries fields.now)) }
 {
     Ok(Body::App(match kind {
+        MessageType::QuoteRequest => {
+            App::QuoteRequest(quote_parts::quote_request(alloc, placed)?)
+        }
+        MessageType::Quote => App::Quote(quote_parts::quote(alloc, placed)?),
+        MessageType::QuoteRequestReject => {
+            App::QuoteRequestReject(quote_parts::quote_request_reject(alloc, placed)?)
+        }
         MessageType::MarketDataRequest => App::MarketDataRequest(group_parts::market_data_request(
             alloc, placed,
         )?),

@@ -18,7 +18,7 @@ use sef_moment::{Moment, read_utc};
 use std::alloc::{AllocError, Global};
 
 // The value of the first field with the tag.
-fn value_of<'a>(fields: &[Field<'a>], tag: u32) -> Option<&'a [u8]>
+pub(crate) fn value_of<'a>(fields: &[Field<'a>], tag: u32) -> Option<&'a [u8]>
     ensures { MatchOption result (value_of tag (entries fields.now) ≡ None) (λ value. value_of tag (entries fields.now) ≡ Some value.now) }
 {
     for field in fields {

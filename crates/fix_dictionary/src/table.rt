@@ -100,6 +100,12 @@ pub(crate) enum MessageType {
     Logout,
     /// `A`
     Logon,
+    /// `R`
+    QuoteRequest,
+    /// `S`
+    Quote,
+    /// `AG`
+    QuoteRequestReject,
     /// `Z`
     QuoteCancel,
     /// `AJ`
@@ -164,6 +170,42 @@ const LOGON: [Row; 4] = [
     needs!(108, Form::Integer(0, 3600)),
     needs!(1137, Form::Version),
     takes!(141, Form::Flag),
+];
+
+const QUOTE_REQUEST: [Row; 9] = [
+    needs!(131, Form::Identifier),
+    needs!(146, Form::Integer(1, 1)),
+    needs_inside!(146, 55, Form::Identifier),
+    takes_inside!(146, 54, Form::OneOrTwo),
+    needs_inside!(146, 38, Form::Quantity),
+    takes_inside!(146, 453, Form::Integer(1, 64)),
+    needs_inside!(453, 448, Form::Identifier),
+    needs_inside!(453, 447, Form::Character),
+    needs_inside!(453, 452, Form::Integer(0, 999_999_999)),
+];
+
+const QUOTE: [Row; 13] = [
+    needs!(117, Form::Identifier),
+    needs!(131, Form::Identifier),
+    takes!(537, Form::Character),
+    takes!(453, Form::Integer(1, 64)),
+    needs_inside!(453, 448, Form::Identifier),
+    needs_inside!(453, 447, Form::Character),
+    needs_inside!(453, 452, Form::Integer(0, 999_999_999)),
+    needs!(55, Form::Identifier),
+    takes!(132, Form::Price),
+    takes!(133, Form::Price),
+    takes!(134, Form::Quantity),
+    takes!(135, Form::Quantity),
+    takes!(62, Form::Utc),
+];
+
+const QUOTE_REQUEST_REJECT: [Row; 5] = [
+    needs!(131, Form::Identifier),
+    needs!(658, Form::Integer(0, 999_999_999)),
+    needs!(146, Form::Integer(1, 1)),
+    needs_inside!(146, 55, Form::Identifier),
+    takes!(58, Form::Printable),
 ];
 
 const QUOTE_CANCEL: [Row; 2] = [
@@ -301,6 +343,9 @@ pub(crate) fn rows_of(kind: MessageType) -> &'static [Row]
         MessageType::SequenceReset => &SEQUENCE_RESET,
         MessageType::Logout => &LOGOUT,
         MessageType::Logon => &LOGON,
+        MessageType::QuoteRequest => &QUOTE_REQUEST,
+        MessageType::Quote => &QUOTE,
+        MessageType::QuoteRequestReject => &QUOTE_REQUEST_REJECT,
         MessageType::QuoteCancel => &QUOTE_CANCEL,
         MessageType::QuoteResponse => &QUOTE_RESPONSE,
         MessageType::QuoteStatusReport => &QUOTE_STATUS_REPORT,
@@ -329,6 +374,9 @@ pub(crate) fn type_of(kind: &[u8]) -> MessageType
         b"4" => MessageType::SequenceReset,
         b"5" => MessageType::Logout,
         b"A" => MessageType::Logon,
+        b"R" => MessageType::QuoteRequest,
+        b"S" => MessageType::Quote,
+        b"AG" => MessageType::QuoteRequestReject,
         b"Z" => MessageType::QuoteCancel,
         b"AJ" => MessageType::QuoteResponse,
         b"AI" => MessageType::QuoteStatusReport,
@@ -367,6 +415,10 @@ pub(crate) fn is_grouped(kind: MessageType) -> bool
 {
     matches!(
         kind,
-        MessageType::MarketDataRequest | MessageType::MarketDataSnapshot
+        MessageType::QuoteRequest
+            | MessageType::Quote
+            | MessageType::QuoteRequestReject
+            | MessageType::MarketDataRequest
+            | MessageType::MarketDataSnapshot
     )
 }

@@ -12,6 +12,8 @@ mod prices;
 mod reading;
 mod replacing;
 mod reports;
+#[cfg(test)]
+mod tests;
 mod unprocessed;
 mod venue;
 

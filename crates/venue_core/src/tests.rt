@@ -1,0 +1,370 @@
+//! Worked messages as text, and what the venue answers. Each test holds whichever growth is refused: what met a refusal is tried once more.
+ghost use Rattle.std.specs.Prelude.{◌≤◌, ◌+◌, length, IfOk, IfSome};
+ghost use Rattle.fix_dictionary.specs.Values.{IsSequenceNumber};
+ghost use Rattle.venue_core.specs.Served.{IsPlanOf};
+
+use crate::{Plan, Venue, message_of};
+use fix_dictionary::{App, Item, SequenceNumber, print_app, read_app};
+use fix_fields::split;
+use sef_moment::Moment;
+use std::alloc::{AllocError, Global};
+use std::test::Fail;
+use venue_rules::{Reply, Taken, Who, fixture_instruments, fixture_participants};
+
+// A line is the letter of a participant, a space, and a message with `|` for SOH.
+type Line = &'static [u8];
+
+fn participant(letter: u8) -> Who {
+    Who::of(match letter {
+        b'A' => 0,
+        b'B' => 1,
+        b'G' => 2,
+        b'D' => 3,
+        _ => 4,
+    })
+}
+
+fn letter(who: Who) -> u8 {
+    match who.place() {
+        0 => b'A',
+        1 => b'B',
+        2 => b'G',
+        3 => b'D',
+        _ => b'E',
+    }
+}
+
+// Appends bytes with one byte in the place of another.
+fn append_with(bytes: &[u8], old: u8, new: u8, out: &mut Vec<u8>) -> Result<(), AllocError> {
+    for byte in bytes {
+        out.push(if *byte == old { new } else { *byte })?;
+    }
+    Ok(())
+}
+
+fn message(alloc: Global, text: &[u8]) -> Option<App> {
+    let mut body = Vec::new(alloc);
+    append_with(text, b'|', 1, &mut body).ok()?;
+    let fields = split(alloc, &body).ok()?;
+    read_app(alloc, &fields).ok()
+}
+
+// The message of a line, as it is taken.
+fn taken(alloc: Global, number: u32, line: &[u8]) -> Option<Taken>
+    requires { IsSequenceNumber number }
+{
+    let (from, text) = line.split_first()?;
+    let (_space, text) = text.split_first()?;
+    let app = match message(alloc, text) {
+        Some(app) => app,
+        None => message(alloc, text)?,
+    };
+    let number = SequenceNumber::new(number);
+    Some(Taken {
+        from: participant(*from),
+        item: Item { number, app },
+    })
+}
+
+fn append_line(alloc: Global, reply: &Reply, lines: &mut Vec<u8>) -> Result<(), AllocError> {
+    let app = message_of(alloc, reply)?;
+    let mut text = Vec::new(alloc);
+    print_app(&app, &mut text)?;
+    lines.push(letter(reply.to))?;
+    lines.push(b' ')?;
+    append_with(&text, 1, b'|', lines)?;
+    lines.push(b'\n')?;
+    Ok(())
+}
+
+fn printed(alloc: Global, replies: &[Reply]) -> Result<Vec<u8>, AllocError> {
+    let mut lines = Vec::new(alloc);
+    for reply in replies {
+        append_line(alloc, reply, &mut lines)?;
+    }
+    Ok(lines)
+}
+
+fn planned(venue: &mut Venue, taken: &Taken, moment: Moment) -> Option<Plan>
+    requires { venue.old.items ≤ 1000 }
+    ensures items { venue.new.items ≤ venue.old.items }
+    ensures made { IfSome result (λ p. IsPlanOf venue.new p) }
+{
+    if let Ok(plan) = venue.plan(taken, moment) {
+        return Some(plan);
+    }
+    let Ok(plan) = venue.plan(taken, moment) else {
+        return None;
+    };
+    Some(plan)
+}
+
+// What a message is answered; after it the venue has gone on.
+fn said(alloc: Global, venue: &mut Venue, taken: &Taken) -> Option<Vec<u8>>
+    requires { venue.old.items ≤ 999 }
+    ensures { IfSome result (λ _. venue.new.items ≤ venue.old.items + 1) }
+{
+    let moment = Moment::of_ms(1_741_012_200_000)?;
+    let plan = planned(venue, taken, moment)?;
+    let lines = match printed(alloc, plan.replies()) {
+        Ok(lines) => lines,
+        Err(_) => printed(alloc, plan.replies()).ok()?,
+    };
+    venue.apply(plan);
+    Some(lines)
+}
+
+// The answers to the last of some lines.
+fn last_answer(alloc: Global, venue: &mut Venue, lines: &[Line]) -> Option<Vec<u8>>
+    requires { venue.old.items + length lines.now ≤ 999 }
+    ensures { IfSome result (λ _. venue.new.items ≤ venue.old.items + length lines.now) }
+{
+    let mut last = Vec::new(alloc);
+    let mut number = 1u32;
+    for line in lines {
+        number += 1;
+        let taken = taken(alloc, number, line)?;
+        last = said(alloc, venue, &taken)?;
+    }
+    Some(last)
+}
+
+// The fixture's venue.
+fn opened(alloc: Global) -> Option<Venue>
+    ensures { IfSome result (λ v. v.items ≤ 0) }
+{
+    if let Ok(venue) = Venue::fixture(alloc) {
+        return Some(venue);
+    }
+    let Ok(venue) = Venue::fixture(alloc) else {
+        return None;
+    };
+    Some(venue)
+}
+
+// What the fixture's venue answers to the last of some lines.
+fn answered(alloc: Global, lines: &[Line]) -> Option<Vec<u8>>
+    requires { length lines.now ≤ 20 }
+{
+    let mut venue = opened(alloc)?;
+    last_answer(alloc, &mut venue, lines)
+}
+
+fn buy() -> Line {
+    b"A 35=D|11=a1|55=IRS5Y|54=1|38=100|40=2|44=2.5|"
+}
+
+fn sell() -> Line {
+    b"A 35=D|11=a2|55=IRS5Y|54=2|38=40|40=2|44=2.5|"
+}
+
+fn reported() -> Line {
+    b"A 35=8|37=O1|17=E1|150=0|39=0|55=IRS5Y|54=1|151=100|14=0|11=a1|\n"
+}
+
+#[test]
+fn order_is_reported(rt: HostRuntime) -> Result<(), Fail> {
+    let said = answered(rt.alloc(), &[buy()]).ok_or("memory")?;
+    assert_eq!(rt; said.as_slice(), reported());
+    Ok(())
+}
+
+fn sold() -> Line {
+    b"A 35=8|37=O2|17=E2|150=0|39=0|55=IRS5Y|54=2|151=40|14=0|11=a2|\n\
+A 35=8|37=O2|17=E3|150=F|39=2|55=IRS5Y|54=2|151=0|14=40|11=a2|31=2.5|32=40|880=T1|\n\
+A 35=8|37=O1|17=E4|150=F|39=1|55=IRS5Y|54=1|151=60|14=40|11=a1|31=2.5|32=40|880=T1|\n"
+}
+
+#[test]
+fn order_meets_a_resting_one(rt: HostRuntime) -> Result<(), Fail> {
+    let said = answered(rt.alloc(), &[buy(), sell()]).ok_or("memory")?;
+    assert_eq!(rt; said.as_slice(), sold());
+    Ok(())
+}
+
+fn unpriced() -> Line {
+    b"A 35=D|11=a1|55=IRS5Y|54=1|38=100|40=2|"
+}
+
+fn price_missing() -> Line {
+    b"A 35=j|45=2|372=D|380=5|58=Price missing|\n"
+}
+
+#[test]
+fn order_without_a_price(rt: HostRuntime) -> Result<(), Fail> {
+    let said = answered(rt.alloc(), &[unpriced()]).ok_or("memory")?;
+    assert_eq!(rt; said.as_slice(), price_missing());
+    Ok(())
+}
+
+fn first_seller() -> Line {
+    b"B 35=D|11=b1|55=IRS5Y|54=2|38=60|40=2|44=2.5|"
+}
+
+fn second_seller() -> Line {
+    b"D 35=D|11=d1|55=IRS5Y|54=2|38=70|40=2|44=2.5|"
+}
+
+fn basis() -> Line {
+    b"A 35=D|11=a2|55=BASIS1Y|54=2|38=1|40=2|44=-0.25|"
+}
+
+fn filled() -> Line {
+    b"A 35=8|37=O3|17=E3|150=0|39=0|55=IRS5Y|54=1|151=100|14=0|11=a1|\n\
+A 35=8|37=O3|17=E4|150=F|39=1|55=IRS5Y|54=1|151=40|14=60|11=a1|31=2.5|32=60|880=T1|\n\
+B 35=8|37=O1|17=E5|150=F|39=2|55=IRS5Y|54=2|151=0|14=60|11=b1|31=2.5|32=60|880=T1|\n\
+A 35=8|37=O3|17=E6|150=F|39=2|55=IRS5Y|54=1|151=0|14=100|11=a1|31=2.5|32=40|880=T2|\n\
+D 35=8|37=O2|17=E7|150=F|39=1|55=IRS5Y|54=2|151=30|14=40|11=d1|31=2.5|32=40|880=T2|\n"
+}
+
+#[test]
+fn buyer_meets_two_sellers(rt: HostRuntime) -> Result<(), Fail> {
+    let said = answered(rt.alloc(), &[first_seller(), second_seller(), buy()]).ok_or("memory")?;
+    assert_eq!(rt; said.as_slice(), filled());
+    Ok(())
+}
+
+fn too_much() -> Line {
+    b"G 35=D|11=g1|55=IRS5Y|54=1|38=31|40=2|44=2.5|59=4|"
+}
+
+// Two sellers, a buyer, an order in another instrument, and one that is killed.
+fn five() -> [Line; 5] {
+    [first_seller(), second_seller(), buy(), basis(), too_much()]
+}
+
+fn killed() -> Line {
+    b"G 35=8|37=O5|17=E9|150=0|39=0|55=IRS5Y|54=1|151=31|14=0|11=g1|\n\
+G 35=8|37=O5|17=E10|150=4|39=4|55=IRS5Y|54=1|151=0|14=0|11=g1|\n"
+}
+
+#[test]
+fn order_is_killed(rt: HostRuntime) -> Result<(), Fail> {
+    let said = answered(rt.alloc(), &five()).ok_or("memory")?;
+    assert_eq!(rt; said.as_slice(), killed());
+    Ok(())
+}
+
+// What is answered to the last of some lines after the five.
+fn then(alloc: Global, lines: &[Line]) -> Option<Vec<u8>>
+    requires { length lines.now ≤ 20 }
+{
+    let mut venue = opened(alloc)?;
+    let _answer = last_answer(alloc, &mut venue, &five())?;
+    last_answer(alloc, &mut venue, lines)
+}
+
+fn all() -> Line {
+    b"G 35=D|11=g2|55=IRS5Y|54=1|38=30|40=2|44=2.5|59=4|"
+}
+
+fn filled_at_once() -> Line {
+    b"G 35=8|37=O6|17=E11|150=0|39=0|55=IRS5Y|54=1|151=30|14=0|11=g2|\n\
+G 35=8|37=O6|17=E12|150=F|39=2|55=IRS5Y|54=1|151=0|14=30|11=g2|31=2.5|32=30|880=T3|\n\
+D 35=8|37=O2|17=E13|150=F|39=2|55=IRS5Y|54=2|151=0|14=70|11=d1|31=2.5|32=30|880=T3|\n"
+}
+
+#[test]
+fn order_is_filled_at_once(rt: HostRuntime) -> Result<(), Fail> {
+    let said = then(rt.alloc(), &[all()]).ok_or("memory")?;
+    assert_eq!(rt; said.as_slice(), filled_at_once());
+    Ok(())
+}
+
+fn no_more() -> Line {
+    b"D 35=G|11=d9|41=d1|38=40|40=2|44=2.5|"
+}
+
+fn already_filled() -> Line {
+    b"D 35=9|37=O2|11=d9|41=d1|39=1|434=2|102=99|58=Quantity already filled|\n"
+}
+
+#[test]
+fn replacement_by_what_is_filled(rt: HostRuntime) -> Result<(), Fail> {
+    let said = then(rt.alloc(), &[no_more()]).ok_or("memory")?;
+    assert_eq!(rt; said.as_slice(), already_filled());
+    Ok(())
+}
+
+fn replace() -> Line {
+    b"D 35=G|11=d2|41=d1|38=50|40=2|44=2.5025|"
+}
+
+fn replaced() -> Line {
+    b"D 35=8|37=O6|17=E11|150=5|39=1|55=IRS5Y|54=2|151=10|14=40|11=d2|41=d1|\n"
+}
+
+#[test]
+fn order_is_replaced(rt: HostRuntime) -> Result<(), Fail> {
+    let said = then(rt.alloc(), &[replace()]).ok_or("memory")?;
+    assert_eq!(rt; said.as_slice(), replaced());
+    Ok(())
+}
+
+fn cancel() -> Line {
+    b"D 35=F|11=d3|41=d2|"
+}
+
+fn cancelled() -> Line {
+    b"D 35=8|37=O6|17=E12|150=4|39=4|55=IRS5Y|54=2|151=0|14=40|11=d3|41=d2|\n"
+}
+
+#[test]
+fn order_is_cancelled(rt: HostRuntime) -> Result<(), Fail> {
+    let said = then(rt.alloc(), &[replace(), cancel()]).ok_or("memory")?;
+    assert_eq!(rt; said.as_slice(), cancelled());
+    Ok(())
+}
+
+fn cancel_again() -> Line {
+    b"D 35=F|11=d4|41=d2|"
+}
+
+fn unknown() -> Line {
+    b"D 35=9|37=NONE|11=d4|41=d2|39=8|434=1|102=1|58=Unknown order|\n"
+}
+
+#[test]
+fn order_is_gone(rt: HostRuntime) -> Result<(), Fail> {
+    let said = then(rt.alloc(), &[replace(), cancel(), cancel_again()]).ok_or("memory")?;
+    assert_eq!(rt; said.as_slice(), unknown());
+    Ok(())
+}
+
+fn below() -> Line {
+    b"A 35=D|11=a3|55=IRS5Y|54=2|38=10|40=2|44=2.5025|"
+}
+
+fn crossing() -> Line {
+    b"A 35=G|11=a4|41=a3|38=10|40=2|44=2.5|"
+}
+
+// A venue whose linked orders wait for 15 seconds.
+fn opened_with_delay(alloc: Global) -> Result<Venue, AllocError>
+    ensures { IfOk result (λ v. v.items ≤ 0) }
+{
+    let participants = fixture_participants(alloc)?;
+    let instruments = fixture_instruments(alloc, 15_000)?;
+    Venue::open(alloc, participants, instruments)
+}
+
+fn answered_with_delay(alloc: Global, lines: &[Line]) -> Option<Vec<u8>>
+    requires { length lines.now ≤ 20 }
+{
+    let mut venue = match opened_with_delay(alloc) {
+        Ok(venue) => venue,
+        Err(_) => return None,
+    };
+    last_answer(alloc, &mut venue, lines)
+}
+
+fn too_recent() -> Line {
+    b"A 35=9|37=O2|11=a4|41=a3|39=0|434=2|102=99|58=Linked order too recent|\n"
+}
+
+#[test]
+fn replacement_meets_a_linked_order(rt: HostRuntime) -> Result<(), Fail> {
+    let said = answered_with_delay(rt.alloc(), &[buy(), below(), crossing()]).ok_or("memory")?;
+    assert_eq!(rt; said.as_slice(), too_recent());
+    Ok(())
+}
