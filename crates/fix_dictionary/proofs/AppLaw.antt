@@ -6,7 +6,7 @@ use Rattle.std.proofs.lemmas.Bool.{cases_eq}
 use Rattle.sef_moment.specs.Calendar.{IsDate, day_number, year_of, month_of, day_of_month}
 use Rattle.sef_moment.specs.Utc.{utc_text}
 use Rattle.sef_moment.proofs.DateLemmas.{date_of-is, day_number-date_of, day_number-day_count, IsCivilDate-is_date, same_date}
-use Rattle.fix_fields.specs.Fields.{Entry, AreFields, fields_text}
+use Rattle.fix_fields.specs.Fields.{Entry, AreFields}
 use Rattle.fix_dictionary.specs.declared.faults.DictFault.{DictFault}
 use Rattle.fix_dictionary.specs.declared.faults.DictFault.TheVariants.{Format}
 use Rattle.fix_dictionary.specs.declared.table.Form.TheVariants as form_of_row
@@ -20,7 +20,7 @@ use Rattle.fix_dictionary.specs.declared.messages.Message.{Message}
 use Rattle.fix_dictionary.specs.Table.{needs}
 use Rattle.fix_dictionary.specs.Tables.{rows_of}
 use Rattle.fix_dictionary.specs.Kinds.{type_of, is_session}
-use Rattle.fix_dictionary.specs.Text.{Slot, fields_of, app_kind, app_slots, app_text, message_slots}
+use Rattle.fix_dictionary.specs.Text.{Slot, fields_of, app_kind, app_slots, message_slots}
 use Rattle.fix_dictionary.specs.Applications.{plain_header, SpellsApp}
 use Rattle.fix_dictionary.specs.Values.{IsText}
 use Rattle.fix_dictionary.specs.Fits.{FitsHeader, FitsBody}
@@ -230,6 +230,7 @@ app_tags types.BusinessMessageReject = refl
 app_tags types.QuoteRequest = refl
 app_tags types.Quote = refl
 app_tags types.QuoteRequestReject = refl
+app_tags types.NewOrderCross = refl
 app_tags types.MarketDataRequest = refl
 app_tags types.MarketDataSnapshot = refl
 app_tags types.Unsupported = refl

@@ -1,7 +1,7 @@
 -- What stands before the fields of a message with groups: a printed header, or the one that is added.
-use Rattle.std.proofs.Common.{◌≡◌, ℕ, true, Bool, List, [], ◌∷◌, ◌++◌, refl, sym, ap, subst, ◌∙◌, Option, Some, None, codes, decimal, arith}
+use Rattle.std.proofs.Common.{◌≡◌, ℕ, true, Bool, List, [], ◌∷◌, ◌++◌, refl, subst, ◌∙◌, Some, codes, decimal, arith}
 use Rattle.sef_moment.specs.Utc.{utc_text}
-use Rattle.fix_fields.specs.Fields.{Entry, AreFields}
+use Rattle.fix_fields.specs.Fields.{AreFields}
 use Rattle.fix_dictionary.specs.declared.table.Row.{Row}
 use Rattle.fix_dictionary.specs.declared.table.Form.TheVariants as form_of_row
 use Rattle.fix_dictionary.specs.declared.messages.Header.{Header}

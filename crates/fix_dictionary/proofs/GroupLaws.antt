@@ -1,12 +1,12 @@
 -- Fields printed from slots, some of them the instances of a group: where they stand, and that they have no fault.
-use Rattle.std.proofs.Common.{◌≡◌, ℕ, suc, ◌+◌, ◌≤◌, ◌<◌, true, false, Bool, List, [], ◌∷◌, ◌++◌, refl, sym, ap, subst, ◌∙◌, arith, rules, cond, ◌==◌, ◌&&◌, ◌||◌, not, length, map, append_assoc, append-nil, Option, Some, None, Ok, inl, inr, decimal, ◌*◌, length-append}
+use Rattle.std.proofs.Common.{◌≡◌, ℕ, suc, ◌+◌, ◌≤◌, ◌<◌, true, false, Bool, List, [], ◌∷◌, ◌++◌, refl, sym, ap, subst, ◌∙◌, arith, cond, ◌==◌, ◌&&◌, ◌||◌, not, length, map, append_assoc, append-nil, Option, Some, None, Ok, inl, inr, decimal, ◌*◌, length-append}
 use Rattle.std.specs.List.{AllByRecursion}
 use Rattle.std.proofs.lemmas.Bool.Decides.{nat_tests}
 use Rattle.std.proofs.lemmas.Bool.{cases_eq}
 use Rattle.fix_fields.specs.declared.value.ValueFault.{ValueFault}
 use Rattle.fix_fields.specs.declared.value.ValueFault.TheVariants as value
-use Rattle.fix_fields.specs.Fields.{Entry, value_of, AreFields, fields_text}
-use Rattle.fix_fields.specs.Forms.{within, integer_in}
+use Rattle.fix_fields.specs.Fields.{Entry, value_of, AreFields}
+use Rattle.fix_fields.specs.Forms.{within}
 use Rattle.fix_fields.specs.GroupParts.{tells, is_read_as}
 use Rattle.fix_fields.proofs.RoundTrip.{integer_in-decimal}
 use Rattle.fix_dictionary.specs.declared.table.Row.{Row}
@@ -14,15 +14,14 @@ use Rattle.fix_dictionary.specs.declared.places.Stand.{Stand}
 use Rattle.fix_dictionary.specs.declared.places.Stand.TheVariants.{Aside, Within, Begins, Stray}
 use Rattle.fix_dictionary.specs.declared.places.State.{State}
 use Rattle.fix_dictionary.specs.declared.places.Stepped.{Stepped}
-use Rattle.fix_dictionary.specs.Table.{value_fault}
 use Rattle.fix_dictionary.specs.Faults.{form_of, has_tag, faulty, fault_as, is_fault}
 use Rattle.fix_dictionary.specs.Places.{Placed, group_of, first_tag, is_count, placed, start, step, is_in, part, begins}
-use Rattle.fix_dictionary.specs.GroupFaults.{repeats, twice, miscounts, miscounted, is_wrong, or_next, lacks, lacking, is_lacking, missing_in, placed_fault}
+use Rattle.fix_dictionary.specs.GroupFaults.{repeats, twice, miscounted, or_next, lacking, is_lacking, missing_in, placed_fault}
 use Rattle.fix_dictionary.specs.Holding.{RowHolds, Holds}
 use Rattle.fix_dictionary.specs.Text.{Slot, with_slot, fields_of, slots_text, each_slots}
 use Rattle.fix_dictionary.proofs.TextLemmas.{fields_of_append, slots_text_append}
 use Rattle.fix_dictionary.proofs.HoldLemmas.{HasOwnForms}
-use Rattle.fix_dictionary.proofs.LookLemmas.{are_single, are_distinct, Fill, has_tag_append, both_true, not_true, either_false, single_fields, row_given, no_fault, has_slot}
+use Rattle.fix_dictionary.proofs.LookLemmas.{are_single, are_distinct, Fill, has_tag_append, both_true, not_true, either_false, single_fields, row_given, no_fault}
 
 pub fields_append : (ss more : List Slot) → fields_of (ss ++ more) ≡ fields_of ss ++ fields_of more
 fields_append ss more = fields_of_append ss more
@@ -188,7 +187,7 @@ part_here g k x xs rest =
     rw test (ap (λ (l : List Entry). (g.first, g.value x) ∷ l)
     (part_in (k + 1) (g.more x) (chunk g (k + 1) xs rest) ∙ ap (λ (l : List Entry). fields_of (g.more x) ++ l) (part_low g (k + 1) (k + 1) xs rest (omega arith))))
 
-part_later : {X : Type 0} (g : GroupOf X) (q k : ℕ) (x : X) (xs : List X) (rest : List Placed) → (k + 1 == q) ≡ false → part q (chunk g k (x ∷ xs) rest) ≡ part q (chunk g (k + 1) xs rest)
+pub part_later : {X : Type 0} (g : GroupOf X) (q k : ℕ) (x : X) (xs : List X) (rest : List Placed) → (k + 1 == q) ≡ false → part q (chunk g k (x ∷ xs) rest) ≡ part q (chunk g (k + 1) xs rest)
 part_later g q k x xs rest test = rw test (part_out q (k + 1) (g.more x) (chunk g (k + 1) xs rest) test)
 
 -- the parts of the instances are free behind them

@@ -1,9 +1,8 @@
 -- The numbers of instances of a message with groups in which its table found no fault.
-use Rattle.std.proofs.Common.{◌≡◌, ℕ, ◌≤◌, true, List, ◌++◌, refl, sym, ap, subst, ◌∙◌, length, map}
+use Rattle.std.proofs.Common.{◌≡◌, ℕ, List, ◌++◌, refl, sym, ap, subst, ◌∙◌, length, map}
 use Rattle.std.proofs.lemmas.List.{length-map}
 use Rattle.fix_fields.specs.Fields.{Entry}
-use Rattle.fix_dictionary.specs.Tables.{header_rows, rows_of, entry_type_rows, instrument_rows, market_data_entry_rows, market_data_request_rows, market_data_snapshot_rows}
-use Rattle.fix_dictionary.specs.declared.table.Row.{Row}
+use Rattle.fix_dictionary.specs.Tables.{header_rows, entry_type_rows, instrument_rows, market_data_entry_rows, market_data_request_rows, market_data_snapshot_rows}
 use Rattle.fix_dictionary.specs.declared.table.MessageType.TheVariants as types
 use Rattle.fix_dictionary.specs.declared.messages.MarketDataEntry.{MarketDataEntry}
 use Rattle.fix_dictionary.specs.Values.{FitsEntryTypes, FitsEntries}

@@ -1,5 +1,6 @@
 pub mod AppLaw
 pub mod BoundLemmas
+pub mod CrossLaws
 pub mod FormLemmas
 pub mod GroupHeads
 pub mod GroupLaws

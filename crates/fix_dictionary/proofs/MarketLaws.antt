@@ -1,17 +1,14 @@
 -- Market data: what is printed is read as the message.
-use Rattle.std.proofs.Common.{◌≡◌, ℕ, zero, ◌+◌, ◌≤◌, ◌<◌, true, false, Bool, List, [], ◌∷◌, ◌++◌, refl, sym, ap, subst, ◌∙◌, arith, rules, cond, ◌==◌, ◌&&◌, ◌||◌, not, length, map, append_assoc, append-nil, decimal, Option, Some, None, ℤ, pos, codes}
-use Rattle.std.specs.List.{AllByRecursion}
+use Rattle.std.proofs.Common.{◌≡◌, ℕ, ◌+◌, ◌≤◌, true, false, Bool, List, [], ◌∷◌, ◌++◌, refl, sym, ap, subst, ◌∙◌, arith, cond, ◌==◌, length, map, append_assoc, append-nil, decimal, Option, Some, None, ℤ}
 use Rattle.std.proofs.lemmas.Bool.Decides.{nat_tests}
 use Rattle.fix_fields.specs.Fields.{Entry, value_of, AreFields}
 use Rattle.fix_fields.specs.Forms.{price_text}
 use Rattle.fix_dictionary.specs.declared.table.Row.{Row}
 use Rattle.fix_dictionary.specs.declared.table.MessageType.TheVariants as types
-use Rattle.fix_dictionary.specs.declared.places.Stand.TheVariants.{Aside, Within, Begins, Stray}
+use Rattle.fix_dictionary.specs.declared.places.Stand.TheVariants.{Within, Begins}
 use Rattle.fix_dictionary.specs.declared.places.State.{State}
 use Rattle.fix_dictionary.specs.declared.messages.App.TheVariants as app
-use Rattle.fix_dictionary.specs.declared.messages.Body.{Body}
 use Rattle.fix_dictionary.specs.declared.messages.Body.TheVariants as body
-use Rattle.fix_dictionary.specs.declared.messages.Message.{Message}
 use Rattle.fix_dictionary.specs.declared.messages.Header.{Header}
 use Rattle.fix_dictionary.specs.declared.messages.MarketDataEntry.{MarketDataEntry}
 use Rattle.fix_dictionary.specs.declared.messages.MarketDataSnapshot.{MarketDataSnapshot}
@@ -19,12 +16,12 @@ use Rattle.fix_dictionary.specs.declared.messages.MarketDataRequest.{MarketDataR
 use Rattle.fix_dictionary.specs.Values.{IsText}
 use Rattle.fix_dictionary.specs.Table.{needs, inside}
 use Rattle.fix_dictionary.specs.declared.table.Form.TheVariants.{Integer, Identifier, Character}
-use Rattle.fix_dictionary.specs.Tables.{header_rows, entry_type_rows, instrument_rows, market_data_entry_rows, market_data_request_rows, market_data_snapshot_rows}
+use Rattle.fix_dictionary.specs.Tables.{header_rows, entry_type_rows, market_data_entry_rows, market_data_request_rows, market_data_snapshot_rows}
 use Rattle.fix_dictionary.specs.Told.{told, some_or, number_in, character_in, price_in, amount_in}
 use Rattle.fix_dictionary.specs.Fits.{FitsHeader, FitsMarketDataEntry, FitsMarketDataRequest, FitsMarketDataSnapshot, IsGraphic}
-use Rattle.fix_dictionary.specs.Text.{Slot, fields_of, slots_text, header_slots, each_slots, entry_type_slots, market_data_entry_slots, market_data_request_slots, market_data_snapshot_slots, given}
-use Rattle.fix_dictionary.specs.Messages.{header, market_data_entry, market_data_request, market_data_snapshot, entry_type, placed_as, fault_as_type, message_as}
-use Rattle.fix_dictionary.specs.Places.{Placed, placed, start, part, begins, instances, sole, first_of}
+use Rattle.fix_dictionary.specs.Text.{Slot, fields_of, slots_text, header_slots, each_slots, market_data_request_slots, market_data_snapshot_slots, given}
+use Rattle.fix_dictionary.specs.Messages.{header, market_data_entry, market_data_request, market_data_snapshot, entry_type, fault_as_type, message_as}
+use Rattle.fix_dictionary.specs.Places.{Placed, placed, start, part, begins, sole, first_of}
 use Rattle.fix_dictionary.specs.GroupFaults.{miscounted, lacking, placed_fault}
 use Rattle.fix_dictionary.specs.GroupHolding.{members}
 use Rattle.fix_dictionary.specs.Holding.{Holds}
@@ -33,9 +30,9 @@ use Rattle.fix_dictionary.proofs.HoldLemmas.{HasOwnForms}
 use Rattle.fix_dictionary.proofs.TableLemmas.{own_forms, own_part, holds_both}
 use Rattle.fix_dictionary.proofs.LookLemmas.{Fill, Shows, slot_of, are_distinct, are_single, value_slot, single_fields, fill_both, fill_holds, fill_fields, fill_length}
 use Rattle.fix_dictionary.proofs.HeaderLaw.{the_message, fill_header, header_before}
-use Rattle.fix_dictionary.proofs.GroupHeads.{IsHead, lacks_optional}
+use Rattle.fix_dictionary.proofs.GroupHeads.{IsHead}
 use Rattle.fix_dictionary.proofs.PlaceLemmas.{map_all}
-use Rattle.fix_dictionary.proofs.GroupLaws.{GroupOf, slots_of, chunk, upto, upto_length, Opens, after, chunk_placed, chunk_single, chunk_begins, chunk_counted, chunk_lacking, chunk_right, part_low, part_high, AreFree, other_begins, other_lacking, at_zero, other_part, zero_begins, zero_lacking, zero_counted, are_plain, outside_part, all_single, faultless_placed, grouped_placed, split_zero, count_fine, none_twice, none_missing_in, IsThere, outside_there, inside_there, headed_there, AreRight, right_append, fill_right, fields_append, fields_both, chunk_fields, chunk_length, slots_length, read_back}
+use Rattle.fix_dictionary.proofs.GroupLaws.{GroupOf, slots_of, chunk, upto, upto_length, Opens, after, chunk_placed, chunk_single, chunk_begins, chunk_counted, chunk_lacking, chunk_right, part_low, part_high, AreFree, other_begins, other_lacking, at_zero, other_part, zero_begins, zero_lacking, zero_counted, are_plain, outside_part, all_single, faultless_placed, grouped_placed, split_zero, count_fine, none_twice, none_missing_in, outside_there, inside_there, headed_there, AreRight, right_append, fill_right, fields_append, fields_both, chunk_fields, chunk_length, slots_length, read_back}
 
 -- Snapshots.
 

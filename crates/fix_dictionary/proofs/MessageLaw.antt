@@ -1,7 +1,7 @@
 -- A printed message is read as itself.
 use Rattle.std.proofs.Common.{◌≡◌, ℕ, ◌≤◌, true, false, Bool, List, [], ◌∷◌, ◌++◌, length, refl, sym, ap, subst, ◌∙◌, arith, rules, Option, Some, None}
 use Rattle.fix_fields.specs.Forms.{integer_in}
-use Rattle.fix_fields.specs.Fields.{Entry, AreFields, fields_text}
+use Rattle.fix_fields.specs.Fields.{Entry, AreFields}
 use Rattle.fix_dictionary.specs.declared.messages.App.TheVariants as app
 use Rattle.fix_dictionary.specs.declared.messages.Admin.TheVariants as admin
 use Rattle.fix_dictionary.specs.declared.messages.Body.{Body}
@@ -269,6 +269,7 @@ all_tags types.BusinessMessageReject begin = refl
 all_tags types.QuoteRequest begin = refl
 all_tags types.Quote begin = refl
 all_tags types.QuoteRequestReject begin = refl
+all_tags types.NewOrderCross begin = refl
 all_tags types.MarketDataRequest begin = refl
 all_tags types.MarketDataSnapshot begin = refl
 all_tags types.Unsupported begin = refl
@@ -294,6 +295,7 @@ small_room types.BusinessMessageReject begin = omega arith
 small_room types.QuoteRequest begin = omega arith
 small_room types.Quote begin = omega arith
 small_room types.QuoteRequestReject begin = omega arith
+small_room types.NewOrderCross begin = omega arith
 small_room types.MarketDataRequest begin = omega arith
 small_room types.MarketDataSnapshot begin = omega arith
 small_room types.Unsupported begin = omega arith

@@ -1,5 +1,5 @@
 -- Where a table with groups finds no fault, the rows of each part hold, and each count is the number of instances.
-use Rattle.std.proofs.Common.{◌≡◌, ℕ, ◌≤◌, true, false, Bool, List, [], ◌∷◌, ◌++◌, refl, sym, ap, subst, ◌∙◌, arith, rules, cond, ◌==◌, ◌&&◌, ◌||◌, not, nat_le, nat_lt, length, map, append_assoc, Option, Some, None, Ok, Err, Result, inl, inr}
+use Rattle.std.proofs.Common.{◌≡◌, ℕ, ◌≤◌, true, false, Bool, List, [], ◌∷◌, ◌++◌, refl, sym, ap, subst, ◌∙◌, arith, rules, cond, ◌==◌, ◌&&◌, ◌||◌, not, nat_lt, length, map, append_assoc, Option, Some, None, Ok, Err, Result, inl, inr}
 use Rattle.std.specs.List.{AllByRecursion}
 use Rattle.std.proofs.lemmas.Bool.Decides.{nat_tests}
 use Rattle.std.proofs.lemmas.Bool.{cases_eq}
@@ -14,15 +14,14 @@ use Rattle.fix_fields.specs.GroupParts.{tells, is_read_as}
 use Rattle.fix_dictionary.specs.declared.table.Form.{Form}
 use Rattle.fix_dictionary.specs.declared.table.Form.TheVariants.{Integer}
 use Rattle.fix_dictionary.specs.declared.table.Row.{Row}
-use Rattle.fix_dictionary.specs.declared.faults.DictFault.{DictFault}
 use Rattle.fix_dictionary.specs.declared.places.Stand.{Stand}
 use Rattle.fix_dictionary.specs.declared.places.Stand.TheVariants.{Aside, Within, Begins, Stray}
 use Rattle.fix_dictionary.specs.declared.places.State.{State}
 use Rattle.fix_dictionary.specs.Table.{value_fault, why, needs}
 use Rattle.fix_dictionary.proofs.BoundLemmas.{ok_then, within_test, integer_bound}
-use Rattle.fix_dictionary.specs.Faults.{form_of, has_tag, faulty, fault_as, is_fault}
+use Rattle.fix_dictionary.specs.Faults.{form_of, has_tag, faulty, fault_as}
 use Rattle.fix_dictionary.specs.Places.{Placed, first_tag, is_count, placed, step, start, is_in, part, begins, with_begin, sole, first_of}
-use Rattle.fix_dictionary.specs.GroupFaults.{miscounts, miscounted, is_wrong, or_next, lacks, lacking, is_lacking, missing_in, placed_fault}
+use Rattle.fix_dictionary.specs.GroupFaults.{miscounted, is_wrong, or_next, lacks, lacking, is_lacking, missing_in, placed_fault}
 use Rattle.fix_dictionary.specs.GroupHolding.{members, Clean, EachHolds}
 use Rattle.fix_dictionary.specs.Holding.{RowHolds, Holds}
 use Rattle.fix_dictionary.proofs.HoldLemmas.{HasOwnForms, or_else_none, cond_none, neither, absent, not_required, some_not_none}

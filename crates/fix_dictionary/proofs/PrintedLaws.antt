@@ -1,5 +1,5 @@
 -- Whatever fields a printed text has spell the message again, and it is short.
-use Rattle.std.proofs.Common.{◌≡◌, ℕ, ◌≤◌, ◌+◌, true, false, List, [], ◌∷◌, ◌++◌, length, refl, sym, ap, subst, ◌∙◌, arith, rules, Some, codes}
+use Rattle.std.proofs.Common.{◌≡◌, ℕ, ◌≤◌, true, false, List, ◌∷◌, ◌++◌, length, refl, sym, ap, subst, arith, rules, Some, codes}
 use Rattle.fix_fields.specs.Fields.{Entry, AreFields, fields_text}
 use Rattle.fix_fields.proofs.OneList.{one_list}
 use Rattle.fix_dictionary.specs.declared.messages.App.{App}
@@ -12,14 +12,15 @@ use Rattle.fix_dictionary.specs.Tables.{header_rows}
 use Rattle.fix_dictionary.specs.Values.{IsText}
 use Rattle.fix_dictionary.specs.Messages.{Spells}
 use Rattle.fix_dictionary.specs.Applications.{SpellsApp}
-use Rattle.fix_dictionary.specs.Text.{Slot, fields_of, slots_text, header_slots, message_slots, message_text, app_text, app_slots, app_kind}
+use Rattle.fix_dictionary.specs.Text.{Slot, fields_of, slots_text, header_slots, message_slots, message_text, app_text, app_slots}
 use Rattle.fix_dictionary.specs.Fits.{FitsHeader, FitsBody, FitsMessage, is_read}
 use Rattle.fix_dictionary.proofs.LookLemmas.{fill_fields, fill_length}
 use Rattle.fix_dictionary.proofs.HeaderLaw.{the_message, fill_header}
 use Rattle.fix_dictionary.proofs.MessageLaw as flat
 use Rattle.fix_dictionary.proofs.AppLaw as application
 use Rattle.fix_dictionary.proofs.GroupLaws.{fields_append, fields_both, slots_length}
-use Rattle.fix_dictionary.proofs.GroupHeads.{IsHead, printed_head, added_head, added_slots}
+use Rattle.fix_dictionary.proofs.GroupHeads.{printed_head, added_head, added_slots}
+use Rattle.fix_dictionary.proofs.CrossLaws as cross
 use Rattle.fix_dictionary.proofs.MarketLaws as market
 use Rattle.fix_dictionary.proofs.RequestLaws as request
 
@@ -49,7 +50,8 @@ spelled h (body.App (app.Quote m)) head read fits =
     request.quote_law h (codes "S") (head_slots h (codes "S")) m head refl fits (printed_head h (codes "S") head refl) refl (refl, (refl, (refl, (refl, (refl, (refl, (refl, (refl, (refl, tt)))))))))
 spelled h (body.App (app.QuoteRequestReject m)) head read fits =
     request.reject_law h (codes "AG") (head_slots h (codes "AG")) m head refl fits (printed_head h (codes "AG") head refl) refl (refl, (refl, (refl, (refl, (refl, (refl, (refl, (refl, (refl, tt)))))))))
-spelled h (body.App (app.NewOrderCross m)) head read fits = absurd (false_not_true read)
+spelled h (body.App (app.NewOrderCross m)) head read fits =
+    cross.cross_law h (codes "s") (head_slots h (codes "s")) m head refl fits (printed_head h (codes "s") head refl) refl (refl, (refl, (refl, (refl, (refl, (refl, (refl, (refl, (refl, tt)))))))))
 spelled h (body.App (app.MarketDataRequest m)) head read fits =
     market.request_law h (codes "V") (head_slots h (codes "V")) m head refl fits (printed_head h (codes "V") head refl) refl (refl, (refl, (refl, (refl, (refl, (refl, (refl, (refl, (refl, tt)))))))))
 spelled h (body.App (app.MarketDataSnapshot m)) head read fits =
@@ -77,7 +79,9 @@ spelled_app (app.Quote m) read fits =
 spelled_app (app.QuoteRequestReject m) read fits =
     let law = request.reject_law application.plain (codes "AG") (added_slots (codes "AG")) m application.plain_fits refl fits (added_head (codes "AG") refl) refl (refl, (refl, (refl, (refl, (refl, tt))))) in
     (law.0, ap (λ (x : Message). x.body) law.1)
-spelled_app (app.NewOrderCross m) read fits = absurd (false_not_true read)
+spelled_app (app.NewOrderCross m) read fits =
+    let law = cross.cross_law application.plain (codes "s") (added_slots (codes "s")) m application.plain_fits refl fits (added_head (codes "s") refl) refl (refl, (refl, (refl, (refl, (refl, tt))))) in
+    (law.0, ap (λ (x : Message). x.body) law.1)
 spelled_app (app.MarketDataRequest m) read fits =
     let law = market.request_law application.plain (codes "V") (added_slots (codes "V")) m application.plain_fits refl fits (added_head (codes "V") refl) refl (refl, (refl, (refl, (refl, (refl, tt))))) in
     (law.0, ap (λ (x : Message). x.body) law.1)
@@ -106,7 +110,7 @@ printed h (body.App (app.Unsupported m)) head read fits = flat.printed_fields (t
 printed h (body.App (app.QuoteRequest m)) head read fits = grouped_fields h (codes "R") (app_slots (app.QuoteRequest m)) head refl (request.asked_fields m fits)
 printed h (body.App (app.Quote m)) head read fits = grouped_fields h (codes "S") (app_slots (app.Quote m)) head refl (request.quote_fields m fits)
 printed h (body.App (app.QuoteRequestReject m)) head read fits = grouped_fields h (codes "AG") (app_slots (app.QuoteRequestReject m)) head refl (request.reject_fields m fits)
-printed h (body.App (app.NewOrderCross m)) head read fits = absurd (false_not_true read)
+printed h (body.App (app.NewOrderCross m)) head read fits = grouped_fields h (codes "s") (app_slots (app.NewOrderCross m)) head refl (cross.cross_fields m fits)
 printed h (body.App (app.MarketDataRequest m)) head read fits = grouped_fields h (codes "V") (app_slots (app.MarketDataRequest m)) head refl (market.request_fields m fits)
 printed h (body.App (app.MarketDataSnapshot m)) head read fits = grouped_fields h (codes "W") (app_slots (app.MarketDataSnapshot m)) head refl (market.snapshot_fields m fits)
 
@@ -125,7 +129,7 @@ printed_app (app.Unsupported m) read fits = application.app_fields_are (app.Unsu
 printed_app (app.QuoteRequest m) read fits = application.with_kind (codes "R") (app_slots (app.QuoteRequest m)) refl (request.asked_fields m fits)
 printed_app (app.Quote m) read fits = application.with_kind (codes "S") (app_slots (app.Quote m)) refl (request.quote_fields m fits)
 printed_app (app.QuoteRequestReject m) read fits = application.with_kind (codes "AG") (app_slots (app.QuoteRequestReject m)) refl (request.reject_fields m fits)
-printed_app (app.NewOrderCross m) read fits = absurd (false_not_true read)
+printed_app (app.NewOrderCross m) read fits = application.with_kind (codes "s") (app_slots (app.NewOrderCross m)) refl (cross.cross_fields m fits)
 printed_app (app.MarketDataRequest m) read fits = application.with_kind (codes "V") (app_slots (app.MarketDataRequest m)) refl (market.request_fields m fits)
 printed_app (app.MarketDataSnapshot m) read fits = application.with_kind (codes "W") (app_slots (app.MarketDataSnapshot m)) refl (market.snapshot_fields m fits)
 
@@ -150,7 +154,7 @@ short h (body.App (app.Unsupported m)) head read fits = flat.message_length (the
 short h (body.App (app.QuoteRequest m)) head read fits = grouped_length h (codes "R") (app_slots (app.QuoteRequest m)) head refl (request.asked_length m fits)
 short h (body.App (app.Quote m)) head read fits = grouped_length h (codes "S") (app_slots (app.Quote m)) head refl (request.quote_length m fits)
 short h (body.App (app.QuoteRequestReject m)) head read fits = grouped_length h (codes "AG") (app_slots (app.QuoteRequestReject m)) head refl (request.reject_length m fits)
-short h (body.App (app.NewOrderCross m)) head read fits = absurd (false_not_true read)
+short h (body.App (app.NewOrderCross m)) head read fits = grouped_length h (codes "s") (app_slots (app.NewOrderCross m)) head refl (cross.cross_length m fits)
 short h (body.App (app.MarketDataRequest m)) head read fits = grouped_length h (codes "V") (app_slots (app.MarketDataRequest m)) head refl (market.request_length m fits)
 short h (body.App (app.MarketDataSnapshot m)) head read fits = grouped_length h (codes "W") (app_slots (app.MarketDataSnapshot m)) head refl (market.snapshot_length m fits)
 

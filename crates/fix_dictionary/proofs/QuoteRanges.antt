@@ -1,8 +1,8 @@
 -- What holds of a request for quotes, a quote or a refusal in which its table found no fault.
-use Rattle.std.proofs.Common.{◌≡◌, ℕ, ◌≤◌, true, List, [], ◌∷◌, ◌++◌, refl, sym, ap, subst, ◌∙◌, arith, length, map, Option, Some, None}
+use Rattle.std.proofs.Common.{◌≡◌, ℕ, ◌≤◌, true, List, [], ◌∷◌, ◌++◌, refl, sym, subst, arith, length, map, Option, Some, None}
 use Rattle.std.specs.List.{AllByRecursion}
-use Rattle.fix_fields.specs.Fields.{Entry, value_of}
-use Rattle.fix_dictionary.specs.Table.{needs, takes}
+use Rattle.fix_fields.specs.Fields.{value_of}
+use Rattle.fix_dictionary.specs.Table.{takes}
 use Rattle.fix_dictionary.specs.declared.table.Form.TheVariants.{Integer}
 use Rattle.fix_dictionary.specs.Tables.{header_rows, asked_rows, party_rows, instrument_rows, quote_request_rows, quote_rows, quote_request_reject_rows}
 use Rattle.fix_dictionary.specs.declared.table.Row.{Row}

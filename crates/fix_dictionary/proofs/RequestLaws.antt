@@ -1,5 +1,5 @@
 -- Requests for quotes, quotes and refusals of requests: what is printed is read as the message.
-use Rattle.std.proofs.Common.{◌≡◌, ℕ, ◌+◌, ◌≤◌, ◌<◌, true, false, Bool, List, [], ◌∷◌, ◌++◌, refl, sym, ap, subst, ◌∙◌, arith, rules, cond, ◌==◌, ◌&&◌, ◌||◌, not, length, map, append_assoc, append-nil, decimal, Option, Some, None, ℤ, pos, codes}
+use Rattle.std.proofs.Common.{◌≡◌, ℕ, ◌≤◌, ◌<◌, true, false, List, [], ◌∷◌, ◌++◌, refl, sym, ap, subst, ◌∙◌, arith, ◌==◌, length, map, append_assoc, append-nil, decimal, Option, Some, None, ℤ}
 use Rattle.std.specs.List.{AllByRecursion}
 use Rattle.std.proofs.lemmas.Bool.Decides.{nat_tests}
 use Rattle.sef_moment.specs.Utc.{utc_text, moment_of}
@@ -8,12 +8,10 @@ use Rattle.fix_fields.specs.Forms.{price_text}
 use Rattle.fix_dictionary.specs.declared.values.Side.{Side}
 use Rattle.fix_dictionary.specs.declared.table.Row.{Row}
 use Rattle.fix_dictionary.specs.declared.table.MessageType.TheVariants as types
-use Rattle.fix_dictionary.specs.declared.places.Stand.TheVariants.{Aside, Within, Begins, Stray}
+use Rattle.fix_dictionary.specs.declared.places.Stand.TheVariants.{Within, Begins}
 use Rattle.fix_dictionary.specs.declared.places.State.{State}
 use Rattle.fix_dictionary.specs.declared.messages.App.TheVariants as app
-use Rattle.fix_dictionary.specs.declared.messages.Body.{Body}
 use Rattle.fix_dictionary.specs.declared.messages.Body.TheVariants as body
-use Rattle.fix_dictionary.specs.declared.messages.Message.{Message}
 use Rattle.fix_dictionary.specs.declared.messages.Header.{Header}
 use Rattle.fix_dictionary.specs.declared.messages.Party.{Party}
 use Rattle.fix_dictionary.specs.declared.messages.QuoteRequest.{QuoteRequest}
@@ -21,26 +19,24 @@ use Rattle.fix_dictionary.specs.declared.messages.Quote.{Quote}
 use Rattle.fix_dictionary.specs.declared.messages.QuoteRequestReject.{QuoteRequestReject}
 use Rattle.fix_dictionary.specs.Values.{IsText, FitsParties}
 use Rattle.fix_dictionary.specs.Table.{needs, takes, inside}
-use Rattle.fix_dictionary.specs.declared.table.Form.TheVariants.{Integer, Identifier, Character, Price, Quantity, Utc, OneOrTwo, Printable}
-use Rattle.fix_dictionary.specs.Tables.{header_rows, party_rows, asked_rows, instrument_rows, quote_request_rows, quote_rows, quote_request_reject_rows}
+use Rattle.fix_dictionary.specs.declared.table.Form.TheVariants.{Integer, Identifier, Character, Price, Quantity, Utc, Printable}
+use Rattle.fix_dictionary.specs.Tables.{header_rows, party_rows, asked_rows, quote_request_rows, quote_rows, quote_request_reject_rows}
 use Rattle.fix_dictionary.specs.Told.{told, some_or, number_in, character_in, price_in, quantity_in, side_in}
 use Rattle.fix_dictionary.specs.Fits.{FitsHeader, FitsParty, FitsQuoteRequest, FitsQuote, FitsQuoteRequestReject}
-use Rattle.fix_dictionary.specs.Text.{Slot, with_slot, fields_of, slots_text, header_slots, each_slots, given, side_text, party_slots, party_count, quote_request_slots, quote_slots, quote_rest_slots, quote_request_reject_slots}
-use Rattle.fix_dictionary.specs.Messages.{header, party, counted_parties, parties_in, quote_request, quote, quote_request_reject, placed_as, fault_as_type, message_as}
-use Rattle.fix_dictionary.specs.Places.{Placed, is_count, first_tag, placed, step, start, part, begins, instances, sole, first_of, first_begin, first_or_none}
+use Rattle.fix_dictionary.specs.Text.{Slot, fields_of, slots_text, header_slots, each_slots, given, side_text, party_slots, party_count, quote_request_slots, quote_slots, quote_rest_slots, quote_request_reject_slots}
+use Rattle.fix_dictionary.specs.Messages.{header, party, counted_parties, parties_in, quote_request, quote, quote_request_reject, fault_as_type, message_as}
+use Rattle.fix_dictionary.specs.Places.{Placed, is_count, first_tag, placed, start, part, begins, instances, sole, first_of, first_begin, first_or_none}
 use Rattle.fix_dictionary.specs.GroupFaults.{miscounted, lacking, placed_fault}
 use Rattle.fix_dictionary.specs.GroupHolding.{members}
 use Rattle.fix_dictionary.specs.Faults.{has_tag}
-use Rattle.fix_dictionary.specs.Holding.{Holds}
 use Rattle.fix_dictionary.proofs.FormLemmas as form
 use Rattle.fix_dictionary.proofs.HoldLemmas.{HasOwnForms}
 use Rattle.fix_dictionary.proofs.TableLemmas.{holds_both}
 use Rattle.fix_dictionary.proofs.LookLemmas.{Fill, Shows, slot_of, are_distinct, are_single, value_slot, single_fields, fill_both, fill_holds, fill_fields, fill_length, present}
 use Rattle.fix_dictionary.proofs.HeaderLaw.{the_message, fill_header, header_before}
-use Rattle.fix_dictionary.proofs.GroupHeads.{IsHead, lacks_optional}
+use Rattle.fix_dictionary.proofs.GroupHeads.{IsHead}
 use Rattle.fix_dictionary.proofs.PlaceLemmas.{map_all}
-use Rattle.fix_dictionary.proofs.GroupLaws.{GroupOf, slots_of, chunk, upto, upto_length, goes_on_in, with_placed, Opens, after, chunk_placed, members_placed, zero_placed, passed_counted, chunk_single, chunk_begins, chunk_counted, chunk_lacking, one_lacking, one_single, chunk_right, part_low, part_high, part_here, AreFree, other_begins, other_lacking, at_zero, zero_part, other_part, zero_begins, zero_lacking, zero_counted, are_plain, outside_part, all_single, faultless_placed, grouped_placed, split_zero, count_fine, none_twice, none_missing_in, IsThere, outside_there, inside_there, headed_there, AreRight, right_append, fill_right, fields_append, fields_both, chunk_fields, chunk_length, slots_length, read_back}
-use Rattle.fix_dictionary.proofs.MarketLaws.{fill_instrument, one_instrument_rows}
+use Rattle.fix_dictionary.proofs.GroupLaws.{GroupOf, slots_of, chunk, upto, upto_length, goes_on_in, with_placed, Opens, after, chunk_placed, members_placed, zero_placed, passed_counted, chunk_single, chunk_begins, chunk_counted, chunk_lacking, one_lacking, one_single, chunk_right, part_low, part_high, part_here, AreFree, other_begins, other_lacking, at_zero, zero_part, other_part, zero_begins, zero_lacking, zero_counted, are_plain, outside_part, all_single, faultless_placed, grouped_placed, split_zero, count_fine, none_twice, none_missing_in, outside_there, inside_there, headed_there, AreRight, right_append, fill_right, fields_append, fields_both, chunk_fields, chunk_length, slots_length, read_back}
 
 -- Parties.
 

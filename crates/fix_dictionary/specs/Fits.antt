@@ -1,5 +1,5 @@
 -- The ranges of the values of a message, which its types keep.
-use Rattle.std.specs.Prelude.{◌≡◌, ℕ, ◌≤◌, Bool, true, false, length, Option, None, Some}
+use Rattle.std.specs.Prelude.{◌≡◌, ℕ, ◌≤◌, Bool, true, length, Option, None, Some}
 use Rattle.std.specs.List.{AllByRecursion}
 use Rattle.fix_dictionary.specs.Kinds.{IsOtherKind}
 use Rattle.fix_dictionary.specs.declared.messages.App.TheVariants as app
@@ -24,6 +24,8 @@ use Rattle.fix_dictionary.specs.declared.messages.OrderCancelRequest.{OrderCance
 use Rattle.fix_dictionary.specs.declared.messages.OrderCancelReplaceRequest.{OrderCancelReplaceRequest}
 use Rattle.fix_dictionary.specs.declared.messages.ExecutionReport.{ExecutionReport}
 use Rattle.fix_dictionary.specs.declared.messages.OrderCancelReject.{OrderCancelReject}
+use Rattle.fix_dictionary.specs.declared.messages.CrossSide.{CrossSide}
+use Rattle.fix_dictionary.specs.declared.messages.NewOrderCross.{NewOrderCross}
 use Rattle.fix_dictionary.specs.declared.messages.Party.{Party}
 use Rattle.fix_dictionary.specs.declared.messages.QuoteRequest.{QuoteRequest}
 use Rattle.fix_dictionary.specs.declared.messages.Quote.{Quote}
@@ -186,6 +188,20 @@ pub record FitsQuoteRequestReject (m : QuoteRequestReject) : Type 0 where
   pub symbol : IsText 64 m.symbol
   pub text : Given (IsText 200) m.text
 
+pub record FitsCrossSide (m : CrossSide) : Type 0 where
+  pub order_id : IsText 64 m.order_id
+  pub quantity : IsQuantity m.quantity
+
+pub record FitsNewOrderCross (m : NewOrderCross) : Type 0 where
+  pub cross_id : IsText 64 m.cross_id
+  pub cross_type : IsFixInt m.cross_type
+  pub prioritization : IsFixInt m.prioritization
+  pub first : FitsCrossSide m.first
+  pub second : FitsCrossSide m.second
+  pub symbol : IsText 64 m.symbol
+  pub order_type : IsGraphic m.order_type
+  pub price : Given IsPrice m.price
+
 pub record FitsMarketDataRequest (m : MarketDataRequest) : Type 0 where
   pub request_id : IsText 64 m.request_id
   pub subscription_type : IsGraphic m.subscription_type
@@ -229,7 +245,7 @@ FitsBody (body.App (app.Unsupported kind)) = IsOtherKind kind
 FitsBody (body.App (app.QuoteRequest m)) = FitsQuoteRequest m
 FitsBody (body.App (app.Quote m)) = FitsQuote m
 FitsBody (body.App (app.QuoteRequestReject m)) = FitsQuoteRequestReject m
-FitsBody (body.App (app.NewOrderCross m)) = Unit {0}
+FitsBody (body.App (app.NewOrderCross m)) = FitsNewOrderCross m
 FitsBody (body.App (app.MarketDataRequest m)) = FitsMarketDataRequest m
 FitsBody (body.App (app.MarketDataSnapshot m)) = FitsMarketDataSnapshot m
 
@@ -239,7 +255,7 @@ is_read (body.Admin m) = true
 is_read (body.App (app.QuoteRequest m)) = true
 is_read (body.App (app.Quote m)) = true
 is_read (body.App (app.QuoteRequestReject m)) = true
-is_read (body.App (app.NewOrderCross m)) = false
+is_read (body.App (app.NewOrderCross m)) = true
 is_read (body.App (app.MarketDataRequest m)) = true
 is_read (body.App (app.MarketDataSnapshot m)) = true
 is_read (body.App (app.QuoteCancel m)) = true

@@ -1,5 +1,5 @@
 -- The first fault of a list of fields, seen by a table with repeating groups.
-use Rattle.std.specs.Prelude.{ℕ, ◌==◌, Bool, true, false, ◌&&◌, ◌||◌, not, if◌then◌else◌, List, [], ◌∷◌, ◌++◌, length, Option, None, Some}
+use Rattle.std.specs.Prelude.{ℕ, ◌==◌, Bool, false, ◌&&◌, ◌||◌, not, if◌then◌else◌, List, [], ◌∷◌, ◌++◌, length, Option, None, Some}
 use Rattle.fix_fields.specs.declared.value.ValueFault.TheVariants as value
 use Rattle.fix_fields.specs.Fields.{Entry}
 use Rattle.fix_fields.specs.GroupParts.{tells}
@@ -10,7 +10,7 @@ use Rattle.fix_dictionary.specs.declared.table.Row.{Row}
 use Rattle.fix_dictionary.specs.declared.places.Stand.{Stand}
 use Rattle.fix_dictionary.specs.declared.places.Stand.TheVariants.{Aside, Within, Begins, Stray}
 use Rattle.fix_dictionary.specs.Faults.{has_tag, faulty, or_else}
-use Rattle.fix_dictionary.specs.Places.{Placed, group_of, first_tag, is_count, placed, start, part, begins}
+use Rattle.fix_dictionary.specs.Places.{Placed, group_of, first_tag, is_count, part, begins}
 
 -- the tag stands before in its part
 abbrev pub repeats : ℕ → Stand → List Placed → Bool

@@ -1,7 +1,6 @@
 -- Placed fields in which a table with repeating groups finds no fault.
 use Rattle.std.specs.Prelude.{◌≡◌, ℕ, ◌==◌, if◌then◌else◌, List, [], ◌∷◌, ◌++◌, None}
 use Rattle.std.specs.List.{AllByRecursion}
-use Rattle.fix_fields.specs.Fields.{Entry}
 use Rattle.fix_dictionary.specs.declared.table.Row.{Row}
 use Rattle.fix_dictionary.specs.Faults.{form_of, fault_as}
 use Rattle.fix_dictionary.specs.Places.{Placed, part, begins}

@@ -24,13 +24,14 @@ type_of kind =
     if bytes_eq kind (codes "D") then types.NewOrderSingle else (
     if bytes_eq kind (codes "F") then types.OrderCancelRequest else (
     if bytes_eq kind (codes "G") then types.OrderCancelReplaceRequest else (
+    if bytes_eq kind (codes "s") then types.NewOrderCross else (
     if bytes_eq kind (codes "8") then types.ExecutionReport else (
     if bytes_eq kind (codes "9") then types.OrderCancelReject else (
     if bytes_eq kind (codes "V") then types.MarketDataRequest else (
     if bytes_eq kind (codes "W") then types.MarketDataSnapshot else (
     if bytes_eq kind (codes "Y") then types.MarketDataRequestReject else (
     if bytes_eq kind (codes "j") then types.BusinessMessageReject else (
-    types.Unsupported))))))))))))))))))))))
+    types.Unsupported)))))))))))))))))))))))
 
 -- the types of the session's own messages
 abbrev pub is_session : MessageType → Bool
@@ -48,6 +49,7 @@ abbrev pub is_grouped : MessageType → Bool
 is_grouped types.QuoteRequest = true
 is_grouped types.Quote = true
 is_grouped types.QuoteRequestReject = true
+is_grouped types.NewOrderCross = true
 is_grouped types.MarketDataRequest = true
 is_grouped types.MarketDataSnapshot = true
 is_grouped _ = false

@@ -11,7 +11,7 @@ use Rattle.fix_dictionary.specs.declared.table.MessageType.TheVariants as types
 use Rattle.fix_dictionary.specs.Tables.{header_rows, rows_of}
 use Rattle.fix_dictionary.specs.Faults.{first_fault}
 use Rattle.fix_dictionary.specs.Kinds.{type_of, is_grouped}
-use Rattle.fix_dictionary.specs.Places.{Placed, placed, start, part, instances, first_begin, sole}
+use Rattle.fix_dictionary.specs.Places.{Placed, placed, start, part, instances, first_begin, second_begin, sole}
 use Rattle.fix_dictionary.specs.GroupFaults.{placed_fault}
 use Rattle.fix_dictionary.specs.declared.messages.App.TheVariants as app
 use Rattle.fix_dictionary.specs.declared.messages.Admin.TheVariants as admin
@@ -34,6 +34,8 @@ use Rattle.fix_dictionary.specs.declared.messages.OrderCancelRequest.{OrderCance
 use Rattle.fix_dictionary.specs.declared.messages.OrderCancelReplaceRequest.{OrderCancelReplaceRequest}
 use Rattle.fix_dictionary.specs.declared.messages.ExecutionReport.{ExecutionReport}
 use Rattle.fix_dictionary.specs.declared.messages.OrderCancelReject.{OrderCancelReject}
+use Rattle.fix_dictionary.specs.declared.messages.CrossSide.{CrossSide}
+use Rattle.fix_dictionary.specs.declared.messages.NewOrderCross.{NewOrderCross}
 use Rattle.fix_dictionary.specs.declared.messages.Party.{Party}
 use Rattle.fix_dictionary.specs.declared.messages.QuoteRequest.{QuoteRequest}
 use Rattle.fix_dictionary.specs.declared.messages.Quote.{Quote}
@@ -272,6 +274,25 @@ quote_request_reject ps = record {
   text = value_of 58 (part 0 ps);
 }
 
+abbrev pub cross_side : List Entry → CrossSide
+cross_side fields = record {
+  side = side_in (bytes_at 54 fields);
+  order_id = bytes_at 11 fields;
+  quantity = quantity_in (bytes_at 38 fields);
+}
+
+abbrev pub new_order_cross : List Placed → NewOrderCross
+new_order_cross ps = record {
+  cross_id = bytes_at 548 (part 0 ps);
+  cross_type = number_in (bytes_at 549 (part 0 ps));
+  prioritization = number_in (bytes_at 550 (part 0 ps));
+  first = cross_side (part (first_begin 54 ps) ps);
+  second = cross_side (part (second_begin 54 ps) ps);
+  symbol = bytes_at 55 (part 0 ps);
+  order_type = character_in (bytes_at 40 (part 0 ps));
+  price = told price_in (value_of 44 (part 0 ps));
+}
+
 -- where the fields of a type with groups stand
 abbrev pub placed_as : MessageType → List Entry → List Placed
 placed_as kind fields = placed header_rows (rows_of kind 0) start fields
@@ -294,6 +315,7 @@ body_in types.QuoteStatusReport fields = body.App (app.QuoteStatusReport (quote_
 body_in types.NewOrderSingle fields = body.App (app.NewOrderSingle (new_order_single fields))
 body_in types.OrderCancelRequest fields = body.App (app.OrderCancelRequest (order_cancel_request fields))
 body_in types.OrderCancelReplaceRequest fields = body.App (app.OrderCancelReplaceRequest (order_cancel_replace_request fields))
+body_in types.NewOrderCross fields = body.App (app.NewOrderCross (new_order_cross (placed_as types.NewOrderCross fields)))
 body_in types.ExecutionReport fields = body.App (app.ExecutionReport (execution_report fields))
 body_in types.OrderCancelReject fields = body.App (app.OrderCancelReject (order_cancel_reject fields))
 body_in types.MarketDataRequest fields = body.App (app.MarketDataRequest (market_data_request (placed_as types.MarketDataRequest fields)))

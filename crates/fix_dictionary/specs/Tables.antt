@@ -187,6 +187,14 @@ new_order_cross_rows =
     ∷ takes 44 Price
     ∷ []
 
+-- the rows of one side of a cross
+abbrev pub side_rows : List Row
+side_rows =
+    needs 54 OneOrTwo
+    ∷ needs 11 Identifier
+    ∷ needs 38 Quantity
+    ∷ []
+
 abbrev pub execution_report_rows : List Row
 execution_report_rows =
     needs 37 Identifier
@@ -289,6 +297,7 @@ rows_of types.TheVariants.QuoteStatusReport begin = quote_status_report_rows
 rows_of types.TheVariants.NewOrderSingle begin = new_order_single_rows
 rows_of types.TheVariants.OrderCancelRequest begin = order_cancel_request_rows
 rows_of types.TheVariants.OrderCancelReplaceRequest begin = order_cancel_replace_request_rows
+rows_of types.TheVariants.NewOrderCross begin = new_order_cross_rows
 rows_of types.TheVariants.ExecutionReport begin = execution_report_rows
 rows_of types.TheVariants.OrderCancelReject begin = order_cancel_reject_rows
 rows_of types.TheVariants.MarketDataRequest begin = market_data_request_rows

@@ -28,6 +28,7 @@ use Rattle.fix_dictionary.specs.declared.messages.OrderCancelRequest.{OrderCance
 use Rattle.fix_dictionary.specs.declared.messages.OrderCancelReplaceRequest.{OrderCancelReplaceRequest}
 use Rattle.fix_dictionary.specs.declared.messages.ExecutionReport.{ExecutionReport}
 use Rattle.fix_dictionary.specs.declared.messages.OrderCancelReject.{OrderCancelReject}
+use Rattle.fix_dictionary.specs.declared.messages.NewOrderCross.{NewOrderCross}
 use Rattle.fix_dictionary.specs.declared.messages.Party.{Party}
 use Rattle.fix_dictionary.specs.declared.messages.QuoteRequest.{QuoteRequest}
 use Rattle.fix_dictionary.specs.declared.messages.Quote.{Quote}
@@ -272,6 +273,23 @@ quote_request_reject_slots m =
     ∷ (58, m.text)
     ∷ []
 
+abbrev pub new_order_cross_slots : NewOrderCross → List Slot
+new_order_cross_slots m =
+    (548, Some m.cross_id)
+    ∷ (549, Some (decimal m.cross_type))
+    ∷ (550, Some (decimal m.prioritization))
+    ∷ (552, Some (decimal 2))
+    ∷ (54, Some (side_text m.first.side))
+    ∷ (11, Some m.first.order_id)
+    ∷ (38, Some (decimal m.first.quantity))
+    ∷ (54, Some (side_text m.second.side))
+    ∷ (11, Some m.second.order_id)
+    ∷ (38, Some (decimal m.second.quantity))
+    ∷ (55, Some m.symbol)
+    ∷ (40, Some (m.order_type ∷ []))
+    ∷ (44, given price_text m.price)
+    ∷ []
+
 abbrev pub entry_type_slots : ℕ → List Slot
 entry_type_slots c = (269, Some (c ∷ [])) ∷ []
 
@@ -333,7 +351,7 @@ app_slots (app.Unsupported kind) = []
 app_slots (app.QuoteRequest m) = quote_request_slots m
 app_slots (app.Quote m) = quote_slots m
 app_slots (app.QuoteRequestReject m) = quote_request_reject_slots m
-app_slots (app.NewOrderCross m) = []
+app_slots (app.NewOrderCross m) = new_order_cross_slots m
 app_slots (app.MarketDataRequest m) = market_data_request_slots m
 app_slots (app.MarketDataSnapshot m) = market_data_snapshot_slots m
 

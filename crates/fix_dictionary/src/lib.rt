@@ -2,6 +2,7 @@
 #![tactic(auto)]
 
 mod copy;
+mod cross_parts;
 mod faults;
 mod forms;
 mod group_faults;

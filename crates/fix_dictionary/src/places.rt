@@ -1,7 +1,7 @@
 //! Where the fields of a message with repeating groups stand.
 ghost use Rattle.std.specs.Prelude.{◌≡◌, ◌≤◌, ◌<◌, ◌+◌, length, IfOk};
 ghost use Rattle.fix_fields.specs.Views.{entries};
-ghost use Rattle.fix_dictionary.specs.Places.{group_of, first_tag, is_count, opened, opened_in, goes_on, entered, astray, unopened, outer_step, inner_step, step_in, header_step, step, start, placed, places, is_in, part, begins, first_begin};
+ghost use Rattle.fix_dictionary.specs.Places.{group_of, first_tag, is_count, opened, opened_in, goes_on, entered, astray, unopened, outer_step, inner_step, step_in, header_step, step, start, placed, places, is_in, part, begins, first_begin, second_begin};
 
 use crate::table::Row;
 use fix_fields::Field;
@@ -369,4 +369,20 @@ pub(crate) fn first_begin(placed: &[Standing], first: u32) -> usize
         }
     }
     0
+}
+
+/// The part of the second instance of a group outside of groups, or 0 where there is none.
+pub(crate) fn second_begin(
+    alloc: Global,
+    placed: &[Standing],
+    first: u32,
+) -> Result<usize, AllocError>
+    ensures { IfOk result (λ part. part ≡ second_begin first (places placed.now)) }
+{
+    let parts = begins(alloc, placed, first, 0)?;
+    match parts.as_slice() {
+        [_, second, ..] => Ok(*second),
+        [_] => Ok(0),
+        [] => Ok(0),
+    }
 }

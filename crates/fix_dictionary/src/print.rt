@@ -8,6 +8,7 @@ ghost use Rattle.fix_dictionary.specs.Fits.{Given, IsGraphic, IsMoment, FitsHead
 ghost use Rattle.fix_dictionary.specs.Printed.{printed, printed_option, slots};
 ghost use Rattle.fix_dictionary.specs.Text.{with_slot, fields_of, slots_text, given, flag_text, side_text, app_kind, app_slots, admin_kind, admin_slots, body_kind, body_slots, message_slots, message_text, app_text, header_slots, heartbeat_slots, test_request_slots, resend_request_slots, reject_slots, sequence_reset_slots, logout_slots, logon_slots, quote_cancel_slots, quote_response_slots, quote_status_report_slots, new_order_single_slots, order_cancel_request_slots, order_cancel_replace_request_slots, execution_report_slots, order_cancel_reject_slots, market_data_request_reject_slots, business_message_reject_slots};
 
+use crate::cross_parts::print_new_order_cross;
 use crate::group_print::{print_market_data_request, print_market_data_snapshot};
 use crate::messages::{
     Admin, App, Body, BusinessMessageReject, ExecutionReport, Header, Heartbeat, Logon, Logout,
@@ -78,7 +79,7 @@ pub(crate) fn append_slots(out: &mut Vec<u8>, list: &[Slot]) -> Result<(), Alloc
     Ok(())
 }
 
-fn printed_side<'a>(side: Side) -> Printed<'a>
+pub(crate) fn printed_side<'a>(side: Side) -> Printed<'a>
     ensures { printed result ≡ side_text side }
 {
     match side {
@@ -514,7 +515,7 @@ fn append_app(out: &mut Vec<u8>, message: &App) -> Result<(), AllocError>
         App::OrderCancelReject(m) => print_order_cancel_reject(out, m),
         App::MarketDataRequestReject(m) => print_market_data_request_reject(out, m),
         App::BusinessMessageReject(m) => print_business_message_reject(out, m),
-        App::NewOrderCross(_) => Ok(()),
+        App::NewOrderCross(m) => print_new_order_cross(out, m),
         App::QuoteRequest(m) => print_quote_request(out, m),
         App::Quote(m) => print_quote(out, m),
         App::QuoteRequestReject(m) => print_quote_request_reject(out, m),

@@ -26,7 +26,7 @@ use crate::table::{
     MessageType, header, is_grouped, is_session, resend_request_rows, rows_of, type_of,
 };
 use crate::values::OtherKind;
-use crate::{group_parts, parts, quote_parts};
+use crate::{cross_parts, group_parts, parts, quote_parts};
 use fix_fields::{Field, Fields};
 use std::alloc::{AllocError, Global};
 
@@ -94,6 +94,7 @@ fn body_in(
         MessageType::QuoteRequest
         | MessageType::Quote
         | MessageType::QuoteRequestReject
+        | MessageType::NewOrderCross
         | MessageType::MarketDataRequest
         | MessageType::MarketDataSnapshot => unreachable!(),
     })
@@ -132,6 +133,9 @@ fn grouped_body(
     Ok(Body::App(match kind {
         MessageType::QuoteRequest => {
             App::QuoteRequest(quote_parts::quote_request(alloc, placed)?)
+        }
+        MessageType::NewOrderCross => {
+            App::NewOrderCross(cross_parts::new_order_cross(alloc, placed)?)
         }
         MessageType::Quote => App::Quote(quote_parts::quote(alloc, placed)?),
         MessageType::QuoteRequestReject => {

@@ -118,6 +118,8 @@ pub(crate) enum MessageType {
     OrderCancelRequest,
     /// `G`
     OrderCancelReplaceRequest,
+    /// `s`
+    NewOrderCross,
     /// `8`
     ExecutionReport,
     /// `9`
@@ -252,6 +254,19 @@ const ORDER_CANCEL_REPLACE_REQUEST: [Row; 5] = [
     takes!(44, Form::Price),
 ];
 
+const NEW_ORDER_CROSS: [Row; 10] = [
+    needs!(548, Form::Identifier),
+    needs!(549, Form::Integer(0, 999_999_999)),
+    needs!(550, Form::Integer(0, 999_999_999)),
+    needs!(552, Form::Integer(2, 2)),
+    needs_inside!(552, 54, Form::OneOrTwo),
+    needs_inside!(552, 11, Form::Identifier),
+    needs_inside!(552, 38, Form::Quantity),
+    needs!(55, Form::Identifier),
+    needs!(40, Form::Character),
+    takes!(44, Form::Price),
+];
+
 const EXECUTION_REPORT: [Row; 16] = [
     needs!(37, Form::Identifier),
     needs!(17, Form::Identifier),
@@ -352,6 +367,7 @@ pub(crate) fn rows_of(kind: MessageType) -> &'static [Row]
         MessageType::NewOrderSingle => &NEW_ORDER_SINGLE,
         MessageType::OrderCancelRequest => &ORDER_CANCEL_REQUEST,
         MessageType::OrderCancelReplaceRequest => &ORDER_CANCEL_REPLACE_REQUEST,
+        MessageType::NewOrderCross => &NEW_ORDER_CROSS,
         MessageType::ExecutionReport => &EXECUTION_REPORT,
         MessageType::OrderCancelReject => &ORDER_CANCEL_REJECT,
         MessageType::MarketDataRequest => &MARKET_DATA_REQUEST,
@@ -383,6 +399,7 @@ pub(crate) fn type_of(kind: &[u8]) -> MessageType
         b"D" => MessageType::NewOrderSingle,
         b"F" => MessageType::OrderCancelRequest,
         b"G" => MessageType::OrderCancelReplaceRequest,
+        b"s" => MessageType::NewOrderCross,
         b"8" => MessageType::ExecutionReport,
         b"9" => MessageType::OrderCancelReject,
         b"V" => MessageType::MarketDataRequest,
@@ -418,6 +435,7 @@ pub(crate) fn is_grouped(kind: MessageType) -> bool
         MessageType::QuoteRequest
             | MessageType::Quote
             | MessageType::QuoteRequestReject
+            | MessageType::NewOrderCross
             | MessageType::MarketDataRequest
             | MessageType::MarketDataSnapshot
     )

@@ -368,3 +368,65 @@ fn replacement_meets_a_linked_order(rt: HostRuntime) -> Result<(), Fail> {
     assert_eq!(rt; said.as_slice(), too_recent());
     Ok(())
 }
+
+fn seller(alloc: Global, k: u32) -> Result<String, AllocError> {
+    let line = format!(in alloc; "D 35=D|11=d{k}|55=IRS5Y|54=2|38=1|40=2|44=2.5|")?;
+    Ok(line)
+}
+
+// Rests so many sells at 2.5.
+fn add_sellers(alloc: Global, venue: &mut Venue, count: u32) -> Option<()>
+    requires { venue.old.items + count ≤ 500 }
+    ensures { IfSome result (λ _. venue.new.items ≤ venue.old.items + count) }
+{
+    for k in 0..count {
+        let line = match seller(alloc, k) {
+            Ok(line) => line,
+            Err(_) => seller(alloc, k).ok()?,
+        };
+        let taken = taken(alloc, k + 1, line.as_bytes())?;
+        let _answer = said(alloc, venue, &taken)?;
+    }
+    Some(())
+}
+
+// What is answered to the last of some lines where 200 sells rest.
+fn beside_a_full_side(alloc: Global, lines: &[Line]) -> Option<Vec<u8>>
+    requires { length lines.now ≤ 20 }
+{
+    let mut venue = opened(alloc)?;
+    add_sellers(alloc, &mut venue, 200)?;
+    last_answer(alloc, &mut venue, lines)
+}
+
+fn one_more() -> Line {
+    b"B 35=D|11=b1|55=IRS5Y|54=2|38=1|40=2|44=2.5|"
+}
+
+fn side_full() -> Line {
+    b"B 35=8|37=NONE|17=E201|150=8|39=8|55=IRS5Y|54=2|151=0|14=0|11=b1|103=3|58=Book side full|\n"
+}
+
+fn one_bought() -> Line {
+    b"B 35=D|11=b1|55=IRS5Y|54=1|38=1|40=2|44=2.5|"
+}
+
+fn still_filled() -> Line {
+    b"B 35=8|37=O201|17=E202|150=0|39=0|55=IRS5Y|54=1|151=1|14=0|11=b1|\n\
+B 35=8|37=O201|17=E203|150=F|39=2|55=IRS5Y|54=1|151=0|14=1|11=b1|31=2.5|32=1|880=T1|\n\
+D 35=8|37=O1|17=E204|150=F|39=2|55=IRS5Y|54=2|151=0|14=1|11=d0|31=2.5|32=1|880=T1|\n"
+}
+
+#[test]
+fn no_more_rest_on_a_full_side(rt: HostRuntime) -> Result<(), Fail> {
+    let said = beside_a_full_side(rt.alloc(), &[one_more()]).ok_or("memory")?;
+    assert_eq!(rt; said.as_slice(), side_full());
+    Ok(())
+}
+
+#[test]
+fn full_side_fills(rt: HostRuntime) -> Result<(), Fail> {
+    let said = beside_a_full_side(rt.alloc(), &[one_more(), one_bought()]).ok_or("memory")?;
+    assert_eq!(rt; said.as_slice(), still_filled());
+    Ok(())
+}

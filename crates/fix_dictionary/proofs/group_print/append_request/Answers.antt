@@ -1,7 +1,7 @@
 use Rattle.std.proofs.Common.{◌≡◌, ◌++◌, ◌∷◌, [], List, ℕ, sym, subst, Some, decimal, length}
 use Rattle.fix_fields.specs.Fields.{Appends}
 use Rattle.fix_fields.proofs.AppendLemmas.{Appends-after}
-use Rattle.fix_dictionary.specs.Text.{Slot, slots_text, each_slots, entry_type_slots, market_data_entry_slots}
+use Rattle.fix_dictionary.specs.Text.{Slot, slots_text, each_slots, entry_type_slots}
 use Rattle.fix_dictionary.proofs.TextLemmas.{slots_text_append}
 use Rattle.fix_dictionary.proofs.group_print.append_request.Goals as goal
 

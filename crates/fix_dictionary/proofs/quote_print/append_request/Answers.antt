@@ -1,7 +1,7 @@
-use Rattle.std.proofs.Common.{◌≡◌, ◌++◌, ◌∷◌, [], List, ℕ, sym, subst, Some, decimal, length}
+use Rattle.std.proofs.Common.{◌≡◌, ◌++◌, ◌∷◌, [], List, ℕ, sym, subst, Some, decimal}
 use Rattle.fix_fields.specs.Fields.{Appends}
 use Rattle.fix_fields.proofs.AppendLemmas.{Appends-after}
-use Rattle.fix_dictionary.specs.Text.{Slot, slots_text, given, side_text, each_slots, party_count, party_slots, quote_rest_slots}
+use Rattle.fix_dictionary.specs.Text.{Slot, slots_text, given, side_text, each_slots, party_count, party_slots}
 use Rattle.fix_dictionary.proofs.TextLemmas.{slots_text_append}
 use Rattle.fix_dictionary.proofs.quote_print.append_request.Goals as goal
 
