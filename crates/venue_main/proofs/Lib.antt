@@ -1,4 +1,5 @@
 pub mod Bodies
+pub mod Counts
 pub mod Hearing
 pub mod Reading
 pub mod Sending

@@ -5,11 +5,12 @@ use Rattle.std.proofs.KnownBytes.{Appends-kept, Appends-nil, Consumes-nil, Consu
 use Rattle.fix_frame.specs.Buffered.{Buffered}
 use Rattle.fix_frame.specs.Stream.{HasOneList, Reads}
 use Rattle.venue_rules.specs.Facts.{no_history}
-use Rattle.venue_core.specs.Fixture.{fixture}
+use Rattle.venue_rules.specs.Market.{Market}
 use Rattle.venue_core.specs.State.{State}
 use Rattle.venue_main.specs.Answering.{Stands}
 use Rattle.venue_main.specs.Once.{AnswersFront, AnswersStream, Stopped, UnlessOutput}
 use Rattle.venue_main.specs.Outgoing.{Outgoing}
+use Rattle.venue_main.specs.Wire.{Line, line_to}
 use Rattle.venue_main.specs.declared.once.OnceFault.{OnceFault}
 use Rattle.venue_main.specs.declared.once.OnceFault.TheVariants.{Memory, Input as BadInput, Output}
 use Rattle.venue_main.proofs.Hearing.{OneList}
@@ -32,8 +33,8 @@ pub reads_nothing : Reads [] [] []
 reads_nothing = (0, record { within = omega arith; never = λ k below may. absurd (omega arith) }, refl)
 
 -- before anything is read
-pub stopped_at_once : (t : ℕ) (left written : Option (List ℕ)) → Stopped t left left written written
-stopped_at_once t left written = record {
+pub stopped_at_once : (market : Market) (t : ℕ) (left written : Option (List ℕ)) → Stopped market t left left written written
+stopped_at_once market t left written = record {
   heard = [];
   unheard = [];
   output = [];
@@ -43,8 +44,8 @@ stopped_at_once t left written = record {
 }
 
 -- where all that was read was heard
-pub stopped_after : (t : ℕ) (left left' written written' : Option (List ℕ)) (heard output : List ℕ) → Consumes left left' heard → AnswersFront t heard output → Appends written written' output → Stopped t left left' written written'
-stopped_after t left left' written written' heard output consumed front appended = record {
+pub stopped_after : (market : Market) (t : ℕ) (left left' written written' : Option (List ℕ)) (heard output : List ℕ) → Consumes left left' heard → AnswersFront market t heard output → Appends written written' output → Stopped market t left left' written written'
+stopped_after market t left left' written written' heard output consumed front appended = record {
   heard = heard;
   unheard = [];
   output = output;
@@ -54,41 +55,44 @@ stopped_after t left left' written written' heard output consumed front appended
 }
 
 -- at the end of the input
-pub ended_well : (t : ℕ) (left left' written mid written' : Option (List ℕ)) (heard taken output : List ℕ) → taken ≡ [] → Consumes left left' (heard ++ taken) → IsAtEnd left'
-    → AnswersStream t heard output → Appends written mid output → Keeps mid written'
-    → IfSome left (λ input. (out : List ℕ) × AnswersStream t input out × Appends written written' out)
-ended_well t left left' written mid written' heard taken output none consumed end answers appended kept =
+pub ended_well : (market : Market) (t : ℕ) (left left' written mid written' : Option (List ℕ)) (heard taken output : List ℕ) → taken ≡ [] → Consumes left left' (heard ++ taken) → IsAtEnd left'
+    → AnswersStream market t heard output → Appends written mid output → Keeps mid written'
+    → IfSome left (λ input. (out : List ℕ) × AnswersStream market t input out × Appends written written' out)
+ended_well market t left left' written mid written' heard taken output none consumed end answers appended kept =
     let all : heard ++ taken ≡ heard = ap (λ (l : List ℕ). heard ++ l) none ∙ append-nil heard in
-    Consumes-whole left left' heard (λ input. (out : List ℕ) × AnswersStream t input out × Appends written written' out)
+    Consumes-whole left left' heard (λ input. (out : List ℕ) × AnswersStream market t input out × Appends written written' out)
     (subst (Consumes left left') all consumed) end (output, answers, Appends-kept written mid written' output appended kept)
 
-pub ended_alone : HasOneList → OneList → (t : ℕ) (left left' written mid written' : Option (List ℕ)) (heard taken output : List ℕ) → taken ≡ [] → Consumes left left' (heard ++ taken) → IsAtEnd left'
-    → AnswersStream t heard output → Appends written mid output → Keeps mid written'
-    → IfSome left (λ input. (other : List ℕ) → AnswersStream t input other → Appends written written' other)
-ended_alone frames one t left left' written mid written' heard taken output none consumed end answers appended kept =
+pub ended_alone : HasOneList → OneList → (market : Market) (t : ℕ) (left left' written mid written' : Option (List ℕ)) (heard taken output : List ℕ) → taken ≡ [] → Consumes left left' (heard ++ taken) → IsAtEnd left'
+    → AnswersStream market t heard output → Appends written mid output → Keeps mid written'
+    → IfSome left (λ input. (other : List ℕ) → AnswersStream market t input other → Appends written written' other)
+ended_alone frames one market t left left' written mid written' heard taken output none consumed end answers appended kept =
     let all : heard ++ taken ≡ heard = ap (λ (l : List ℕ). heard ++ l) none ∙ append-nil heard in
-    Consumes-whole left left' heard (λ input. (other : List ℕ) → AnswersStream t input other → Appends written written' other)
+    Consumes-whole left left' heard (λ input. (other : List ℕ) → AnswersStream market t input other → Appends written written' other)
     (subst (Consumes left left') all consumed) end
-    (λ other answers'. subst (Appends written written') (one_answer frames one t heard output other answers answers') (Appends-kept written mid written' output appended kept))
+    (λ other answers'. subst (Appends written written') (one_answer frames one market t heard output other answers answers') (Appends-kept written mid written' output appended kept))
 
 -- nothing has happened at first
-pub stands_at_first : (venue : State) (cutter : Buffered) (outbox : Outgoing) (t : ℕ) → venue.market ≡ fixture → venue.history ≡ no_history
-    → cutter.unread ≡ [] → outbox ≡ record { at = t; next = 1; frames = [] }
-    → Stands cutter.unread venue outbox [] []
-stands_at_first venue cutter outbox t market history empty first = record {
+pub stands_at_first : (market : Market) (t : ℕ) (venue : State) (cutter : Buffered) (outbox : Outgoing) → venue.market ≡ market → venue.history ≡ no_history
+    → cutter.unread ≡ [] → outbox ≡ record { line = line_to market.participants 0 t; next = 1; frames = [] }
+    → Stands market t cutter.unread venue outbox [] []
+stands_at_first market t venue cutter outbox market_is history empty first = record {
   bodies = [];
   items = [];
   reads = subst (Reads [] []) (sym empty) reads_nothing;
   all = refl;
-  market = market;
-  history = history;
-  answers = refl;
-  next = ap (λ (o : Outgoing). o.next) first;
+  stands = record {
+    market_is = market_is;
+    history = history;
+    line = ap (λ (o : Outgoing). o.line) first;
+    answers = refl;
+    next = ap (λ (o : Outgoing). o.next) first;
+  };
 }
 
 -- a piece more is heard
-pub piece_heard : (unread unread' : List ℕ) (venue : State) (outbox : Outgoing) (heard piece output : List ℕ)
+pub piece_heard : (market : Market) (t : ℕ) (unread unread' : List ℕ) (venue : State) (outbox : Outgoing) (heard piece output : List ℕ)
     → ((bodies : List (List ℕ)) → Reads heard bodies unread → Reads (heard ++ piece) bodies unread')
-    → Stands unread venue outbox heard output → Stands unread' venue outbox (heard ++ piece) output
-piece_heard unread unread' venue outbox heard piece output read s =
-    record { bodies = s.bodies; items = s.items; reads = read s.bodies s.reads; all = s.all; market = s.market; history = s.history; answers = s.answers; next = s.next }
+    → Stands market t unread venue outbox heard output → Stands market t unread' venue outbox (heard ++ piece) output
+piece_heard market t unread unread' venue outbox heard piece output read s =
+    record { bodies = s.bodies; items = s.items; reads = read s.bodies s.reads; all = s.all; stands = s.stands }

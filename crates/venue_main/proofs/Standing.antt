@@ -8,14 +8,13 @@ use Rattle.venue_rules.specs.Answer.{Answer}
 use Rattle.venue_rules.specs.Facts.{History}
 use Rattle.venue_rules.specs.Market.{Market}
 use Rattle.venue_rules.specs.Run.{Input, Message, Outcome, after}
-use Rattle.venue_core.specs.Fixture.{fixture}
 use Rattle.venue_core.specs.Served.{one_more, served_answer}
 use Rattle.venue_core.specs.State.{State}
-use Rattle.venue_main.specs.Answering.{Answered, Left, Stands, Took, answer_to}
+use Rattle.venue_main.specs.Answering.{Answered, Left, Stands, StandsAt, Took, answer_to}
 use Rattle.venue_main.specs.Heard.{AllHeard, Hears}
 use Rattle.venue_main.specs.Once.{AnswersFront, AnswersStream, UnlessOutput, outcome}
 use Rattle.venue_main.specs.Outgoing.{Outgoing}
-use Rattle.venue_main.specs.Wire.{said, wire}
+use Rattle.venue_main.specs.Wire.{Line, line_to, said, wire}
 use Rattle.venue_main.specs.declared.once.OnceFault.{OnceFault}
 use Rattle.venue_main.specs.declared.once.OnceFault.TheVariants.{Memory, Input as BadInput, Output}
 use Rattle.venue_main.proofs.Hearing.{AllHeard-push}
@@ -27,92 +26,82 @@ unless_output BadInput P Q f p = f p
 unless_output Output P Q f p = tt
 
 -- what was answered so far, where a run is left off
-pub front_answered : (unread : List ℕ) (venue : State) (outbox : Outgoing) (t : ℕ) (heard output : List ℕ) → outbox.at ≡ t → Stands unread venue outbox heard output → AnswersFront t heard output
-front_answered unread venue outbox t heard output at s =
-    (s.bodies, unread, s.reads, (s.items, s.all, s.answers ∙ ap (λ (k : ℕ). wire k 1 (said 0 (outcome k s.items).replies)) at))
+pub front_answered : (market : Market) (t : ℕ) (unread : List ℕ) (venue : State) (outbox : Outgoing) (heard output : List ℕ) → Stands market t unread venue outbox heard output → AnswersFront market t heard output
+front_answered market t unread venue outbox heard output s = (s.bodies, unread, s.reads, (s.items, s.all, s.stands.answers))
 
 -- and where all frames are read
-pub stream_answered : (unread unread' : List ℕ) (venue : State) (outbox : Outgoing) (t : ℕ) (heard output : List ℕ) → outbox.at ≡ t
+pub stream_answered : (market : Market) (t : ℕ) (unread unread' : List ℕ) (venue : State) (outbox : Outgoing) (heard output : List ℕ)
     → ((bodies : List (List ℕ)) → Reads heard bodies unread → Reads heard bodies unread' × Frames heard bodies)
-    → Stands unread venue outbox heard output → Stands unread' venue outbox heard output × AnswersStream t heard output
-stream_answered unread unread' venue outbox t heard output at read s =
+    → Stands market t unread venue outbox heard output → Stands market t unread' venue outbox heard output × AnswersStream market t heard output
+stream_answered market t unread unread' venue outbox heard output read s =
     let all = read s.bodies s.reads in (
-      record { bodies = s.bodies; items = s.items; reads = all.0; all = s.all; market = s.market; history = s.history; answers = s.answers; next = s.next },
-      (s.bodies, all.1, (s.items, s.all, s.answers ∙ ap (λ (k : ℕ). wire k 1 (said 0 (outcome k s.items).replies)) at)),
+      record { bodies = s.bodies; items = s.items; reads = all.0; all = s.all; stands = s.stands },
+      (s.bodies, all.1, (s.items, s.all, s.stands.answers)),
     )
 
 pub answered_items : (item : Option Item) (venue venue' : State) (outbox outbox' : Outgoing) (bytes : List ℕ) → Answered item venue venue' outbox outbox' bytes → venue'.items ≤ venue.items + 1
 answered_items None venue venue' outbox outbox' bytes h = omega (arith, ap (λ (v : State). v.items) h.venue_is)
 answered_items (Some item) venue venue' outbox outbox' bytes h = omega (arith, h.items)
 
-pub answered_at : (item : Option Item) (venue venue' : State) (outbox outbox' : Outgoing) (bytes : List ℕ) → Answered item venue venue' outbox outbox' bytes → outbox'.at ≡ outbox.at
-answered_at None venue venue' outbox outbox' bytes h = ap (λ (o : Outgoing). o.at) h.outbox_is
-answered_at (Some item) venue venue' outbox outbox' bytes h = h.at
+-- the answer to one message more
+answer_after : (market : Market) (t : ℕ) (items : List Item) (item : Item) (venue : State) (outbox : Outgoing) (output : List ℕ)
+    → StandsAt market t items venue outbox output
+    → answer_to venue outbox.line.at item ≡ served_answer market (outcome market t items).history (Message (record { from = 0; item = item }) t)
+answer_after market t items item venue outbox output s =
+    let input : ℕ → Input = λ k. Message (record { from = 0; item = item }) k in
+    ap (λ (l : Line). served_answer venue.market venue.history (input l.at)) s.line
+    ∙ ap (λ (m : Market). served_answer m venue.history (input t)) s.market_is
+    ∙ ap (λ (h : History). served_answer market h (input t)) s.history
 
--- where the messages so far are `items`, the venue and the outbox stand so at t
-pub record StandsAt (t : ℕ) (items : List Item) (venue : State) (next : ℕ) (output : List ℕ) : Type 0 where
-  pub market : venue.market ≡ fixture
-  pub history : venue.history ≡ (outcome t items).history
-  pub answers : output ≡ wire t 1 (said 0 (outcome t items).replies)
-  pub next_is : next ≡ 1 + length (said 0 (outcome t items).replies)
-
--- one message more
-took_more : GoesOn → (t : ℕ) (items : List Item) (item : Item) (venue venue' : State) (next next' : ℕ) (output bytes : List ℕ)
-    → venue'.market ≡ venue.market → venue'.history ≡ after venue.history (answer_to venue t item)
-    → next' ≡ next + length (said 0 (answer_to venue t item).replies)
-    → bytes ≡ wire t next (said 0 (answer_to venue t item).replies)
-    → StandsAt t items venue next output → StandsAt t (items ++ item ∷ []) venue' next' (output ++ bytes)
-took_more goes_on t items item venue venue' next next' output bytes market history next_is bytes_are s =
+-- one message more is taken, and answered
+took_more : GoesOn → (market : Market) (t : ℕ) (items : List Item) (item : Item) (venue venue' : State) (outbox outbox' : Outgoing) (output bytes : List ℕ)
+    → Took item venue venue' outbox outbox' bytes
+    → StandsAt market t items venue outbox output → StandsAt market t (items ++ item ∷ []) venue' outbox' (output ++ bytes)
+took_more goes_on market t items item venue venue' outbox outbox' output bytes h s =
     let input : Input = Message (record { from = 0; item = item }) t in
-    let before = outcome t items in
-    let answer = served_answer fixture before.history input in
-    let same : answer_to venue t item ≡ answer =
-    ap (λ (m : Market). served_answer m venue.history input) s.market ∙ ap (λ (h : History). served_answer fixture h input) s.history in
-    let more : outcome t (items ++ item ∷ []) ≡ one_more fixture before input = outcome-push goes_on t items item in
-    let replies : said 0 (outcome t (items ++ item ∷ [])).replies ≡ said 0 before.replies ++ said 0 answer.replies =
+    let before = outcome market t items in
+    let given = answer_to venue outbox.line.at item in
+    let answer = served_answer market before.history input in
+    let same : given ≡ answer = answer_after market t items item venue outbox output s in
+    let more : outcome market t (items ++ item ∷ []) ≡ one_more market before input = outcome-push goes_on market t items item in
+    let replies : said 0 (outcome market t (items ++ item ∷ [])).replies ≡ said 0 before.replies ++ said 0 answer.replies =
     ap (λ (o : Outcome). said 0 o.replies) more ∙ said-append 0 before.replies answer.replies in
-    let said_is : said 0 (answer_to venue t item).replies ≡ said 0 answer.replies = ap (λ (a : Answer). said 0 a.replies) same in
+    let said_is : said 0 given.replies ≡ said 0 answer.replies = ap (λ (a : Answer). said 0 a.replies) same in
     let counted = ap (λ (l : List App). length l) said_is in
     let counted_all = ap (λ (l : List App). length l) replies in
+    let line = line_to market.participants 0 t in
     record {
-      market = market ∙ s.market;
+      market_is = h.market ∙ s.market_is;
       history =
-          history ∙ ap (λ (h : History). after h (answer_to venue t item)) s.history ∙ ap (after before.history) same
+          h.history ∙ ap (λ (past : History). after past given) s.history ∙ ap (after before.history) same
           ∙ sym (ap (λ (o : Outcome). o.history) more);
+      line = h.line ∙ s.line;
       answers =
           ap (λ (l : List ℕ). l ++ bytes) s.answers
-          ∙ ap (λ (l : List ℕ). wire t 1 (said 0 before.replies) ++ l)
-          (bytes_are ∙ ap (λ (n : ℕ). wire t n (said 0 (answer_to venue t item).replies)) s.next_is ∙ ap (wire t (1 + length (said 0 before.replies))) said_is)
-          ∙ sym (wire-append t 1 (said 0 before.replies) (said 0 answer.replies))
-          ∙ ap (wire t 1) (sym replies);
-      next_is = omega (arith, next_is, s.next_is, counted, counted_all, length-append (said 0 before.replies) (said 0 answer.replies));
+          ∙ ap (λ (l : List ℕ). wire line 1 (said 0 before.replies) ++ l)
+          (h.bytes_are ∙ ap (λ (l : Line). wire l outbox.next (said 0 given.replies)) s.line ∙ ap (λ (n : ℕ). wire line n (said 0 given.replies)) s.next ∙ ap (wire line (1 + length (said 0 before.replies))) said_is)
+          ∙ sym (wire-append line 1 (said 0 before.replies) (said 0 answer.replies))
+          ∙ ap (wire line 1) (sym replies);
+      next = omega (arith, h.next, s.next, counted, counted_all, length-append (said 0 before.replies) (said 0 answer.replies));
     }
 
 -- one body more is heard, and answered
-pub body_answered : GoesOn → (unread unread' : List ℕ) (venue venue' : State) (outbox outbox' : Outgoing) (heard output text bytes : List ℕ) (item : Option Item)
+pub body_answered : GoesOn → (market : Market) (t : ℕ) (unread unread' : List ℕ) (venue venue' : State) (outbox outbox' : Outgoing) (heard output text bytes : List ℕ) (item : Option Item)
     → ((bodies : List (List ℕ)) → Reads heard bodies unread → Reads heard (bodies ++ text ∷ []) unread')
     → Hears text item → Answered item venue venue' outbox outbox' bytes
-    → Stands unread venue outbox heard output → Stands unread' venue' outbox' heard (output ++ bytes)
-body_answered goes_on unread unread' venue venue' outbox outbox' heard output text bytes None read hears h s =
+    → Stands market t unread venue outbox heard output → Stands market t unread' venue' outbox' heard (output ++ bytes)
+body_answered goes_on market t unread unread' venue venue' outbox outbox' heard output text bytes None read hears h s =
     let all = subst (AllHeard (s.bodies ++ text ∷ [])) (append-nil s.items) (AllHeard-push s.bodies s.items text None s.all hears) in
-    let stands : Stands unread' venue outbox heard output =
-    record { bodies = s.bodies ++ text ∷ []; items = s.items; reads = read s.bodies s.reads; all = all; market = s.market; history = s.history; answers = s.answers; next = s.next } in
+    let stands : Stands market t unread' venue outbox heard output =
+    record { bodies = s.bodies ++ text ∷ []; items = s.items; reads = read s.bodies s.reads; all = all; stands = s.stands } in
     let output_is : output ≡ output ++ bytes = sym (append-nil output) ∙ ap (λ (l : List ℕ). output ++ l) (sym h.bytes_are) in
-    subst (λ (l : List ℕ). Stands unread' venue' outbox' heard l) output_is
-    (subst (λ (o : Outgoing). Stands unread' venue' o heard output) (sym h.outbox_is)
-    (subst (λ (v : State). Stands unread' v outbox heard output) (sym h.venue_is) stands))
-body_answered goes_on unread unread' venue venue' outbox outbox' heard output text bytes (Some item) read hears h s =
-    let before : StandsAt outbox.at s.items venue outbox.next output = record { market = s.market; history = s.history; answers = s.answers; next_is = s.next } in
-    let same_time = took_more goes_on outbox.at s.items item venue venue' outbox.next outbox'.next output bytes h.market h.history h.next h.bytes_are before in
-    let items = s.items ++ item ∷ [] in
-    let stands = subst (λ (t : ℕ). StandsAt t items venue' outbox'.next (output ++ bytes)) (sym h.at) same_time in
-    record {
-      bodies = s.bodies ++ text ∷ [];
-      items = items;
-      reads = read s.bodies s.reads;
-      all = AllHeard-push s.bodies s.items text (Some item) s.all hears;
-      market = stands.market;
-      history = stands.history;
-      answers = stands.answers;
-      next = stands.next_is;
-    }
+    subst (λ (l : List ℕ). Stands market t unread' venue' outbox' heard l) output_is
+    (subst (λ (o : Outgoing). Stands market t unread' venue' o heard output) (sym h.outbox_is)
+    (subst (λ (v : State). Stands market t unread' v outbox heard output) (sym h.venue_is) stands))
+body_answered goes_on market t unread unread' venue venue' outbox outbox' heard output text bytes (Some item) read hears h s = record {
+  bodies = s.bodies ++ text ∷ [];
+  items = s.items ++ item ∷ [];
+  reads = read s.bodies s.reads;
+  all = AllHeard-push s.bodies s.items text (Some item) s.all hears;
+  stands = took_more goes_on market t s.items item venue venue' outbox outbox' output bytes h s.stands;
+}

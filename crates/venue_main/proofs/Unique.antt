@@ -4,8 +4,8 @@ use Rattle.fix_frame.specs.Stream.{HasOneList}
 use Rattle.fix_dictionary.specs.declared.messages.Item.{Item}
 use Rattle.fix_dictionary.specs.declared.messages.Message.{Message}
 use Rattle.venue_main.specs.Heard.{AllHeard, Hears, SpellsText, item_of, listed}
-use Rattle.venue_main.specs.Once.{AnswersStream, outcome}
-use Rattle.venue_main.specs.Wire.{said, wire}
+use Rattle.venue_rules.specs.Market.{Market}
+use Rattle.venue_main.specs.Once.{AnswersStream, written_for}
 use Rattle.venue_main.proofs.Hearing.{OneList, same_message}
 
 none_or_some : (x : Option Item) (item : Item) → x ≡ None → x ≡ Some item → None ≡ Some item
@@ -25,9 +25,9 @@ all_heard_one one (text ∷ texts) xs ys h k =
     ∙ ap (λ (l : List Item). listed k.0 ++ l) (all_heard_one one texts h.1 k.1 h.3 k.3)
     ∙ sym k.4
 
-pub one_answer : HasOneList → OneList → (t : ℕ) (input output other : List ℕ) → AnswersStream t input output → AnswersStream t input other → output ≡ other
-one_answer frames one t input output other a b =
+pub one_answer : HasOneList → OneList → (market : Market) (t : ℕ) (input output other : List ℕ) → AnswersStream market t input output → AnswersStream market t input other → output ≡ other
+one_answer frames one market t input output other a b =
     let bodies : a.0 ≡ b.0 = frames input a.0 b.0 a.1 b.1 in
     let all = subst (λ (l : List (List ℕ)). AllHeard l a.2.0) bodies a.2.1 in
     let items = all_heard_one one b.0 a.2.0 b.2.0 all b.2.1 in
-    a.2.2 ∙ ap (λ (l : List Item). wire t 1 (said 0 (outcome t l).replies)) items ∙ sym b.2.2
+    a.2.2 ∙ ap (written_for market t) items ∙ sym b.2.2

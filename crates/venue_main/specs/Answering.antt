@@ -4,14 +4,14 @@ use Rattle.std.specs.Io.KnownBytes.{Appends}
 use Rattle.fix_frame.specs.Stream.{Reads}
 use Rattle.fix_dictionary.specs.declared.messages.Item.{Item}
 use Rattle.venue_rules.specs.Answer.{Answer}
+use Rattle.venue_rules.specs.Market.{Market}
 use Rattle.venue_rules.specs.Run.{Message, after}
-use Rattle.venue_core.specs.Fixture.{fixture}
 use Rattle.venue_core.specs.Served.{served_answer}
 use Rattle.venue_core.specs.State.{State}
 use Rattle.venue_main.specs.Heard.{AllHeard}
-use Rattle.venue_main.specs.Once.{outcome}
+use Rattle.venue_main.specs.Once.{outcome, written_for}
 use Rattle.venue_main.specs.Outgoing.{Outgoing}
-use Rattle.venue_main.specs.Wire.{said, wire}
+use Rattle.venue_main.specs.Wire.{line_to, said, wire}
 
 -- the venue's answer to a message that the first participant sends at t
 abbrev pub answer_to : State → ℕ → Item → Answer
@@ -20,11 +20,11 @@ answer_to venue t item = served_answer venue.market venue.history (Message (reco
 -- the message is taken, and these bytes are the frames of the replies to it
 pub record Took (item : Item) (venue venue' : State) (outbox outbox' : Outgoing) (bytes : List ℕ) : Type 0 where
   pub market : venue'.market ≡ venue.market
-  pub history : venue'.history ≡ after venue.history (answer_to venue outbox.at item)
+  pub history : venue'.history ≡ after venue.history (answer_to venue outbox.line.at item)
   pub items : venue'.items ≡ venue.items + 1
-  pub at : outbox'.at ≡ outbox.at
-  pub next : outbox'.next ≡ outbox.next + length (said 0 (answer_to venue outbox.at item).replies)
-  pub bytes_are : bytes ≡ wire outbox.at outbox.next (said 0 (answer_to venue outbox.at item).replies)
+  pub line : outbox'.line ≡ outbox.line
+  pub next : outbox'.next ≡ outbox.next + length (said 0 (answer_to venue outbox.line.at item).replies)
+  pub bytes_are : bytes ≡ wire outbox.line outbox.next (said 0 (answer_to venue outbox.line.at item).replies)
 
 -- nothing is taken, and nothing written
 pub record Left (venue venue' : State) (outbox outbox' : Outgoing) (bytes : List ℕ) : Type 0 where
@@ -37,13 +37,18 @@ abbrev pub Answered : Option Item → State → State → Outgoing → Outgoing 
 Answered None venue venue' outbox outbox' bytes = Left venue venue' outbox outbox' bytes
 Answered (Some item) venue venue' outbox outbox' bytes = Took item venue venue' outbox outbox' bytes
 
+-- the venue and the outbox after these messages, each at t, and what was written for them
+pub record StandsAt (market : Market) (t : ℕ) (items : List Item) (venue : State) (outbox : Outgoing) (output : List ℕ) : Type 0 where
+  pub market_is : venue.market ≡ market
+  pub history : venue.history ≡ (outcome market t items).history
+  pub line : outbox.line ≡ line_to market.participants 0 t
+  pub answers : output ≡ written_for market t items
+  pub next : outbox.next ≡ 1 + length (said 0 (outcome market t items).replies)
+
 -- the bytes heard are read, up to those that are unread, and the output is the answers to what was heard in them
-pub record Stands (unread : List ℕ) (venue : State) (outbox : Outgoing) (heard output : List ℕ) : Type 0 where
+pub record Stands (market : Market) (t : ℕ) (unread : List ℕ) (venue : State) (outbox : Outgoing) (heard output : List ℕ) : Type 0 where
   pub bodies : List (List ℕ)
   pub items : List Item
   pub reads : Reads heard bodies unread
   pub all : AllHeard bodies items
-  pub market : venue.market ≡ fixture
-  pub history : venue.history ≡ (outcome outbox.at items).history
-  pub answers : output ≡ wire outbox.at 1 (said 0 (outcome outbox.at items).replies)
-  pub next : outbox.next ≡ 1 + length (said 0 (outcome outbox.at items).replies)
+  pub stands : StandsAt market t items venue outbox output

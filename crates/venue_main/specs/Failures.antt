@@ -1,8 +1,42 @@
--- The statuses of the program.
+-- How the program ends where it does not end well.
 use Rattle.std.specs.Prelude.{ℕ}
+use Rattle.participants.specs.declared.fault.FileFault.{FileFault as ParticipantsFault}
+use Rattle.participants.specs.declared.fault.FileFault.TheVariants as participants
+use Rattle.instruments.specs.declared.fault.FileFault.{FileFault as InstrumentsFault}
+use Rattle.instruments.specs.declared.fault.FileFault.TheVariants as instruments
+use Rattle.venue_main.specs.declared.check.CheckFault.{CheckFault}
+use Rattle.venue_main.specs.declared.check.CheckFault.TheVariants as check
 use Rattle.venue_main.specs.declared.failure.Failure.{Failure}
-use Rattle.venue_main.specs.declared.failure.Failure.TheVariants.{Stopped, CommandLine}
+use Rattle.venue_main.specs.declared.failure.Failure.TheVariants.{Stopped, CommandLine, Participants, Instruments}
+use Rattle.venue_main.specs.declared.once.OnceFault.TheVariants.{Memory, Output}
 
+-- the status that the program ends with
 abbrev pub status_of : Failure → ℕ
 status_of (Stopped fault) = 1
 status_of CommandLine = 2
+status_of (Participants number) = 3
+status_of (Instruments number) = 3
+
+-- the end of the program where the participant file has this fault
+abbrev pub participants_failure : ParticipantsFault → Failure
+participants_failure participants.NotToml = Participants 1
+participants_failure participants.Missing = Participants 2
+participants_failure participants.Twice = Participants 3
+participants_failure participants.UnknownName = Participants 4
+participants_failure participants.TooMany = Participants 5
+participants_failure participants.BadValue = Participants 6
+participants_failure participants.NoMemory = Stopped Memory
+
+-- and where the instrument file has it
+abbrev pub instruments_failure : InstrumentsFault → Failure
+instruments_failure instruments.NotToml = Instruments 1
+instruments_failure instruments.Missing = Instruments 2
+instruments_failure instruments.Twice = Instruments 3
+instruments_failure instruments.TooMany = Instruments 5
+instruments_failure instruments.BadValue = Instruments 6
+instruments_failure instruments.NoMemory = Stopped Memory
+
+abbrev pub check_failure : CheckFault → Failure
+check_failure (check.Participants fault) = participants_failure fault
+check_failure (check.Instruments fault) = instruments_failure fault
+check_failure check.Output = Stopped Output

@@ -10,3 +10,5 @@ pub mod Outgoing
 pub mod Answering
 -- the statuses of the program
 pub mod Failures
+-- what is said of the two files
+pub mod Check

@@ -3,6 +3,7 @@
 ghost use Rattle.std.specs.Prelude.{◌≡◌, ◌+◌, ◌≤◌, ◌++◌, ℕ, List, Option, length, IfOk, IfErr, OnOk};
 ghost use Rattle.std.specs.Io.KnownBytes.{Appends, Keeps};
 ghost use Rattle.fix_dictionary.specs.declared.messages.Item.{Item};
+ghost use Rattle.venue_rules.specs.Market.{Market};
 ghost use Rattle.venue_core.specs.Served.{IsPlanOf, most_items};
 ghost use Rattle.venue_main.specs.Heard.{Hears};
 ghost use Rattle.venue_main.specs.Once.{AnswersStream, AnswersFront, UnlessOutput};
@@ -10,7 +11,7 @@ ghost use Rattle.venue_main.specs.Answering.{Answered, Stands, Took, answer_to};
 
 use crate::heard::item_in;
 use crate::once::OnceFault;
-use crate::outbox::Outbox;
+use crate::outbox::{FIRST, Outbox};
 use fix_dictionary::Item;
 use fix_frame::{Cut, Cutter};
 use sef_moment::Moment;
@@ -18,9 +19,6 @@ use std::alloc::{AllocError, Global};
 use std::io::Write;
 use venue_core::{Plan, Venue, served_run_goes_on};
 use venue_rules::{Taken, Who};
-
-/// The place of the participant whose stream is answered.
-const FIRST: u32 = 0;
 
 /// Takes each message of the frames that are whole, and writes the replies to it before it looks at the next frame.
 /// `Input` where bytes come at which no frame can begin.
@@ -33,13 +31,14 @@ pub fn answer_frames<W: Write>(
 ) -> Result<(), OnceFault>
     requires { venue.old.items + length cutter.old.unread ≤ most_items }
     ensures fewer { venue.new.items + length cutter.new.unread ≤ venue.old.items + length cutter.old.unread }
-    ensures at { OnOk result (outbox.new.at ≡ outbox.old.at) }
-    ensures answered { OnOk result ((heard output : List ℕ) → Stands cutter.old.unread venue.old outbox.old heard output → (more : List ℕ)
-        × Stands cutter.new.unread venue.new outbox.new heard (output ++ more)
-        × AnswersStream outbox.old.at heard (output ++ more)
+    ensures answered { OnOk result ((market : Market) (t : ℕ) (heard output : List ℕ)
+        → Stands market t cutter.old.unread venue.old outbox.old heard output → (more : List ℕ)
+        × Stands market t cutter.new.unread venue.new outbox.new heard (output ++ more)
+        × AnswersStream market t heard (output ++ more)
         × Appends (W.contents writer.old) (W.contents writer.new) more) }
-    ensures stopped { IfErr result (λ fault. UnlessOutput fault ((heard output : List ℕ) → Stands cutter.old.unread venue.old outbox.old heard output → (more : List ℕ)
-        × AnswersFront outbox.old.at heard (output ++ more)
+    ensures stopped { IfErr result (λ fault. UnlessOutput fault ((market : Market) (t : ℕ) (heard output : List ℕ)
+        → Stands market t cutter.old.unread venue.old outbox.old heard output → (more : List ℕ)
+        × AnswersFront market t heard (output ++ more)
         × Appends (W.contents writer.old) (W.contents writer.new) more)) }
 {
     served_run_goes_on();

@@ -1,18 +1,21 @@
 //! The command line.
 
 use crate::failure::Failure;
+use crate::files::Paths;
 use crate::once::OnceFault;
 use clap::error::ErrorKind;
-use clap::{Arg, ArgAction, Command, Error};
+use clap::{Arg, ArgAction, ArgMatches, Command, Error};
 use sef_moment::{Moment, read_utc};
-use std::alloc::Global;
+use std::alloc::{AllocError, Global};
 use std::{env, io};
 
 /// What the words of the command line ask for.
 #[derive(Drop)]
 pub enum Task {
-    /// `once --at TIME`
-    Once { at: Moment },
+    /// `once --participants FILE --instruments FILE --at TIME`
+    Once { paths: Paths, at: Moment },
+    /// `check --participants FILE --instruments FILE`
+    Check { paths: Paths },
     /// `--help`: the text was printed.
     Help,
 }
@@ -20,8 +23,8 @@ pub enum Task {
 /// What the process's words ask for.
 pub fn task_given(rt: &HostRuntime) -> Result<Task, Failure> {
     let words = words_given(rt)?;
-    match moment_in(rt.alloc(), &words) {
-        Ok(Some(at)) => Ok(Task::Once { at }),
+    match task_in(rt.alloc(), &words) {
+        Ok(Some(task)) => Ok(task),
         Ok(None) => Err(Failure::CommandLine),
         Err(error) => answer_to_error(rt, &error),
     }
@@ -41,29 +44,88 @@ fn words_given(rt: &HostRuntime) -> Result<Vec<String>, Failure> {
     }
 }
 
-/// The moment behind `once --at`, where it is the text of one (as in a message: `20250303-14:30:00`).
-fn moment_in(alloc: Global, words: &[String]) -> Result<Option<Moment>, Error> {
-    let at = Arg::new(alloc, "at")
-        .long("at")
-        .value_name("TIME")
-        .help("The moment of everything, in UTC, as 20250303-14:30:00")
+/// An argument that has to be given, with one value.
+fn needed<'a>(alloc: Global, name: &'a str, value: &'a str, help: &'a str) -> Arg<'a> {
+    Arg::new(alloc, name)
+        .long(name)
+        .value_name(value)
+        .help(help)
         .required(true)
-        .action(ArgAction::Set);
-    let once = Command::new(alloc, "once")
-        .about("Answers the first participant's stream, from standard input to standard output")
-        .arg(at)?;
-    let program = Command::new(alloc, "venue_main")
+        .action(ArgAction::Set)
+}
+
+/// A command that is given the two files.
+fn command_on_files<'a>(
+    alloc: Global,
+    name: &'a str,
+    about: &'a str,
+) -> Result<Command<'a>, AllocError> {
+    let participants = needed(alloc, "participants", "FILE", "The participant file");
+    let instruments = needed(alloc, "instruments", "FILE", "The instrument file");
+    Command::new(alloc, name)
+        .about(about)
+        .arg(participants)?
+        .arg(instruments)
+}
+
+/// The program's own command, with `once` and `check`.
+fn program<'a>(alloc: Global) -> Result<Command<'a>, AllocError> {
+    let at = needed(
+        alloc,
+        "at",
+        "TIME",
+        "The moment of everything, in UTC, as 20250303-14:30:00",
+    );
+    let once = command_on_files(
+        alloc,
+        "once",
+        "Answers the first participant's stream, from standard input to standard output",
+    )?;
+    let check = command_on_files(alloc, "check", "Tells how much the two files list")?;
+    Command::new(alloc, "venue_main")
         .about("A swap execution facility over FIX")
         .subcommand_required(true)
-        .subcommand(once)?;
-    let matches = program.try_get_matches_from(words)?;
+        .subcommand(once.arg(at)?)?
+        .subcommand(check)
+}
+
+/// What these words ask for, if they ask for anything.
+fn task_in(alloc: Global, words: &[String]) -> Result<Option<Task>, Error> {
+    let matches = program(alloc)?.try_get_matches_from(words)?;
+    if let Some(given) = matches.subcommand_matches("check") {
+        let Some(paths) = paths_in(alloc, given)? else {
+            return Ok(None);
+        };
+        return Ok(Some(Task::Check { paths }));
+    }
     let Some(given) = matches.subcommand_matches("once") else {
         return Ok(None);
     };
-    let Some(time) = given.get_str("at") else {
+    let Some(at) = moment_in(given) else {
         return Ok(None);
     };
-    Ok(read_utc(time.as_bytes()).ok())
+    let Some(paths) = paths_in(alloc, given)? else {
+        return Ok(None);
+    };
+    Ok(Some(Task::Once { paths, at }))
+}
+
+fn paths_in(alloc: Global, given: &ArgMatches<'_>) -> Result<Option<Paths>, AllocError> {
+    let Some(participants) = given.get_str("participants") else {
+        return Ok(None);
+    };
+    let Some(instruments) = given.get_str("instruments") else {
+        return Ok(None);
+    };
+    Ok(Some(Paths {
+        participants: String::from_str(alloc, participants)?,
+        instruments: String::from_str(alloc, instruments)?,
+    }))
+}
+
+/// The moment behind `--at`, where it is the text of one (as in a message: `20250303-14:30:00`).
+fn moment_in(given: &ArgMatches<'_>) -> Option<Moment> {
+    read_utc(given.get_str("at")?.as_bytes()).ok()
 }
 
 /// Help is printed where it was asked for; other words are refused.

@@ -1,8 +1,10 @@
 //! How the program ends where it does not end well.
 
 ghost use Rattle.std.specs.Prelude.{◌≡◌};
-ghost use Rattle.venue_main.specs.Failures.{status_of};
+ghost use Rattle.venue_main.specs.Failures.{check_failure, instruments_failure, participants_failure, status_of};
+ghost use Rattle.venue_main.specs.declared.failure.Failure.TheVariants.{Stopped as Stops};
 
+use crate::check::CheckFault;
 use crate::once::OnceFault;
 use thiserror::Error;
 
@@ -15,6 +17,12 @@ pub enum Failure {
     /// Status 2.
     #[error("command line refused")]
     CommandLine,
+    /// Status 3: the number of the participant file's fault.
+    #[error("participants refused {0}")]
+    Participants(u8),
+    /// Status 3: the number of the instrument file's fault.
+    #[error("instruments refused {0}")]
+    Instruments(u8),
 }
 
 impl Failure {
@@ -25,6 +33,63 @@ impl Failure {
         match self {
             Failure::Stopped(_) => 1,
             Failure::CommandLine => 2,
+            Failure::Participants(_) => 3,
+            Failure::Instruments(_) => 3,
+        }
+    }
+}
+
+impl From<OnceFault> for Failure {
+    ghost from_gives = { λ fault failure. failure ≡ Stops fault };
+
+    fn from(fault: OnceFault) -> Failure {
+        Failure::Stopped(fault)
+    }
+}
+
+impl From<participants::FileFault> for Failure {
+    ghost from_gives = { λ fault failure. failure ≡ participants_failure fault };
+
+    fn from(fault: participants::FileFault) -> Failure {
+        use participants::FileFault;
+
+        match fault {
+            FileFault::NotToml => Failure::Participants(1),
+            FileFault::Missing => Failure::Participants(2),
+            FileFault::Twice => Failure::Participants(3),
+            FileFault::UnknownName => Failure::Participants(4),
+            FileFault::TooMany => Failure::Participants(5),
+            FileFault::BadValue => Failure::Participants(6),
+            FileFault::NoMemory => Failure::Stopped(OnceFault::Memory),
+        }
+    }
+}
+
+impl From<instruments::FileFault> for Failure {
+    ghost from_gives = { λ fault failure. failure ≡ instruments_failure fault };
+
+    fn from(fault: instruments::FileFault) -> Failure {
+        use instruments::FileFault;
+
+        match fault {
+            FileFault::NotToml => Failure::Instruments(1),
+            FileFault::Missing => Failure::Instruments(2),
+            FileFault::Twice => Failure::Instruments(3),
+            FileFault::TooMany => Failure::Instruments(5),
+            FileFault::BadValue => Failure::Instruments(6),
+            FileFault::NoMemory => Failure::Stopped(OnceFault::Memory),
+        }
+    }
+}
+
+impl From<CheckFault> for Failure {
+    ghost from_gives = { λ fault failure. failure ≡ check_failure fault };
+
+    fn from(fault: CheckFault) -> Failure {
+        match fault {
+            CheckFault::Participants(fault) => Failure::from(fault),
+            CheckFault::Instruments(fault) => Failure::from(fault),
+            CheckFault::Output => Failure::Stopped(OnceFault::Output),
         }
     }
 }

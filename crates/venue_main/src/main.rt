@@ -2,25 +2,53 @@
 #![tactic(auto)]
 
 mod answering;
+mod check;
 mod command_line;
 mod failure;
+mod files;
 mod heard;
 mod once;
 mod outbox;
 
+pub use check::{CheckFault, check};
 use command_line::{Task, task_given};
 use failure::Failure;
+use files::{Texts, texts_at};
+use instruments::Instruments;
 pub use once::{OnceFault, once};
+use participants::Participants;
+use sef_moment::Moment;
 use std::process::ExitCode;
 
+fn run_once(rt: &HostRuntime, texts: &Texts, at: Moment) -> Result<(), Failure> {
+    let participants = Participants::read(rt.alloc(), &texts.participants)?;
+    let instruments = Instruments::read(rt.alloc(), &texts.instruments)?;
+    once(
+        rt.alloc(),
+        &mut rt.stdin(),
+        &mut rt.stdout(),
+        participants,
+        instruments,
+        at,
+    )?;
+    Ok(())
+}
+
+fn run_check(rt: &HostRuntime, texts: &Texts) -> Result<(), Failure> {
+    check(
+        rt.alloc(),
+        &texts.participants,
+        &texts.instruments,
+        &mut rt.stdout(),
+    )?;
+    Ok(())
+}
+
 fn run(rt: &HostRuntime) -> Result<(), Failure> {
-    let at = match task_given(rt)? {
-        Task::Once { at } => at,
-        Task::Help => return Ok(()),
-    };
-    match once(rt.alloc(), &mut rt.stdin(), &mut rt.stdout(), at) {
-        Ok(()) => Ok(()),
-        Err(fault) => Err(Failure::Stopped(fault)),
+    match task_given(rt)? {
+        Task::Once { paths, at } => run_once(rt, &texts_at(rt, &paths)?, at),
+        Task::Check { paths } => run_check(rt, &texts_at(rt, &paths)?),
+        Task::Help => Ok(()),
     }
 }
 
@@ -35,5 +63,7 @@ fn main(rt: HostRuntime) -> ExitCode {
     }
 }
 
+#[cfg(test)]
+mod file_tests;
 #[cfg(test)]
 mod tests;

@@ -9,6 +9,8 @@ use crate::answering::answer_frames;
 use crate::outbox::Outbox;
 use fix_fields::one_list;
 use fix_frame::{Cutter, stream_laws};
+use instruments::Instruments;
+use participants::Participants;
 use sef_moment::Moment;
 use std::alloc::{AllocError, Global};
 use std::io::{Read, Write};
@@ -43,28 +45,33 @@ impl From<AllocError> for OnceFault {
     }
 }
 
-/// Answers the first participant's stream: takes each message that its frames spell, at this moment, and writes the
-/// replies to that participant before it looks at the next frame. A frame that spells no application message is
-/// passed over. Ends well at the end of the input.
+/// Answers the first participant's stream on a venue of these participants and instruments: takes each message that its
+/// frames spell, at this moment, and writes the replies to that participant before it looks at the next frame. A frame
+/// that spells no application message is passed over. Ends well at the end of the input.
 pub fn once<R: Read, W: Write>(
     alloc: Global,
     reader: &mut R,
     writer: &mut W,
+    participants: Participants,
+    instruments: Instruments,
     at: Moment,
 ) -> Result<(), OnceFault>
-    ensures answered { OnOk result (IfSome (R.remaining reader.old) (λ input.
-        (output : List ℕ) × AnswersStream at input output × Appends (W.contents writer.old) (W.contents writer.new) output)) }
+    ensures answered { OnOk result (IfSome (R.remaining reader.old) (λ input. (output : List ℕ)
+        × AnswersStream (record { participants = participants; instruments = instruments }) at input output
+        × Appends (W.contents writer.old) (W.contents writer.new) output)) }
     // A stream has no other answer.
-    ensures only { OnOk result (IfSome (R.remaining reader.old) (λ input.
-        (other : List ℕ) → AnswersStream at input other → Appends (W.contents writer.old) (W.contents writer.new) other)) }
-    ensures stopped { IfErr result (λ fault. UnlessOutput fault (Stopped at (R.remaining reader.old) (R.remaining reader.new)
+    ensures only { OnOk result (IfSome (R.remaining reader.old) (λ input. (other : List ℕ)
+        → AnswersStream (record { participants = participants; instruments = instruments }) at input other
+        → Appends (W.contents writer.old) (W.contents writer.new) other)) }
+    ensures stopped { IfErr result (λ fault. UnlessOutput fault (Stopped
+        (record { participants = participants; instruments = instruments }) at (R.remaining reader.old) (R.remaining reader.new)
         (W.contents writer.old) (W.contents writer.new))) }
 {
     stream_laws();
     one_list();
-    let mut venue = Venue::fixture(alloc)?;
+    let mut outbox = Outbox::new(alloc, &participants, at)?;
+    let mut venue = Venue::open(alloc, participants, instruments)?;
     let mut cutter = Cutter::new(alloc);
-    let mut outbox = Outbox::new(alloc, at);
     let mut piece = [0; PIECE];
     for _read in 0..READS {
         answer_frames(alloc, &mut cutter, &mut venue, &mut outbox, writer)?;

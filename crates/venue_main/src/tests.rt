@@ -1,11 +1,14 @@
 //! Whole streams, answered over memory. In the texts `|` stands for SOH.
 
 use crate::once::{OnceFault, once};
+use instruments::Instruments;
+use participants::Participants;
 use sef_moment::{Moment, read_utc};
 use std::alloc::{AllocError, Global};
 use std::io;
 use std::io::{ErrorKind, Read, Write};
 use std::test::Fail;
+use venue_rules::{fixture_instruments, fixture_participants};
 
 const TIME: &str = "20250303-14:30:00";
 
@@ -20,6 +23,14 @@ const BOUGHT: &str =
 
 const SOLD: &str =
     "8=FIXT.1.1|9=106|35=8|49=SEF|56=ALPHA|34=2|52=20250303-14:30:00.000|37=O2|17=E2|150=0|39=0|55=IRS5Y|54=2|151=40|14=0|11=a2|10=229|8=FIXT.1.1|9=126|35=8|49=SEF|56=ALPHA|34=3|52=20250303-14:30:00.000|37=O2|17=E3|150=F|39=2|55=IRS5Y|54=2|151=0|14=40|11=a2|31=2.5|32=40|880=T1|10=162|8=FIXT.1.1|9=127|35=8|49=SEF|56=ALPHA|34=4|52=20250303-14:30:00.000|37=O1|17=E4|150=F|39=1|55=IRS5Y|54=1|151=60|14=40|11=a1|31=2.5|32=40|880=T1|10=215|";
+
+/// A venue of one participant and one instrument, whose delay is the usual one.
+const ALONE: &str = "venue = \"SEF\"\nparticipant = [{ name = \"ALPHA\" }]\n";
+
+const SWAP: &str = "instrument = [{ symbol = \"IRS5Y\", tick = 2500, least = 1, rfq_life = 30 }]\n";
+
+const TOO_RECENT: &str =
+    "8=FIXT.1.1|9=141|35=8|49=SEF|56=ALPHA|34=2|52=20250303-14:30:00.000|37=NONE|17=E2|150=8|39=8|55=IRS5Y|54=2|151=0|14=0|11=a2|103=99|58=Linked order too recent|10=004|";
 
 const NO_PRICE: &str =
     "8=FIXT.1.1|9=79|35=D|49=ALPHA|56=SEF|34=5|52=20250303-14:30:00|11=a3|55=IRS5Y|54=1|38=100|40=2|10=237|";
@@ -52,11 +63,22 @@ fn time() -> Result<Moment, &'static str> {
     read_utc(TIME.as_bytes()).ok().ok_or("TIME is a UTC text")
 }
 
-/// What `once` answers to these texts, and what it writes.
+/// What `once` comes to on the small market in which linked orders need not wait.
+fn run_once<R: Read, W: Write>(
+    alloc: Global,
+    reader: &mut R,
+    writer: &mut W,
+) -> Result<Result<(), OnceFault>, Fail> {
+    let participants = fixture_participants(alloc)?;
+    let instruments = fixture_instruments(alloc, 0)?;
+    Ok(once(alloc, reader, writer, participants, instruments, time()?))
+}
+
+/// The same for these texts, and what it writes.
 fn answered(alloc: Global, texts: &[&str]) -> Result<(Result<(), OnceFault>, Vec<u8>), Fail> {
     let input = bytes_of(alloc, texts)?;
     let mut written = Vec::new(alloc);
-    let ended = once(alloc, &mut input.as_slice(), &mut written, time()?);
+    let ended = run_once(alloc, &mut input.as_slice(), &mut written)?;
     Ok((ended, written))
 }
 
@@ -75,6 +97,27 @@ fn answers_orders(rt: HostRuntime) -> Result<(), Fail> {
         assert_eq!(rt; ended, Ok(()));
         assert_eq!(rt; written.as_slice(), expected.as_slice());
     }
+    Ok(())
+}
+
+#[test]
+fn linked_orders_wait_where_the_files_are_read(rt: HostRuntime) -> Result<(), Fail> {
+    let alloc = rt.alloc();
+    let participants = Participants::read(alloc, ALONE.as_bytes())?;
+    let instruments = Instruments::read(alloc, SWAP.as_bytes())?;
+    let input = bytes_of(alloc, &[BUY, SELL])?;
+    let expected = bytes_of(alloc, &[BOUGHT, TOO_RECENT])?;
+    let mut written = Vec::new(alloc);
+    let ended = once(
+        alloc,
+        &mut input.as_slice(),
+        &mut written,
+        participants,
+        instruments,
+        time()?,
+    );
+    assert_eq!(rt; ended, Ok(()));
+    assert_eq!(rt; written.as_slice(), expected.as_slice());
     Ok(())
 }
 
@@ -133,7 +176,7 @@ fn reads_in_any_pieces_until_a_read_fails(rt: HostRuntime) -> Result<(), Fail> {
             fails,
         };
         let mut written = Vec::new(alloc);
-        let ended = once(alloc, &mut reader, &mut written, time()?);
+        let ended = run_once(alloc, &mut reader, &mut written)?;
         assert_eq!(rt; ended, end);
         assert_eq!(rt; written.as_slice(), expected.as_slice());
     }
@@ -142,8 +185,8 @@ fn reads_in_any_pieces_until_a_read_fails(rt: HostRuntime) -> Result<(), Fail> {
 
 /// Takes so many bytes, and then no more.
 #[derive(Drop)]
-struct Full {
-    room: usize,
+pub(crate) struct Full {
+    pub(crate) room: usize,
 }
 
 impl Write for Full {
@@ -166,7 +209,7 @@ fn stops_where_a_write_fails(rt: HostRuntime) -> Result<(), Fail> {
     let input = bytes_of(alloc, &[BUY, SELL])?;
     for room in [0, 200] {
         let mut writer = Full { room };
-        let ended = once(alloc, &mut input.as_slice(), &mut writer, time()?);
+        let ended = run_once(alloc, &mut input.as_slice(), &mut writer)?;
         assert_eq!(rt; ended, Err(OnceFault::Output), "with room for {room} bytes");
     }
     Ok(())

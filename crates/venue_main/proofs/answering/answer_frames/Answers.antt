@@ -4,21 +4,22 @@ use Rattle.std.specs.Io.KnownBytes.{Appends, Keeps}
 use Rattle.std.proofs.KnownBytes.{Appends-kept, Appends-trans}
 use Rattle.std.proofs.lemmas.Result.{err_from_is_err_and}
 use Rattle.fix_frame.specs.Stream.{Reads}
+use Rattle.venue_rules.specs.Market.{Market}
 use Rattle.venue_main.specs.Answering.{Stands}
 use Rattle.venue_main.specs.Once.{AnswersFront}
-use Rattle.venue_main.proofs.Standing.{answered_at, answered_items, body_answered, front_answered, stream_answered, unless_output}
+use Rattle.venue_main.proofs.Standing.{answered_items, body_answered, front_answered, stream_answered, unless_output}
 use Rattle.venue_main.proofs.answering.answer_frames.Goals as goal
 
 pub returns-in-Open-clause-answered : goal.returns-in-Open-clause-answered
-returns-in-Open-clause-answered g c = λ heard output s.
-    let so_far = c.loop-body.invariant.stands heard output s in
-    let all = stream_answered c.loop-body.cutter.unread c.next.new.self.unread c.loop-body.venue c.loop-body.outbox c.args.outbox.now.at heard (output ++ so_far.0) c.loop-body.invariant.at (c.in-Open.ensures.reads heard) so_far.1 in
+returns-in-Open-clause-answered g c = λ market t heard output s.
+    let so_far = c.loop-body.invariant.stands market t heard output s in
+    let all = stream_answered market t c.loop-body.cutter.unread c.next.new.self.unread c.loop-body.venue c.loop-body.outbox heard (output ++ so_far.0) (c.in-Open.ensures.reads heard) so_far.1 in
     (so_far.0, all.0, all.1, so_far.2)
 
 pub returns-in-Skipped-clause-stopped : goal.returns-in-Skipped-clause-stopped
-returns-in-Skipped-clause-stopped g c = λ heard output s.
-    let so_far = c.loop-body.invariant.stands heard output s in
-    (so_far.0, front_answered c.loop-body.cutter.unread c.loop-body.venue c.loop-body.outbox c.args.outbox.now.at heard (output ++ so_far.0) c.loop-body.invariant.at so_far.1, so_far.2)
+returns-in-Skipped-clause-stopped g c = λ market t heard output s.
+    let so_far = c.loop-body.invariant.stands market t heard output s in
+    (so_far.0, front_answered market t c.loop-body.cutter.unread c.loop-body.venue c.loop-body.outbox heard (output ++ so_far.0) so_far.1, so_far.2)
 
 pub loop-body-preserved : goal.loop-body-preserved
 loop-body-preserved g c =
@@ -31,12 +32,11 @@ loop-body-preserved g c =
     let unread = ap (λ (l : List ℕ). length l) cut.2.unread in
     record {
       fewer = omega (arith, items, cut.1.0, cut.2.within, unread, length-drop cut.0 c.loop-body.cutter.unread, c.loop-body.invariant.fewer);
-      at = answered_at a.0 c.loop-body.venue c.answer_body.new.venue c.loop-body.outbox c.answer_body.new.outbox a.1 a.3 ∙ c.loop-body.invariant.at;
-      stands = λ heard output s.
-          let so_far = c.loop-body.invariant.stands heard output s in
-          let stands = body_answered c.served_run_goes_on.ensures c.loop-body.cutter.unread c.next.new.self.unread c.loop-body.venue c.answer_body.new.venue c.loop-body.outbox c.answer_body.new.outbox heard (output ++ so_far.0) text a.1 a.0 (reads heard) a.2 a.3 so_far.1 in (
+      stands = λ market t heard output s.
+          let so_far = c.loop-body.invariant.stands market t heard output s in
+          let stands = body_answered c.served_run_goes_on.ensures market t c.loop-body.cutter.unread c.next.new.self.unread c.loop-body.venue c.answer_body.new.venue c.loop-body.outbox c.answer_body.new.outbox heard (output ++ so_far.0) text a.1 a.0 (reads heard) a.2 a.3 so_far.1 in (
             so_far.0 ++ a.1,
-            subst (Stands c.next.new.self.unread c.answer_body.new.venue c.answer_body.new.outbox heard) (append_assoc output so_far.0 a.1) stands,
+            subst (Stands market t c.next.new.self.unread c.answer_body.new.venue c.answer_body.new.outbox heard) (append_assoc output so_far.0 a.1) stands,
             Appends-trans _ _ _ so_far.0 a.1 so_far.2 a.4,
           );
     }
@@ -46,9 +46,9 @@ returns-in_err-answer_body-in-Frame-clause-stopped g c =
     let p = err_from_is_err_and c.from_residual.result c.from_residual.ensures.1 in
     let before = g.W.Write.contents c.loop-body.writer in
     let after = g.W.Write.contents c.answer_body.new.writer in
-    let Left : Type 0 = (heard output : List ℕ) → Stands c.args.cutter.now.unread c.args.venue.now c.args.outbox.now heard output → (more : List ℕ)
-    × AnswersFront c.args.outbox.now.at heard (output ++ more) × Appends (g.W.Write.contents c.args.writer.now) after more in
-    let left : Keeps before after → Left = λ kept heard output s.
-    let so_far = c.loop-body.invariant.stands heard output s in
-    (so_far.0, front_answered c.loop-body.cutter.unread c.loop-body.venue c.loop-body.outbox c.args.outbox.now.at heard (output ++ so_far.0) c.loop-body.invariant.at so_far.1, Appends-kept _ _ _ _ so_far.2 kept) in
+    let Left : Type 0 = (market : Market) (t : ℕ) (heard output : List ℕ) → Stands market t c.args.cutter.now.unread c.args.venue.now c.args.outbox.now heard output → (more : List ℕ)
+    × AnswersFront market t heard (output ++ more) × Appends (g.W.Write.contents c.args.writer.now) after more in
+    let left : Keeps before after → Left = λ kept market t heard output s.
+    let so_far = c.loop-body.invariant.stands market t heard output s in
+    (so_far.0, front_answered market t c.loop-body.cutter.unread c.loop-body.venue c.loop-body.outbox heard (output ++ so_far.0) so_far.1, Appends-kept _ _ _ _ so_far.2 kept) in
     rw (p.1, p.2) (unless_output c.in_err-answer_body-in-Frame.field-0.0 (Keeps before after) Left left c.in_err-answer_body-in-Frame.ensures.unwritten)

@@ -1,14 +1,14 @@
 use Rattle.std.proofs.Common.{◌≡◌, ◌≤◌, ◌+◌, ℕ, List, ◌++◌, length}
 use Rattle.std.specs.Io.KnownBytes.{Appends}
+use Rattle.venue_rules.specs.Market.{Market}
 use Rattle.venue_main.specs.Answering.{Stands}
 use Rattle.venue_main.proofs.answering.answer_frames.Given as goal
 
 abbrev pub invariant-loop-body : goal.invariant-loop-body
 invariant-loop-body g l = record {
   fewer : l.venue.items + length l.cutter.unread ≤ l.initial.venue.items + length l.initial.cutter.unread;
-  at : l.outbox.at ≡ l.initial.outbox.at;
-  stands : (heard output : List ℕ) → Stands l.initial.cutter.unread l.initial.venue l.initial.outbox heard output → (more : List ℕ)
-      × Stands l.cutter.unread l.venue l.outbox heard (output ++ more)
+  stands : (market : Market) (t : ℕ) (heard output : List ℕ) → Stands market t l.initial.cutter.unread l.initial.venue l.initial.outbox heard output → (more : List ℕ)
+      × Stands market t l.cutter.unread l.venue l.outbox heard (output ++ more)
       × Appends (g.W.Write.contents l.initial.writer) (g.W.Write.contents l.writer) more;
 }
 

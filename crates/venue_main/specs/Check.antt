@@ -1,0 +1,33 @@
+-- What is said of the two files.
+use Rattle.std.specs.Prelude.{ℕ, ◌++◌, List, [], ◌∷◌, length, codes, decimal, Ok}
+use Rattle.participants.specs.ParticipantFile.{ParticipantFile}
+use Rattle.participants.specs.Reading.{IsFaultOf as IsParticipantsFaultOf, Reads as ReadsParticipants}
+use Rattle.instruments.specs.declared.instruments.Instrument.{Instrument}
+use Rattle.instruments.specs.Reading.{IsFaultOf as IsInstrumentsFaultOf, Reads as ReadsInstruments}
+use Rattle.venue_main.specs.declared.check.CheckFault.{CheckFault}
+use Rattle.venue_main.specs.declared.check.CheckFault.TheVariants.{Participants, Instruments, Output}
+
+-- both texts are read
+pub record AreRead (participants_text instruments_text : List ℕ) (file : ParticipantFile) (rows : List Instrument) : Type 0 where
+  pub participants : ReadsParticipants participants_text (Ok file)
+  pub instruments : ReadsInstruments instruments_text (Ok rows)
+
+-- these many of each, as a line of text
+abbrev pub counted : ℕ → ℕ → ℕ → List ℕ
+counted names pairs rows = codes "participants " ++ (decimal names ++ (codes " related " ++ (decimal pairs ++ (codes " instruments " ++ (decimal rows ++ 10 ∷ [])))))
+
+-- how many of each the files have
+abbrev pub summary : ParticipantFile → List Instrument → List ℕ
+summary file rows = counted (length file.names) (length file.pairs) (length rows)
+
+-- the fault is one of the participant file's text; else, where that is read, one of the instrument file's; and where both are read the output failed
+abbrev pub IsFaultOfFiles : List ℕ → List ℕ → CheckFault → Type 0
+IsFaultOfFiles participants_text instruments_text (Participants fault) = IsParticipantsFaultOf participants_text fault
+IsFaultOfFiles participants_text instruments_text (Instruments fault) = (file : ParticipantFile) × ReadsParticipants participants_text (Ok file) × IsInstrumentsFaultOf instruments_text fault
+IsFaultOfFiles participants_text instruments_text Output = (file : ParticipantFile) × (rows : List Instrument) × AreRead participants_text instruments_text file rows
+
+-- the fact, unless the output failed
+abbrev pub UnlessWriting : CheckFault → Type 0 → Type 0
+UnlessWriting (Participants fault) fact = fact
+UnlessWriting (Instruments fault) fact = fact
+UnlessWriting Output fact = Unit {0}

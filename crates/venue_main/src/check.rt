@@ -1,0 +1,77 @@
+//! A look at the two files of a venue.
+
+ghost use Rattle.std.specs.Prelude.{◌≡◌, List, OnOk, IfErr};
+ghost use Rattle.std.specs.Io.KnownBytes.{Appends, Keeps};
+ghost use Rattle.participants.specs.ParticipantFile.{ParticipantFile};
+ghost use Rattle.instruments.specs.declared.instruments.Instrument.{Instrument};
+ghost use Rattle.venue_main.specs.Check.{AreRead, IsFaultOfFiles, UnlessWriting, counted, summary};
+
+use instruments::Instruments;
+use participants::Participants;
+use std::alloc::Global;
+use std::io::{self, Write};
+use thiserror::Error;
+
+/// Why the files were not told of.
+#[derive(Clone, Copy, Debug, PartialEq, Eq, Error)]
+pub enum CheckFault {
+    /// 1: the participant file is refused.
+    #[error("participants: {0}")]
+    Participants(participants::FileFault),
+    /// 2: the instrument file is refused, where the participant file is not.
+    #[error("instruments: {0}")]
+    Instruments(instruments::FileFault),
+    /// 3: a write failed.
+    #[error("output")]
+    Output,
+}
+
+/// Reads the texts of both files, and writes how many participants, related pairs and instruments they have, as one line:
+/// `participants 5 related 1 instruments 2`. Nothing is written where a file is refused.
+pub fn check<W: Write>(
+    alloc: Global,
+    participants_text: &[u8],
+    instruments_text: &[u8],
+    writer: &mut W,
+) -> Result<(), CheckFault>
+    ensures told { OnOk result ((file : ParticipantFile) × (rows : List Instrument) × AreRead participants_text.now instruments_text.now file rows
+        × Appends (W.contents writer.old) (W.contents writer.new) (summary file rows)) }
+    ensures fault { IfErr result (IsFaultOfFiles participants_text.now instruments_text.now) }
+    ensures unwritten { IfErr result (λ fault. UnlessWriting fault (Keeps (W.contents writer.old) (W.contents writer.new))) }
+{
+    let participants = match Participants::read(alloc, participants_text) {
+        Ok(participants) => participants,
+        Err(fault) => return Err(CheckFault::Participants(fault)),
+    };
+    let instruments = match Instruments::read(alloc, instruments_text) {
+        Ok(instruments) => instruments,
+        Err(fault) => return Err(CheckFault::Instruments(fault)),
+    };
+    match tell(&participants, &instruments, writer) {
+        Ok(()) => Ok(()),
+        Err(_) => Err(CheckFault::Output),
+    }
+}
+
+/// Writes how many of each the files have.
+fn tell<W: Write>(
+    participants: &Participants,
+    instruments: &Instruments,
+    writer: &mut W,
+) -> io::Result<()>
+    ensures { OnOk result (Appends (W.contents writer.old) (W.contents writer.new) (summary participants.now instruments.now)) }
+{
+    let pairs = participants.pairs();
+    write_counts(participants.len(), pairs.len(), instruments.len(), writer)
+}
+
+/// Writes these counts as one line.
+fn write_counts<W: Write>(names: usize, pairs: usize, rows: usize, writer: &mut W) -> io::Result<()>
+    ensures { OnOk result (Appends (W.contents writer.old) (W.contents writer.new) (counted names pairs rows)) }
+{
+    writeln!(
+        writer,
+        "participants {names} related {pairs} instruments {rows}"
+    )?;
+    writer.flush()
+}
