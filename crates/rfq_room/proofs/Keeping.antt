@@ -13,7 +13,7 @@ use Rattle.venue_rules.specs.Market.{Market}
 use Rattle.venue_rules.specs.Requests.{recipient_room, recipients}
 use Rattle.rfq_room.specs.Causes.{request_cause, request_causes}
 use Rattle.rfq_room.specs.Contents.{Contents}
-use Rattle.rfq_room.specs.Kept.{IsRooms, are_own, are_small, is_small}
+use Rattle.rfq_room.specs.Kept.{IsRooms, are_listed, are_own, are_small, is_small}
 use Rattle.rfq_room.specs.Named.{named_quotes, quote_room}
 use Rattle.rfq_room.specs.Plan.{Plan}
 use Rattle.rfq_room.specs.declared.decision.Decision.{Decision}
@@ -126,3 +126,25 @@ stepped-plan facts rooms added same s room = record {
   made = s.made ∙ ap (λ fs. facts_of fs s.step) same;
   room = room;
 }
+
+-- what is no request is for no instrument
+
+withdrawn-listed : (count : ℕ) (qs : List RoomQuote) → are_listed count (map withdrawn qs) ≡ true
+withdrawn-listed count [] = refl
+withdrawn-listed count (q ∷ qs) = withdrawn-listed count qs
+
+pub withdrawal-listed : (facts : List Fact) (who t : ℕ) (id : Option (List ℕ)) (p : Plan) (count : ℕ) → p ≡ withdrawal_plan (named_quotes facts who t id) → are_listed count p.facts ≡ true
+withdrawal-listed facts who t id p count e = ap (λ (p : Plan). are_listed count p.facts) e ∙ withdrawn-listed count (named_quotes facts who t id)
+
+decided-listed : (who t : ℕ) (decision : Decision) (p : Plan) (q : RoomQuote) (r : Room) (count : ℕ) → IsResponsePlan who t q r decision p → are_listed count p.facts ≡ true
+decided-listed who t (Refuse cause) p q r count h = absurd h
+decided-listed who t Pass p q r count h = ap (λ (p : Plan). are_listed count p.facts) h
+decided-listed who t (Hits hit) p q r count h = ap (λ (p : Plan). are_listed count p.facts) h
+
+pub response-listed : (facts : List Fact) (who : ℕ) (d : QuoteResponse) (t : ℕ) (decision : Decision) (p : Plan) (count : ℕ) → IsResponsePlanned facts who d t decision p → are_listed count p.facts ≡ true
+response-listed facts who d t decision p count h = found who t decision p count (find_quote facts d.quote_id) (quote_room facts d.quote_id) h
+  where
+    found : (who t : ℕ) (decision : Decision) (p : Plan) (count : ℕ) (x : Option RoomQuote) (y : Option Room) → MatchOption x ⊥ (λ q. MatchOption y ⊥ (λ r. IsResponsePlan who t q r decision p)) → are_listed count p.facts ≡ true
+    found who t decision p count None y h = absurd h
+    found who t decision p count (Some q) None h = absurd h
+    found who t decision p count (Some q) (Some r) h = decided-listed who t decision p q r count h

@@ -1,10 +1,11 @@
-use Rattle.std.proofs.Common.{◌≡◌, refl, sym, ap, ◌∙◌, ℕ, ◌<◌, Bool, true, false, ◌&&◌, nat_lt, List, [], ◌∷◌, find, Option, Some, None, cond, arith, option_map}
+use Rattle.std.proofs.Common.{◌≡◌, refl, sym, ap, ◌∙◌, ℕ, ◌<◌, Bool, true, false, ◌&&◌, nat_lt, List, [], ◌∷◌, ◌++◌, find, Option, Some, None, cond, arith, option_map}
 use Rattle.std.proofs.lemmas.Bool.Decides.{nat_tests}
 use Rattle.venue_rules.specs.declared.facts.Fact.{Fact}
 use Rattle.venue_rules.specs.declared.facts.Fact.TheVariants.{Entered, Traded, Removed, Held, Unheld, Asked, Quoted, Withdrawn, Closed}
 use Rattle.venue_rules.specs.declared.facts.Room.{Room}
 use Rattle.venue_rules.specs.Facts.{rooms}
-use Rattle.rfq_room.specs.Kept.{are_listed}
+use Rattle.std.proofs.lemmas.List.Folds.{list_all-append}
+use Rattle.rfq_room.specs.Kept.{are_listed, is_listed}
 
 both : (b c : Bool) → (b && c) ≡ true → (b ≡ true) × (c ≡ true)
 both true true h = (refl, refl)
@@ -33,3 +34,11 @@ find-listed count p (Asked a ∷ fs) r h k = asked count p a fs r (p a) refl (bo
 find-listed count p (Quoted q ∷ fs) r h k = find-listed count p fs r h k
 find-listed count p (Withdrawn w ∷ fs) r h k = find-listed count p fs r h k
 find-listed count p (Closed c ∷ fs) r h k = find-listed count p fs r h k
+
+pub listed_append : (count : ℕ) (fs gs : List Fact) → are_listed count fs ≡ true → are_listed count gs ≡ true → are_listed count (fs ++ gs) ≡ true
+listed_append count fs gs h k = list_all-append (is_listed count) fs gs ∙ both_true (are_listed count fs) (are_listed count gs) h k
+  where
+    both_true : (b c : Bool) → b ≡ true → c ≡ true → (b && c) ≡ true
+    both_true true true h k = refl
+    both_true true false h k = k
+    both_true false c h k = h

@@ -36,6 +36,10 @@ quote_made facts who r d = quoted (history facts) (sender who) r d
 abbrev pub withdrawn : RoomQuote → Fact
 withdrawn q = Withdrawn (record { quote = q.number })
 
+-- a plan that changes nothing
+abbrev pub no_plan : Plan
+no_plan = record { facts = []; quotes = []; hit = None }
+
 abbrev pub request_plan : Room → Plan
 request_plan r = record { facts = Asked r ∷ []; quotes = []; hit = None }
 

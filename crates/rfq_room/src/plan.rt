@@ -1,7 +1,9 @@
 //! What a request adds to the rooms, before it does.
-ghost use Rattle.std.specs.Prelude.{◌≡◌, [], option_map, slice_get};
+ghost use Rattle.std.specs.Prelude.{◌≡◌};
+ghost use Rattle.rfq_room.specs.Plans.{no_plan};
 
 use crate::decision::Hit;
+use std::alloc::Global;
 use std::marker::Model;
 use venue_rules::{Fact, RoomQuote};
 
@@ -26,6 +28,17 @@ impl RoomPlan {
         ensures { result ≡ record { facts = facts.items; quotes = quotes.items; hit = hit } }
     {
         RoomPlan { facts, quotes, hit }
+    }
+
+    /// A plan that changes nothing.
+    pub fn nothing(alloc: Global) -> RoomPlan
+        ensures { result ≡ no_plan }
+    {
+        RoomPlan {
+            facts: Vec::new(alloc),
+            quotes: Vec::new(alloc),
+            hit: None,
+        }
     }
 
     /// The facts that the rooms gain.
