@@ -11,3 +11,6 @@ mod reading;
 pub use held::{Held, Refusal};
 pub use laws::delay_is_read_alone;
 pub use plan::HoldPlan;
+
+#[cfg(test)]
+mod tests;

@@ -1,0 +1,8 @@
+-- lists of replies, and facts
+pub mod Lists
+-- what is known of rooms by their plans
+pub mod Rooms
+-- the answer to a request
+pub mod Requesting
+-- the answer to a withdrawal
+pub mod Withdrawing
