@@ -7,7 +7,7 @@ ghost use Rattle.resend_store.specs.declared.entry.Entry.TheVariants as entry;
 ghost use Rattle.resend_store.specs.declared.entry.Entry.{Entry};
 
 use crate::entry::Entry;
-use fix_dictionary::App;
+use fix_dictionary::{App, NewSequenceNumber, SequenceNumber};
 use sef_moment::Moment;
 use std::marker::Model;
 
@@ -16,15 +16,15 @@ use std::marker::Model;
 pub enum Resend<'a> {
     /// The application message under its old number (34), with the moment at which it was first sent (122).
     Repeat {
-        number: u32,
+        number: SequenceNumber,
         app: &'a App,
         first_sent: Moment,
     },
     /// A SequenceReset with 123=Y in the place of a run of session messages: the run's first number (34), and the number
     /// after the run (36).
     GapFill {
-        number: u32,
-        new: u32,
+        number: SequenceNumber,
+        new: NewSequenceNumber,
     },
 }
 
@@ -36,20 +36,21 @@ pub struct Resends<'a> {
 }
 
 impl<'a> Model for Resends<'a> {
-    ghost use Rattle.std.specs.Prelude.{◌+◌, ◌<◌, ◌^◌, List, length};
+    ghost use Rattle.std.specs.Prelude.{◌+◌, ◌≤◌, List, length};
     ghost use Rattle.resend_store.specs.Resent.{Resent, resent};
 
     ghost Value = { List Resent };
 
     ghost view = { λ r. resent r.number r.entries.now };
 
-    ghost invariant = { λ r. r.number + length r.entries.now < 2 ^ 32 };
+    ghost invariant = { λ r. (1 ≤ r.number) × (r.number + length r.entries.now ≤ 1000000000) };
 }
 
 impl<'a> Resends<'a> {
     /// What is sent again for these entries, of which the first has this number.
     pub(crate) fn new(number: u32, entries: &'a [Entry]) -> Resends<'a>
-        requires { number + length entries.now < 2 ^ 32 }
+        requires first { 1 ≤ number }
+        requires last { number + length entries.now ≤ 1000000000 }
         ensures { result ≡ resent number entries.now }
     {
         Resends { number, entries }
@@ -64,8 +65,8 @@ impl<'a> Iterator for Resends<'a> {
     ghost remaining = { item_count (λ rest. rest) };
 
     fn next(&mut self) -> Option<Resend<'a>> {
-        let number = self.number;
         let (first, behind) = self.entries.split_first()?;
+        let number = SequenceNumber::new(self.number);
         if let Entry::Application { app, first_sent } = first {
             self.entries = behind;
             self.number += 1;
@@ -80,7 +81,7 @@ impl<'a> Iterator for Resends<'a> {
         self.number += count as u32;
         Some(Resend::GapFill {
             number,
-            new: self.number,
+            new: NewSequenceNumber::new(self.number),
         })
     }
 }

@@ -8,7 +8,7 @@ ghost use Rattle.resend_store.specs.declared.store.StoreFault.TheVariants.{Full,
 
 use crate::entry::Entry;
 use crate::resend::Resends;
-use fix_dictionary::App;
+use fix_dictionary::{App, SequenceNumber};
 use sef_moment::Moment;
 use std::alloc::{AllocError, Global};
 use std::marker::Model;
@@ -116,6 +116,17 @@ impl Store {
         Ok(())
     }
 
+    /// Adds a mark for a message of the session, for which room was made.
+    pub fn add_admin_reserved(&mut self)
+        requires room { 1 ≤ self.old.room }
+        requires number { length self.old.entries < 999999999 }
+        ensures entries { self.new.entries ≡ self.old.entries ++ entry.Session ∷ [] }
+        ensures room { self.old.room ≤ self.new.room + 1 }
+    {
+        let mark = Entry::Session;
+        self.entries.push_reserved(mark);
+    }
+
     /// The entries that a ResendRequest asks for, from its BeginSeqNo (7) to its EndSeqNo (16): there 0, or a number beyond the
     /// last, means the last.
     pub fn range(&self, from: u32, to: u32) -> &[Entry]
@@ -124,11 +135,11 @@ impl Store {
         entries_asked(&self.entries, from, to)
     }
 
-    /// What is sent for a ResendRequest from this BeginSeqNo (7), at least 1, to this EndSeqNo (16).
-    pub fn resends(&self, from: u32, to: u32) -> Resends<'_>
-        requires { 1 ≤ from }
+    /// What is sent for a ResendRequest from this BeginSeqNo (7) to this EndSeqNo (16).
+    pub fn resends(&self, from: SequenceNumber, to: u32) -> Resends<'_>
         ensures { result ≡ resent from (asked from to self.now.entries) }
     {
+        let from = from.get();
         Resends::new(from, entries_asked(&self.entries, from, to))
     }
 }

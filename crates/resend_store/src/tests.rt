@@ -1,7 +1,7 @@
-ghost use Rattle.std.specs.Prelude.{◌≤◌};
+ghost use Rattle.fix_dictionary.specs.Values.{IsSequenceNumber};
 
 use super::*;
-use fix_dictionary::{App, Identifier, OrderCancelRequest};
+use fix_dictionary::{App, Identifier, OrderCancelRequest, SequenceNumber};
 use sef_moment::Moment;
 use std::alloc::{AllocError, Global};
 use std::test::*;
@@ -24,13 +24,13 @@ fn told(
     from: u32,
     to: u32,
 ) -> Result<Vec<(u32, Option<u32>)>, AllocError>
-    requires { 1 ≤ from }
+    requires { IsSequenceNumber from }
 {
     let mut told = Vec::new(alloc);
-    for resend in store.resends(from, to) {
+    for resend in store.resends(SequenceNumber::new(from), to) {
         told.push(match resend {
-            Resend::Repeat { number, .. } => (number, None),
-            Resend::GapFill { number, new } => (number, Some(new)),
+            Resend::Repeat { number, .. } => (number.get(), None),
+            Resend::GapFill { number, new } => (number.get(), Some(new.get())),
         })?;
     }
     Ok(told)

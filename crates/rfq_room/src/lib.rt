@@ -24,3 +24,6 @@ pub use laws::rooms_decide;
 pub use plan::RoomPlan;
 pub use refusal::{Cause, Refusal, ResponseCause, WithdrawalRefusal};
 pub use rooms::Rooms;
+
+#[cfg(test)]
+mod tests;

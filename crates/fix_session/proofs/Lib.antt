@@ -1,0 +1,9 @@
+mod FirstPiece
+mod Readers
+mod Texts
+mod Rows
+mod Steps
+mod Rising
+mod Runs
+mod Replies
+mod Idle

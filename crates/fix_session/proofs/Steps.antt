@@ -1,0 +1,22 @@
+-- What a step, and bytes that come, make of a state.
+use Rattle.std.proofs.Common.{◌≡◌, ℕ, List, ◌++◌, Bool, true, false, Option, Some, None, refl, max, cond}
+use Rattle.fix_session.specs.Reader.{Reader, settled}
+use Rattle.fix_session.specs.Body.{kind_in, frame_in}
+use Rattle.fix_session.specs.State.{State}
+use Rattle.fix_session.specs.declared.plan.Step.{Step}
+use Rattle.fix_session.specs.declared.plan.Step.TheVariants.{Idle}
+use Rattle.fix_session.specs.Machine.{step, heard_frame, moved, pushed}
+use Rattle.fix_session.proofs.Rows.{if_either}
+
+pub pushed_is : (r : Reader) (s : State) (piece rest : List ℕ) → s.line.up ≡ true → rest ≡ settled r (s.unread ++ piece) → record s { unread = rest } ≡ pushed r s piece
+pushed_is r s piece rest up is = rw (up, is) refl
+
+pub step_heard : (r : Reader) (s : State) (t : ℕ) (found : List ℕ × List ℕ) → s.line.up ≡ true → (r.front s.unread).found ≡ Some found
+    → step r s t ≡ heard_frame s (max s.line.moment t) (settled r found.1) (kind_in found.0) (frame_in r s.ids found.0)
+step_heard r s t found up is = rw (up, is) refl
+
+pub step_down : (r : Reader) (s : State) (t : ℕ) → s.line.up ≡ false → step r s t ≡ (moved s (max s.line.moment t), Idle)
+step_down r s t down = rw down refl
+
+pub step_idle : (r : Reader) (s : State) (t : ℕ) → (r.front s.unread).found ≡ None → step r s t ≡ (moved s (max s.line.moment t), Idle)
+step_idle r s t none = rw none (if_either (λ (p : State × Step). p ≡ (moved s (max s.line.moment t), Idle)) s.line.up _ _ refl refl)

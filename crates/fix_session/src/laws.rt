@@ -1,0 +1,34 @@
+//! Laws over every list of a session's calls: each is the contract of a function with no parameters.
+
+ghost use Rattle.std.specs.Prelude.{◌≡◌, ℕ, List, ◌++◌};
+ghost use Rattle.fix_session.specs.declared.comp_ids.CompIds.{CompIds};
+ghost use Rattle.fix_session.specs.Chain.{accepted, due_after, Rises};
+ghost use Rattle.fix_session.specs.Heard.{Heard};
+ghost use Rattle.fix_session.specs.Machine.{step, AtEnd};
+ghost use Rattle.fix_session.specs.Reader.{Reader};
+ghost use Rattle.fix_session.specs.Runs.{Event, replies, run, begin};
+ghost use Rattle.fix_session.specs.Sent.{apps};
+ghost use Rattle.fix_session.specs.State.{State};
+
+/// Over every list of calls, what was taken and then what is ready is what the heard frames spell, and the number due is the
+/// chain's.
+pub fn taken_then_ready()
+    ensures accepted { (r : Reader) (ids : CompIds) (events : List Event) → (run r events (begin ids)).taken ++ (run r events (begin ids)).session.ready ≡ accepted (run r events (begin ids)).heard }
+    ensures due { (r : Reader) (ids : CompIds) (events : List Event) → (run r events (begin ids)).session.line.due ≡ due_after (run r events (begin ids)).heard }
+{}
+
+/// Whatever is heard, the numbers of what is accepted rise: each message once.
+pub fn numbers_rise()
+    ensures { (heard : List Heard) → Rises 1 (accepted heard) }
+{}
+
+/// Over every list of calls, the application messages among what was numbered are the replies that were sent, in order,
+/// whatever lines broke.
+pub fn replies_in_order()
+    ensures { (r : Reader) (ids : CompIds) (events : List Event) → apps (run r events (begin ids)).session.entries ≡ replies r (begin ids) events }
+{}
+
+/// A step answers Idle only where no frame is unread or the line is down.
+pub fn idle_at_the_end()
+    ensures { (r : Reader) (s : State) (t : ℕ) → AtEnd r (step r s t).0 (step r s t).1 }
+{}

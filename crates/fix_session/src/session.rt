@@ -1,0 +1,270 @@
+//! The session itself.
+
+ghost use Rattle.std.specs.Prelude.{◌≡◌, ◌↔◌, ◌≤◌, ◌+◌, ◌∷◌, [], ◌++◌, max, length, IfOk, OnOk, OnErr, IfSome, IfNone, Some, OnSome, Err, slice_get};
+ghost use Rattle.fix_session.specs.Machine as machine;
+ghost use Rattle.fix_session.specs.Reader.{Reader};
+ghost use Rattle.fix_session.specs.State.{fresh, resumed, broken};
+ghost use Rattle.fix_session.specs.Table.{last_number};
+ghost use Rattle.resend_store.specs.declared.entry.Entry.TheVariants as entry;
+
+use crate::comp_ids::CompIds;
+use crate::line::{Line, TickAsk};
+use crate::plan::{Notice, Step, Why};
+use crate::table::LAST_NUMBER;
+use crate::unread::{forget, no_bytes, settle};
+use crate::wire::{app_alone, append_reserved, notice_alone};
+use crate::work::make_room;
+use fix_dictionary::{App, Identifier, Item};
+use fix_frame::Cutter;
+use resend_store::Store;
+use sef_moment::{Moment, later};
+use std::alloc::{AllocError, Global};
+use std::collections::VecDeque;
+use std::marker::Model;
+use std::mem;
+use thiserror::Error;
+
+/// Why an application message was not sent.
+#[derive(Clone, Copy, Debug, PartialEq, Eq, Error)]
+pub enum SendFault {
+    /// 1: the numbers up to 999,999,999 are spent.
+    #[error("the numbers are spent")]
+    Full,
+    /// A growth was refused.
+    #[error("out of memory")]
+    NoMemory,
+}
+
+/// A session with one counterparty.
+#[derive(Drop)]
+pub struct Session {
+    alloc: Global,
+    ids: CompIds,
+    line: Line,
+    cutter: Cutter,
+    store: Store,
+    ready: VecDeque<Item>,
+    wire: Vec<u8>,
+}
+
+impl Model for Session {
+    ghost use Rattle.std.specs.Prelude.{◌-◌};
+    ghost use Rattle.std.specs.VecDeque.{deque_len, deque_capacity};
+    ghost use Rattle.fix_session.specs.Reader.{IsSettled};
+    ghost use Rattle.fix_session.specs.State.{Seen};
+
+    ghost Value = { Seen };
+
+    ghost view = { λ a. record {
+      state = record { ids = a.ids; line = a.line; unread = a.cutter.unread; entries = a.store.entries; ready = a.ready.items; wire = a.wire.items };
+      spare = deque_capacity a.ready - deque_len a.ready;
+    } };
+
+    ghost invariant = { λ a. IsSettled a.cutter.unread };
+}
+
+impl Session {
+    /// A session of ours with a peer, on a line that is down, with both numbers at 1.
+    pub fn new(alloc: Global, own: &Identifier, peer: &Identifier) -> Result<Session, AllocError>
+        ensures { IfOk result (λ session. session.state ≡ fresh (record { own = own.now; peer = peer.now })) }
+    {
+        let own = own.copy(alloc)?;
+        let peer = peer.copy(alloc)?;
+        Ok(Session {
+            alloc,
+            ids: CompIds { own, peer },
+            line: Line::new(),
+            cutter: no_bytes(alloc),
+            store: Store::new(alloc),
+            ready: VecDeque::new(alloc),
+            wire: Vec::new(alloc),
+        })
+    }
+
+    /// The line is up, with no Logon yet; what was not read and what was queued is gone.
+    pub fn resume(&mut self, t: Moment)
+        ensures { self.new.state ≡ resumed self.old.state (max self.old.state.line.moment t) }
+    {
+        let t = later(self.line.moment, t);
+        forget(&mut self.cutter);
+        self.wire.clear();
+        self.line = self.line.raised(t);
+    }
+
+    /// The line is down; what was not read and what was queued is gone.
+    pub fn break_line(&mut self)
+        ensures { self.new.state ≡ broken self.old.state }
+    {
+        forget(&mut self.cutter);
+        self.wire.clear();
+        self.line = self.line.broken();
+    }
+
+    /// Bytes come, behind those not read yet. On a line that is down they are not heard.
+    pub fn push_bytes(&mut self, piece: &[u8]) -> Result<(), AllocError>
+        ensures ok { (r : Reader) → OnOk result (self.new.state ≡ machine.pushed r self.old.state piece.now) }
+        ensures err { OnErr result (self.new.state ≡ self.old.state) }
+    {
+        if self.line.up {
+            self.cutter.push(piece)?;
+            settle(&mut self.cutter);
+        }
+        Ok(())
+    }
+
+    /// Whether the line is up.
+    pub fn is_up(&self) -> bool
+        ensures { result ≡ self.now.state.line.up }
+    {
+        self.line.up
+    }
+
+    /// How many items are ready.
+    pub fn ready_len(&self) -> usize
+        ensures { result ≡ length self.now.state.ready }
+    {
+        self.ready.len()
+    }
+
+    /// The first ready item.
+    pub fn front_ready(&self) -> Option<&Item>
+        ensures some { IfSome result (λ x. slice_get self.now.state.ready 0 ≡ Some x.now) }
+        ensures none { IfNone result (self.now.state.ready ≡ []) }
+    {
+        self.ready.front()
+    }
+
+    /// Takes the first ready item out.
+    pub fn pop_ready(&mut self) -> Option<Item>
+        ensures some { IfSome result (λ x. self.old.state.ready ≡ x ∷ self.new.state.ready) }
+        ensures none { IfNone result ((self.old.state.ready ≡ []) × (self.new.state.ready ≡ [])) }
+        ensures rest { self.new.state ≡ record self.old.state { ready = self.new.state.ready } }
+        ensures spare { OnSome result (1 ≤ self.new.spare) }
+    {
+        self.ready.pop_front()
+    }
+
+    /// Puts an item back in front, which a pop has left room for.
+    pub fn unpop_ready(&mut self, item: Item)
+        requires { 1 ≤ self.old.spare }
+        ensures { self.new.state ≡ record self.old.state { ready = item ∷ self.old.state.ready } }
+    {
+        self.ready.push_front_reserved(item);
+    }
+
+    /// The queued frames, once.
+    pub fn take_wire(&mut self) -> Vec<u8>
+        ensures taken { result.items ≡ self.old.state.wire }
+        ensures left { self.new.state ≡ record self.old.state { wire = [] } }
+    {
+        mem::replace(&mut self.wire, Vec::new(self.alloc))
+    }
+
+    /// Sends a heartbeat or a test where one is due, or drops a silent line.
+    pub fn tick(&mut self, t: Moment) -> Result<Step, AllocError>
+        ensures state { OnOk result (self.new.state ≡ (machine.tick self.old.state t).0) }
+        ensures answer { IfOk result (λ answer. answer ≡ (machine.tick self.old.state t).1) }
+        ensures err { OnErr result (self.new.state ≡ self.old.state) }
+    {
+        let t = later(self.line.moment, t);
+        match self.line.asked_at(t) {
+            TickAsk::Nothing => {
+                self.line.moment = t;
+                Ok(Step::Idle)
+            }
+            TickAsk::Heartbeat => {
+                let test_at = self.line.test_at;
+                self.send_now(t, Notice::Heartbeat, test_at)
+            }
+            TickAsk::Test => self.send_now(t, Notice::Test, Some(t)),
+            TickAsk::Silent => {
+                self.drop_line(t);
+                Ok(Step::Dropped(Why::Silent))
+            }
+        }
+    }
+
+    fn drop_line(&mut self, t: Moment)
+        ensures { self.new.state ≡ machine.dropped_line self.old.state t }
+    {
+        self.line.up = false;
+        self.line.logged_on = false;
+        self.line.moment = t;
+    }
+
+    fn send_now(
+        &mut self,
+        t: Moment,
+        message: Notice,
+        test_at: Option<Moment>,
+    ) -> Result<Step, AllocError>
+        ensures state { OnOk result (self.new.state ≡ (machine.sends_now self.old.state t message test_at).0) }
+        ensures answer { IfOk result (λ answer. answer ≡ (machine.sends_now self.old.state t message test_at).1) }
+        ensures err { OnErr result (self.new.state ≡ self.old.state) }
+    {
+        let number = self.store.next_number();
+        if number > LAST_NUMBER {
+            self.drop_line(t);
+            return Ok(Step::Dropped(Why::NumbersSpent));
+        }
+        let frame = notice_alone(self.alloc, &self.ids, t, number, message)?;
+        let bytes = frame.len();
+        make_room(&mut self.store, &mut self.ready, &mut self.wire, bytes)?;
+        self.store.add_admin_reserved();
+        append_reserved(&mut self.wire, &frame);
+        self.line.moment = t;
+        self.line.sent_at = t;
+        self.line.test_at = test_at;
+        Ok(Step::Did)
+    }
+
+    /// Numbers and stores an application message, and queues its frame on a logged-on line.
+    pub fn send(&mut self, app: &App, t: Moment) -> Result<(), SendFault>
+        ensures sent { OnOk result (self.new.state ≡ machine.sent self.old.state app.now (max self.old.state.line.moment t)) }
+        ensures full { (result ≡ Err SendFault.Full) ↔ (last_number ≤ length self.old.state.entries) }
+        ensures err { OnErr result (self.new.state ≡ self.old.state) }
+    {
+        let number = self.store.next_number();
+        if number > LAST_NUMBER {
+            return Err(SendFault::Full);
+        }
+        let t = later(self.line.moment, t);
+        if self.number_app(number, app, t).is_err() {
+            return Err(SendFault::NoMemory);
+        }
+        Ok(())
+    }
+
+    // Numbers and stores an application message, and queues its frame on a logged-on line; or changes nothing.
+    fn number_app(&mut self, number: u32, app: &App, t: Moment) -> Result<(), AllocError>
+        requires next { number ≡ length self.old.state.entries + 1 }
+        requires few { number ≤ 999999999 }
+        ensures ok { OnOk result (self.new.state ≡ machine.sent self.old.state app.now t) }
+        ensures err { OnErr result (self.new.state ≡ self.old.state) }
+    {
+        if !self.line.logged_on {
+            add_app(&mut self.store, number, app, t)?;
+            self.line.moment = t;
+            return Ok(());
+        }
+        let frame = app_alone(self.alloc, &self.ids, t, number, app)?;
+        self.wire.reserve(frame.len())?;
+        add_app(&mut self.store, number, app, t)?;
+        append_reserved(&mut self.wire, &frame);
+        self.line.moment = t;
+        self.line.sent_at = t;
+        Ok(())
+    }
+}
+
+// Adds a copy of an application message to the entries.
+fn add_app(store: &mut Store, number: u32, app: &App, t: Moment) -> Result<(), AllocError>
+    requires { number ≡ length store.old.entries + 1 }
+    ensures ok { OnOk result (store.new.entries ≡ store.old.entries ++ entry.Application app.now t ∷ []) }
+    ensures err { OnErr result (store.new.entries ≡ store.old.entries) }
+{
+    match store.add_app(number, app, t) {
+        Ok(()) => Ok(()),
+        Err(_) => Err(AllocError),
+    }
+}
