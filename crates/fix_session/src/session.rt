@@ -11,9 +11,9 @@ use crate::comp_ids::CompIds;
 use crate::line::{Line, TickAsk};
 use crate::plan::{Notice, Step, Why};
 use crate::table::LAST_NUMBER;
-use crate::unread::{forget, no_bytes, settle};
+use crate::unread::{forget, next_body, no_bytes, settle};
 use crate::wire::{app_alone, append_reserved, notice_alone};
-use crate::work::make_room;
+use crate::work::{Work, add_marks, join, make_room, prepare};
 use fix_dictionary::{App, Identifier, Item};
 use fix_frame::Cutter;
 use resend_store::Store;
@@ -158,6 +158,44 @@ impl Session {
         ensures left { self.new.state ≡ record self.old.state { wire = [] } }
     {
         mem::replace(&mut self.wire, Vec::new(self.alloc))
+    }
+
+    /// Does what the next unread frame asks. A step that is refused leaves the frame unread.
+    pub fn step(&mut self, t: Moment) -> Result<Step, AllocError>
+        ensures state { (r : Reader) → OnOk result (self.new.state ≡ (machine.step r self.old.state t).0) }
+        ensures answer { (r : Reader) → IfOk result (λ answer. answer ≡ (machine.step r self.old.state t).1) }
+        ensures err { OnErr result (self.new.state ≡ self.old.state) }
+    {
+        let t = later(self.line.moment, t);
+        if !self.line.up {
+            self.line.moment = t;
+            return Ok(Step::Idle);
+        }
+        let Some(body) = next_body(&mut self.cutter) else {
+            self.line.moment = t;
+            return Ok(Step::Idle);
+        };
+        let prepared = prepare(
+            self.alloc,
+            &self.ids,
+            &self.line,
+            &mut self.store,
+            &mut self.ready,
+            &mut self.wire,
+            t,
+            &self.cutter.taken()[body.start..body.end],
+        );
+        let Ok(work) = prepared else {
+            self.cutter.back();
+            return Err(AllocError);
+        };
+        let Work { plan, frames, item } = work;
+        self.line = self.line.after(t, &plan, &frames);
+        add_marks(&mut self.store, &plan.sends);
+        join(&mut self.ready, item);
+        append_reserved(&mut self.wire, &frames);
+        settle(&mut self.cutter);
+        Ok(plan.answer)
     }
 
     /// Sends a heartbeat or a test where one is due, or drops a silent line.

@@ -2,21 +2,33 @@
 
 ghost use Rattle.std.specs.Prelude.{◌≡◌, ◌<◌, ◌≤◌, ◌+◌, ◌++◌, length, IfOk, OnOk, option_to_list, vec_len, vec_capacity};
 ghost use Rattle.std.specs.VecDeque.{deque_len, deque_capacity};
-ghost use Rattle.fix_session.specs.Body.{kind_in};
+ghost use Rattle.fix_session.specs.Body.{kind_in, frame_in};
 ghost use Rattle.fix_session.specs.Machine as machine;
+ghost use Rattle.fix_session.specs.Reader.{Reader};
 ghost use Rattle.fix_session.specs.Sent as sent;
 ghost use Rattle.fix_session.specs.Table.{count};
 
 use crate::comp_ids::CompIds;
 use crate::frame::Content;
+use crate::line::Line;
 use crate::plan::{Plan, Sends, Step};
-use crate::reading::kind_of;
+use crate::reading::{kind_of, read_frame};
 use crate::wire::{Occasion, written};
 use fix_dictionary::Item;
 use resend_store::Store;
 use sef_moment::Moment;
 use std::alloc::{AllocError, Global};
 use std::collections::VecDeque;
+
+/// What one frame makes of a session.
+#[derive(Drop)]
+pub(crate) struct Work {
+    pub plan: Plan,
+    /// What is written.
+    pub frames: Vec<u8>,
+    /// What becomes ready.
+    pub item: Option<Item>,
+}
 
 // The item that an answer says becomes ready.
 fn item_of(content: Content, answer: Step) -> Option<Item>
@@ -53,6 +65,27 @@ fn written_for(
     written(alloc, &on, store, plan)
 }
 
+// What the body of a frame, heard at this moment, makes of a session.
+fn work_of(
+    alloc: Global,
+    ids: &CompIds,
+    line: &Line,
+    store: &Store,
+    t: Moment,
+    body: &[u8],
+) -> Result<Work, AllocError>
+    ensures plan { (r : Reader) → IfOk result (λ work. work.plan ≡ machine.plan_in line.now store.now.entries (frame_in r ids.now body.now)) }
+    ensures frames { (r : Reader) → IfOk result (λ work. work.frames.items ≡ sent.written ids.now store.now.entries t (kind_in body.now) (frame_in r ids.now body.now).content work.plan) }
+    ensures item { (r : Reader) → IfOk result (λ work. option_to_list work.item ≡ machine.item_of (frame_in r ids.now body.now).content work.plan.answer) }
+    ensures numbers { IfOk result (λ work. length store.now.entries + count work.plan.sends ≤ 999999999) }
+{
+    let frame = read_frame(alloc, ids, body)?;
+    let plan = line.affordable(store.next_number() - 1, &frame);
+    let frames = written_for(alloc, ids, store, t, body, &frame.content, &plan)?;
+    let item = item_of(frame.content, plan.answer);
+    Ok(Work { plan, frames, item })
+}
+
 /// Makes room for what a frame adds, and adds nothing.
 pub(crate) fn make_room(
     store: &mut Store,
@@ -70,6 +103,33 @@ pub(crate) fn make_room(
     store.reserve(2)?;
     ready.reserve(1)?;
     wire.reserve(bytes)
+}
+
+/// What the body of a frame, heard at this moment, makes of a session, and room for it. Nothing is added.
+pub(crate) fn prepare(
+    alloc: Global,
+    ids: &CompIds,
+    line: &Line,
+    store: &mut Store,
+    ready: &mut VecDeque<Item>,
+    wire: &mut Vec<u8>,
+    t: Moment,
+    body: &[u8],
+) -> Result<Work, AllocError>
+    ensures plan { (r : Reader) → IfOk result (λ work. work.plan ≡ machine.plan_in line.now store.old.entries (frame_in r ids.now body.now)) }
+    ensures frames { (r : Reader) → IfOk result (λ work. work.frames.items ≡ sent.written ids.now store.old.entries t (kind_in body.now) (frame_in r ids.now body.now).content work.plan) }
+    ensures item { (r : Reader) → IfOk result (λ work. option_to_list work.item ≡ machine.item_of (frame_in r ids.now body.now).content work.plan.answer) }
+    ensures numbers { IfOk result (λ work. length store.old.entries + count work.plan.sends ≤ 999999999) }
+    ensures entries { store.new.entries ≡ store.old.entries }
+    ensures ready { ready.new.items ≡ ready.old.items }
+    ensures wire { wire.new.items ≡ wire.old.items }
+    ensures marks { OnOk result (2 ≤ store.new.room) }
+    ensures items { OnOk result (deque_len ready.new < deque_capacity ready.new) }
+    ensures bytes { IfOk result (λ work. vec_len wire.new + length work.frames.items ≤ vec_capacity wire.new) }
+{
+    let work = work_of(alloc, ids, line, store, t, body)?;
+    make_room(store, ready, wire, work.frames.len())?;
+    Ok(work)
 }
 
 /// The marks of these messages.
