@@ -430,3 +430,66 @@ fn full_side_fills(rt: HostRuntime) -> Result<(), Fail> {
     assert_eq!(rt; said.as_slice(), still_filled());
     Ok(())
 }
+
+fn at_once() -> Line {
+    b"G 35=D|11=g3|55=IRS5Y|54=1|38=100|40=2|44=2.5|59=3|"
+}
+
+fn filled_in_part() -> Line {
+    b"G 35=8|37=O2|17=E2|150=0|39=0|55=IRS5Y|54=1|151=100|14=0|11=g3|\n\
+G 35=8|37=O2|17=E3|150=F|39=1|55=IRS5Y|54=1|151=30|14=70|11=g3|31=2.5|32=70|880=T1|\n\
+D 35=8|37=O1|17=E4|150=F|39=2|55=IRS5Y|54=2|151=0|14=70|11=d1|31=2.5|32=70|880=T1|\n\
+G 35=8|37=O2|17=E5|150=4|39=4|55=IRS5Y|54=1|151=0|14=70|11=g3|\n"
+}
+
+#[test]
+fn immediate_order_does_not_rest(rt: HostRuntime) -> Result<(), Fail> {
+    let said = answered(rt.alloc(), &[second_seller(), at_once()]).ok_or("memory")?;
+    assert_eq!(rt; said.as_slice(), filled_in_part());
+    Ok(())
+}
+
+fn look_at_basis() -> Line {
+    b"E 35=V|262=v1|263=0|264=0|267=1|269=0|146=1|55=BASIS1Y|"
+}
+
+fn offer() -> Line {
+    b"E 35=W|262=v1|55=BASIS1Y|268=1|269=1|270=-0.25|271=1|278=O4|\n"
+}
+
+#[test]
+fn offer_is_shown(rt: HostRuntime) -> Result<(), Fail> {
+    let said = then(rt.alloc(), &[look_at_basis()]).ok_or("memory")?;
+    assert_eq!(rt; said.as_slice(), offer());
+    Ok(())
+}
+
+fn look() -> Line {
+    b"E 35=V|262=v2|263=0|264=0|267=1|269=0|146=1|55=IRS5Y|"
+}
+
+fn nothing_rests() -> Line {
+    b"E 35=W|262=v2|55=IRS5Y|268=1|269=J|\n"
+}
+
+#[test]
+fn empty_book_is_shown(rt: HostRuntime) -> Result<(), Fail> {
+    let said = then(rt.alloc(), &[replace(), cancel(), look()]).ok_or("memory")?;
+    assert_eq!(rt; said.as_slice(), nothing_rests());
+    Ok(())
+}
+
+fn subscribe() -> Line {
+    b"E 35=V|262=v3|263=1|264=0|267=1|269=0|146=1|55=IRS5Y|"
+}
+
+fn snapshots_only() -> Line {
+    b"E 35=Y|262=v3|281=4|58=Snapshots only|\n"
+}
+
+#[test]
+fn subscription_is_refused(rt: HostRuntime) -> Result<(), Fail> {
+    let said = answered(rt.alloc(), &[subscribe()]).ok_or("memory")?;
+    assert_eq!(rt; said.as_slice(), snapshots_only());
+    Ok(())
+}
