@@ -1,0 +1,12 @@
+-- lists of replies, and facts
+pub mod Lists
+-- what is known of rooms by their plans
+pub mod Rooms
+-- the answer to a request
+pub mod Requesting
+-- the answer to a withdrawal
+pub mod Withdrawing
+-- the answer to a quote
+pub mod Showing
+pub mod Makers
+pub mod Quoting

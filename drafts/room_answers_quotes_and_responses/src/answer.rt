@@ -1,0 +1,64 @@
+//! What the venue answers of its rooms to one message, before it does.
+ghost use Rattle.std.specs.Prelude.{◌≡◌, ◌≤◌};
+ghost use Rattle.room_answers.specs.Counting.{reports_in};
+
+use rfq_room::RoomPlan;
+use std::marker::Model;
+use venue_rules::Reply;
+
+/// The facts that the rooms gain, and the replies, in order.
+#[derive(Drop)]
+pub struct RoomAnswer {
+    plan: RoomPlan,
+    replies: Vec<Reply>,
+    reports: u64,
+}
+
+impl Model for RoomAnswer {
+    ghost use Rattle.std.specs.Prelude.{◌≡◌, ◌≤◌};
+    ghost use Rattle.venue_rules.specs.Answer.{Answer};
+    ghost use Rattle.room_answers.specs.Counting.{reports_in};
+
+    ghost Value = { Answer };
+
+    ghost view = { λ a. record { facts = a.plan.facts; replies = a.replies.items } };
+
+    ghost invariant = { λ a. (a.reports ≡ reports_in a.replies.items) × (a.reports ≤ 2) };
+}
+
+impl RoomAnswer {
+    /// These replies, of which so many are execution reports, and what they add to the rooms.
+    pub(crate) fn of(plan: RoomPlan, replies: Vec<Reply>, reports: u64) -> RoomAnswer
+        requires counted { reports ≡ reports_in replies.items }
+        requires few { reports ≤ 2 }
+        ensures { result ≡ record { facts = plan.facts; replies = replies.items } }
+    {
+        RoomAnswer {
+            plan,
+            replies,
+            reports,
+        }
+    }
+
+    /// The replies, in order.
+    pub fn replies(&self) -> &[Reply]
+        ensures { result.now ≡ self.now.replies }
+    {
+        &self.replies
+    }
+
+    /// How many of the replies are execution reports (message 8).
+    pub fn reports(&self) -> u64
+        ensures value { result ≡ reports_in self.now.replies }
+        ensures bound { result ≤ 2 }
+    {
+        self.reports
+    }
+
+    /// What the rooms are to apply.
+    pub fn into_plan(self) -> RoomPlan
+        ensures { result.facts ≡ self.facts }
+    {
+        self.plan
+    }
+}

@@ -1,0 +1,10 @@
+//! Who sent a message.
+use fix_dictionary::SequenceNumber;
+use participants::Who;
+
+/// Who sent a message, and its number (34).
+#[derive(Clone, Copy)]
+pub struct Sender {
+    pub who: Who,
+    pub number: SequenceNumber,
+}

@@ -1,0 +1,32 @@
+//! Messages that are not processed (BusinessMessageReject, j).
+ghost use Rattle.std.specs.Prelude.{◌≡◌, IfOk};
+ghost use Rattle.fix_dictionary.specs.Values.{IsText};
+ghost use Rattle.venue_rules.specs.Answer.{unprocessed};
+ghost use Rattle.room_answers.specs.Senders.{sent_by};
+
+use crate::answer::RoomAnswer;
+use crate::sender::Sender;
+use fix_dictionary::Identifier;
+use rfq_room::RoomPlan;
+use std::alloc::{AllocError, Global};
+use venue_rules::{BusinessRefusal, Reply, Unprocessed, What};
+
+/// The message of this type is not processed, for this cause.
+pub(crate) fn unprocessed(
+    alloc: Global,
+    sender: Sender,
+    kind: &[u8],
+    cause: BusinessRefusal,
+) -> Result<RoomAnswer, AllocError>
+    requires { IsText 64 kind.now }
+    ensures { IfOk result (λ a. a ≡ unprocessed (sent_by sender kind.now) cause) }
+{
+    let what = What::Unprocessed(Unprocessed {
+        number: sender.number,
+        kind: Identifier::from_slice(alloc, kind)?,
+        cause,
+    });
+    let to = sender.who;
+    let replies = vec![in alloc; Reply { to, what }]?;
+    Ok(RoomAnswer::of(RoomPlan::nothing(alloc), replies, 0))
+}
