@@ -1,8 +1,0 @@
-use Rattle.std.specs.Prelude.{ℕ, List}
-use Rattle.std.specs.List.{count_by}
-use Rattle.venue_rules.specs.declared.replies.Reply.{Reply}
-use Rattle.venue_rules.specs.Run.{is_report}
-
--- how many replies are execution reports (message 8)
-abbrev pub reports_in : List Reply → ℕ
-reports_in rs = count_by (λ (r : Reply). is_report r.what) rs
