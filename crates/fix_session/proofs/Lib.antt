@@ -7,3 +7,6 @@ mod Rising
 mod Runs
 mod Replies
 mod Idle
+mod FirstFrames
+mod SinceResume
+mod SomeReader

@@ -61,7 +61,7 @@ take_drop_whole (suc n) (c ∷ cs) = ap (λ (l : List ℕ). c ∷ l) (take_drop_
 pub closed_open : (s : List ℕ) → IsClosed s → IsOpen s
 closed_open s h = ([], subst IsClosed (sym (append-nil s)) h)
 
-stands_open : (s : List ℕ) (found : Option (List ℕ × List ℕ)) → Stands s found → IsOpen s
+pub stands_open : (s : List ℕ) (found : Option (List ℕ × List ℕ)) → Stands s found → IsOpen s
 stands_open s None h = h.0
 stands_open s (Some found) h = closed_open s (found.0, found.1, h)
 
@@ -82,7 +82,7 @@ open_settled s here p passes = ⊎_elim (λ (l : 0 < p). absurd (passes.never 0 
 pub nil_settled : IsSettled []
 nil_settled p passes = let within : p ≤ 0 = passes.within in omega arith
 
-is_next : (s : List ℕ) (front : Front) → IsFront s front → IsNext s front.found
+pub is_next : (s : List ℕ) (front : Front) → IsFront s front → IsNext s front.found
 is_next s front h = by_found s front.passed front.found h.passes h.stands where
   by_found : (s : List ℕ) (p : ℕ) (found : Option (List ℕ × List ℕ)) → Passes p s → Stands (drop p s) found → IsNext s found
   by_found s p None passes stands = (p, passes, stands.0, stands.1)

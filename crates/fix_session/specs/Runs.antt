@@ -4,6 +4,7 @@ use Rattle.fix_dictionary.specs.declared.messages.App.{App}
 use Rattle.fix_dictionary.specs.declared.messages.Item.{Item}
 use Rattle.fix_frame.specs.Stream.{Frames}
 use Rattle.fix_session.specs.declared.comp_ids.CompIds.{CompIds}
+use Rattle.fix_session.specs.declared.frame.Frame.{Frame}
 use Rattle.fix_session.specs.Reader.{Reader}
 use Rattle.fix_session.specs.Body.{frame_in}
 use Rattle.fix_session.specs.Heard.{Heard, Connected, Hears}
@@ -97,6 +98,12 @@ reply_of h e = []
 abbrev pub replies : Reader → History → List Event → List App
 replies r h [] = []
 replies r h (e ∷ events) = reply_of h e ++ replies r (happens r h e) events
+
+-- the frames heard since the last connection began; before it, these
+abbrev pub frames_since : List Frame → List Heard → List Frame
+frames_since frames [] = frames
+frames_since frames (Connected ∷ heard) = frames_since [] heard
+frames_since frames (Hears frame entries ∷ heard) = frames_since (frames ++ frame ∷ []) heard
 
 -- these bodies are the first of the frames of the stream
 abbrev pub AreFirst : List (List ℕ) → List ℕ → Type 0

@@ -1,14 +1,18 @@
 //! Laws over every list of a session's calls: each is the contract of a function with no parameters.
 
-ghost use Rattle.std.specs.Prelude.{◌≡◌, ℕ, List, ◌++◌};
+ghost use Rattle.std.specs.Prelude.{◌≡◌, ℕ, List, [], ◌++◌, map};
 ghost use Rattle.fix_session.specs.declared.comp_ids.CompIds.{CompIds};
+ghost use Rattle.fix_session.specs.Body.{frame_in};
 ghost use Rattle.fix_session.specs.Chain.{accepted, due_after, Rises};
 ghost use Rattle.fix_session.specs.Heard.{Heard};
 ghost use Rattle.fix_session.specs.Machine.{step, AtEnd};
 ghost use Rattle.fix_session.specs.Reader.{Reader};
-ghost use Rattle.fix_session.specs.Runs.{Event, replies, run, begin};
+ghost use Rattle.fix_session.specs.Runs.{AreFirst, Event, begin, frames_since, replies, run};
 ghost use Rattle.fix_session.specs.Sent.{apps};
 ghost use Rattle.fix_session.specs.State.{State};
+
+use fix_fields::{one_fault, one_list, some_reading};
+use fix_frame::stream_laws;
 
 /// Over every list of calls, what was taken and then what is ready is what the heard frames spell, and the number due is the
 /// chain's.
@@ -32,3 +36,24 @@ pub fn replies_in_order()
 pub fn idle_at_the_end()
     ensures { (r : Reader) (s : State) (t : ℕ) → AtEnd r (step r s t).0 (step r s t).1 }
 {}
+
+/// Over every list of calls, what was heard since the last resume are the first so many of the frames of all bytes that were
+/// pushed since then.
+pub fn first_frames_heard()
+    ensures heard { (r : Reader) (ids : CompIds) (events : List Event) → frames_since [] (run r events (begin ids)).heard ≡ map (frame_in r ids) (run r events (begin ids)).bodies }
+    ensures first { (r : Reader) (ids : CompIds) (events : List Event) → AreFirst (run r events (begin ids)).bodies (run r events (begin ids)).stream }
+{
+    stream_laws();
+}
+
+/// There is a reader, so that what holds for every reader holds of one; and all readers read alike.
+pub fn one_reader()
+    ensures some { Reader }
+    ensures front { (r other : Reader) (s : List ℕ) → r.front s ≡ other.front s }
+    ensures fields { (r other : Reader) (body : List ℕ) → r.fields body ≡ other.fields body }
+{
+    stream_laws();
+    some_reading();
+    one_list();
+    one_fault();
+}

@@ -225,9 +225,10 @@ impl Session {
     fn drop_line(&mut self, t: Moment)
         ensures { self.new.state ≡ machine.dropped_line self.old.state t }
     {
-        self.line.up = false;
-        self.line.logged_on = false;
-        self.line.moment = t;
+        let line = &mut self.line;
+        line.up = false;
+        line.logged_on = false;
+        line.moment = t;
     }
 
     fn send_now(

@@ -1,16 +1,37 @@
-//! Worked frames as text, with `|` for SOH, and what a session answers.
+//! A session's calls as a script, and what it answers to them as text with `|` for SOH.
 
 use crate::{Session, Step, Why};
-use fix_dictionary::Identifier;
+use fix_dictionary::{App, Identifier, Item, print_app, read_app};
+use fix_fields::split;
 use sef_moment::Moment;
 use std::alloc::{AllocError, Global};
 use std::test::Fail;
 
+mod connections;
+mod logons;
+mod numbers;
+mod rejects;
+mod resends;
+mod resets;
+mod silence;
+
 type Text = &'static [u8];
 
-// 14:30 on 3 March 2025.
-fn moment() -> Option<Moment> {
-    Moment::of_ms(1_741_012_200_000)
+/// A call of a session. Moments are milliseconds after 14:30 on 3 March 2025.
+#[derive(Clone, Copy)]
+enum Call {
+    Push(Text),
+    StepAt(u64),
+    TickAt(u64),
+    /// An application message without its header.
+    Send(Text, u64),
+    /// The wire is taken.
+    Take,
+    Pop,
+    /// The first ready item is taken out and put back.
+    PopAndPutBack,
+    Break,
+    Resume(u64),
 }
 
 // Appends bytes with one byte in the place of another.
@@ -21,95 +42,202 @@ fn append_with(bytes: &[u8], old: u8, new: u8, out: &mut Vec<u8>) -> Result<(), 
     Ok(())
 }
 
-fn hear(alloc: Global, session: &mut Session, frame: Text) -> Result<(), AllocError> {
+fn with_soh(alloc: Global, text: Text) -> Result<Vec<u8>, AllocError> {
     let mut bytes = Vec::new(alloc);
-    append_with(frame, b'|', 1, &mut bytes)?;
-    session.push_bytes(&bytes)
+    append_with(text, b'|', 1, &mut bytes)?;
+    Ok(bytes)
 }
 
-// What a session has written since the last look.
-fn written(alloc: Global, session: &mut Session) -> Result<Vec<u8>, AllocError> {
-    let wire = session.take_wire();
+fn message(alloc: Global, text: Text) -> Option<App> {
+    let body = with_soh(alloc, text).ok()?;
+    let fields = split(alloc, &body).ok()?;
+    read_app(alloc, &fields).ok()
+}
+
+fn moment(after: u64) -> Option<Moment> {
+    Moment::of_ms(1_741_012_200_000u64.saturating_add(after))
+}
+
+fn reason(why: Why) -> Text {
+    match why {
+        Why::NotLogon => b"dropped: not a Logon\n",
+        Why::WrongComp => b"dropped: wrong CompIDs\n",
+        Why::BadLogon => b"dropped: bad Logon\n",
+        Why::NoNumber => b"dropped: no number\n",
+        Why::TooLow => b"dropped: too low\n",
+        Why::PeerLogout => b"dropped: logged out\n",
+        Why::Silent => b"dropped: silent\n",
+        Why::NumbersSpent => b"dropped: numbers spent\n",
+        Why::Reset => b"dropped: reset\n",
+    }
+}
+
+// A line that tells an answer.
+fn tell_answer(alloc: Global, answer: Step, told: &mut Vec<u8>) -> Result<(), AllocError> {
+    match answer {
+        Step::Idle => told.extend_from_slice(b"idle\n"),
+        Step::Did => told.extend_from_slice(b"did\n"),
+        Step::App(number) => {
+            let number = number.get();
+            let line = format!(in alloc; "ready {number}\n")?;
+            told.extend_from_slice(line.as_bytes())
+        }
+        Step::Dropped(why) => told.extend_from_slice(reason(why)),
+    }
+}
+
+// A line that tells an item.
+fn tell_item(alloc: Global, item: &Item, told: &mut Vec<u8>) -> Result<(), AllocError> {
+    let number = item.number.get();
+    let front = format!(in alloc; "{number}: ")?;
+    told.extend_from_slice(front.as_bytes())?;
     let mut text = Vec::new(alloc);
-    append_with(&wire, 1, b'|', &mut text)?;
-    Ok(text)
+    print_app(&item.app, &mut text)?;
+    append_with(&text, 1, b'|', told)?;
+    told.push(b'\n')?;
+    Ok(())
 }
 
-// A session of V with A, on a line that is up.
-fn opened(alloc: Global, t: Moment) -> Result<Session, AllocError> {
-    let own = Identifier::from_slice(alloc, b"V")?;
-    let peer = Identifier::from_slice(alloc, b"A")?;
-    let mut session = Session::new(alloc, &own, &peer)?;
-    session.resume(t);
-    Ok(session)
+// A line that tells bytes of the wire.
+fn tell_wire(wire: &[u8], told: &mut Vec<u8>) -> Result<(), AllocError> {
+    append_with(wire, 1, b'|', told)?;
+    told.push(b'\n')?;
+    Ok(())
+}
+
+fn push(alloc: Global, session: &mut Session, text: Text) -> Result<(), Fail> {
+    let bytes = with_soh(alloc, text)?;
+    session.push_bytes(&bytes)?;
+    Ok(())
+}
+
+fn step(alloc: Global, session: &mut Session, after: u64, told: &mut Vec<u8>) -> Result<(), Fail> {
+    let t = moment(after).ok_or("no moment")?;
+    let answer = session.step(t)?;
+    tell_answer(alloc, answer, told)?;
+    Ok(())
+}
+
+fn tick(alloc: Global, session: &mut Session, after: u64, told: &mut Vec<u8>) -> Result<(), Fail> {
+    let t = moment(after).ok_or("no moment")?;
+    let answer = session.tick(t)?;
+    tell_answer(alloc, answer, told)?;
+    Ok(())
+}
+
+fn send(alloc: Global, session: &mut Session, text: Text, after: u64) -> Result<(), Fail> {
+    let t = moment(after).ok_or("no moment")?;
+    let app = message(alloc, text).ok_or("no message")?;
+    if session.send(&app, t).is_err() {
+        return Err("not sent".into());
+    }
+    Ok(())
+}
+
+fn take(session: &mut Session, told: &mut Vec<u8>) -> Result<(), Fail> {
+    let wire = session.take_wire();
+    tell_wire(&wire, told)?;
+    Ok(())
+}
+
+fn pop(alloc: Global, session: &mut Session, told: &mut Vec<u8>) -> Result<(), Fail> {
+    match session.pop_ready() {
+        Some(item) => tell_item(alloc, &item, told)?,
+        None => told.extend_from_slice(b"none\n")?,
+    }
+    Ok(())
+}
+
+fn pop_and_put_back(session: &mut Session) {
+    if let Some(item) = session.pop_ready() {
+        session.unpop_ready(item);
+    }
+}
+
+fn resume(session: &mut Session, after: u64) -> Result<(), Fail> {
+    session.resume(moment(after).ok_or("no moment")?);
+    Ok(())
+}
+
+fn play(alloc: Global, session: &mut Session, call: Call, told: &mut Vec<u8>) -> Result<(), Fail> {
+    match call {
+        Call::Push(text) => push(alloc, session, text),
+        Call::StepAt(after) => step(alloc, session, after, told),
+        Call::TickAt(after) => tick(alloc, session, after, told),
+        Call::Send(text, after) => send(alloc, session, text, after),
+        Call::Take => take(session, told),
+        Call::Pop => pop(alloc, session, told),
+        Call::PopAndPutBack => {
+            pop_and_put_back(session);
+            Ok(())
+        }
+        Call::Break => {
+            session.break_line();
+            Ok(())
+        }
+        Call::Resume(after) => resume(session, after),
+    }
+}
+
+fn play_all(
+    alloc: Global,
+    session: &mut Session,
+    calls: &[Call],
+    told: &mut Vec<u8>,
+) -> Result<(), Fail> {
+    for call in calls {
+        play(alloc, session, *call, told)?;
+    }
+    Ok(())
+}
+
+/// SEF's session with ALPHA.
+fn new_session(alloc: Global) -> Result<Session, AllocError> {
+    let own = Identifier::from_slice(alloc, b"SEF")?;
+    let peer = Identifier::from_slice(alloc, b"ALPHA")?;
+    Session::new(alloc, &own, &peer)
+}
+
+/// What a new session answers to these calls, a line for each answer.
+fn played(alloc: Global, calls: &[Call]) -> Result<Vec<u8>, Fail> {
+    let mut session = new_session(alloc)?;
+    let mut told = Vec::new(alloc);
+    play_all(alloc, &mut session, calls, &mut told)?;
+    Ok(told)
+}
+
+/// What is answered to these calls after a first Logon was heard, and its answer taken.
+fn inside(alloc: Global, calls: &[Call]) -> Result<Vec<u8>, Fail> {
+    let mut session = new_session(alloc)?;
+    let mut told = Vec::new(alloc);
+    let first = [
+        Call::Resume(0),
+        Call::Push(logon()),
+        Call::StepAt(0),
+        Call::Take,
+    ];
+    play_all(alloc, &mut session, &first, &mut told)?;
+    told.clear();
+    play_all(alloc, &mut session, calls, &mut told)?;
+    Ok(told)
 }
 
 fn logon() -> Text {
-    b"8=FIXT.1.1|9=59|35=A|49=A|56=V|34=1|52=20250303-14:30:00|98=0|108=0|1137=9|10=034|"
+    b"8=FIXT.1.1|9=66|35=A|49=ALPHA|56=SEF|34=1|52=20250303-14:30:00|98=0|108=30|1137=9|10=000|"
 }
 
-fn logon_back() -> Text {
-    b"8=FIXT.1.1|9=63|35=A|49=V|56=A|34=1|52=20250303-14:30:00.000|98=0|108=0|1137=9|10=219|"
+fn order_2() -> Text {
+    b"8=FIXT.1.1|9=84|35=D|49=ALPHA|56=SEF|34=2|52=20250303-14:30:00|11=a2|55=IRS5Y|54=1|38=100|40=2|44=1|10=188|"
 }
 
-#[test]
-fn logon_is_answered(rt: HostRuntime) -> Result<(), Fail> {
-    let alloc = rt.alloc();
-    let t = moment().ok_or("no moment")?;
-    let mut session = opened(alloc, t)?;
-    hear(alloc, &mut session, logon())?;
-    assert!(rt; session.step(t)? == Step::Did);
-    assert_eq!(rt; written(alloc, &mut session)?.as_slice(), logon_back());
-    Ok(())
+fn order_3() -> Text {
+    b"8=FIXT.1.1|9=84|35=D|49=ALPHA|56=SEF|34=3|52=20250303-14:30:00|11=a3|55=IRS5Y|54=1|38=100|40=2|44=1|10=190|"
 }
 
-// A session whose Logon was heard and answered.
-fn logged_on(alloc: Global, t: Moment) -> Result<Session, AllocError> {
-    let mut session = opened(alloc, t)?;
-    hear(alloc, &mut session, logon())?;
-    let _answer = session.step(t)?;
-    let _wire = session.take_wire();
-    Ok(session)
+fn order_4() -> Text {
+    b"8=FIXT.1.1|9=84|35=D|49=ALPHA|56=SEF|34=4|52=20250303-14:30:00|11=a4|55=IRS5Y|54=1|38=100|40=2|44=1|10=192|"
 }
 
-fn order() -> Text {
-    b"8=FIXT.1.1|9=71|35=D|49=A|56=V|34=2|52=20250303-14:30:00|11=a|55=X|54=1|38=1|40=2|44=1|10=085|"
-}
-
-fn order_again() -> Text {
-    b"8=FIXT.1.1|9=76|35=D|49=A|56=V|34=2|43=Y|52=20250303-14:30:00|11=a|55=X|54=1|38=1|40=2|44=1|10=088|"
-}
-
-#[test]
-fn repeated_order_is_taken_once(rt: HostRuntime) -> Result<(), Fail> {
-    let alloc = rt.alloc();
-    let t = moment().ok_or("no moment")?;
-    let mut session = logged_on(alloc, t)?;
-    hear(alloc, &mut session, order())?;
-    hear(alloc, &mut session, order_again())?;
-    assert!(rt; matches!(session.step(t)?, Step::App(_)));
-    assert!(rt; session.step(t)? == Step::Did);
-    assert!(rt; session.step(t)? == Step::Idle);
-    assert_eq!(rt; session.ready_len(), 1);
-    Ok(())
-}
-
-fn low_heartbeat() -> Text {
-    b"8=FIXT.1.1|9=41|35=0|49=A|56=V|34=1|52=20250303-14:30:00|10=223|"
-}
-
-fn logout() -> Text {
-    b"8=FIXT.1.1|9=90|35=5|49=V|56=A|34=2|52=20250303-14:30:00.000|58=MsgSeqNum too low, expecting 2 received 1|10=211|"
-}
-
-#[test]
-fn low_number_ends_the_line(rt: HostRuntime) -> Result<(), Fail> {
-    let alloc = rt.alloc();
-    let t = moment().ok_or("no moment")?;
-    let mut session = logged_on(alloc, t)?;
-    hear(alloc, &mut session, low_heartbeat())?;
-    assert!(rt; session.step(t)? == Step::Dropped(Why::TooLow));
-    assert_eq!(rt; written(alloc, &mut session)?.as_slice(), logout());
-    assert!(rt; !session.is_up());
-    Ok(())
+fn report() -> Text {
+    b"35=8|37=O1|17=E1|150=0|39=0|55=IRS5Y|54=1|151=100|14=0|11=a1|"
 }
