@@ -6,3 +6,9 @@ pub mod Rooms
 pub mod Requesting
 -- the answer to a withdrawal
 pub mod Withdrawing
+-- the answer to a quote
+pub mod Showing
+pub mod Makers
+pub mod Quoting
+-- the answer to an answer to a quote
+pub mod Responding

@@ -1,4 +1,4 @@
-use Rattle.std.proofs.Common.{◌≡◌, refl, sym, ap, ◌∙◌, ℕ, ◌+◌, Bool, true, false, ◌&&◌, cond, List, [], ◌∷◌, ◌++◌, zero-add, append_assoc, Some, Option, None}
+use Rattle.std.proofs.Common.{◌≡◌, refl, sym, ap, ◌∙◌, ℕ, ◌+◌, Bool, true, false, ◌&&◌, cond, List, [], ◌∷◌, ◌++◌, zero-add, append_assoc, Some, Option, None, IsSome, is_some, option_map}
 use Rattle.std.specs.List.{count_by}
 use Rattle.std.proofs.lemmas.List.Sums.{sum_by-append}
 use Rattle.venue_rules.specs.declared.replies.Reply.{Reply}
@@ -31,3 +31,8 @@ quiet-append rs ss h k = count-append rs ss ∙ ap (λ n. n + reports_in ss) h �
 -- two more at the end
 pub two-more : (rs : List Reply) (a b : Reply) → (rs ++ a ∷ []) ++ b ∷ [] ≡ rs ++ a ∷ b ∷ []
 two-more rs a b = append_assoc rs (a ∷ []) (b ∷ [])
+
+-- what is there after a map was there before it
+pub is-there : {X Y : Type 0} (f : X → Y) (x : Option X) (y : Option Y) → option_map f x ≡ y → IsSome y → IsSome x
+is-there f None y e h = ap is_some e ∙ h
+is-there f (Some x) y e h = refl

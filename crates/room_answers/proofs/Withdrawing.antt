@@ -23,7 +23,7 @@ use Rattle.rfq_room.specs.Plans.{withdrawal_plan, withdrawn}
 use Rattle.rfq_room.specs.Refusals.{IsRefusalOf, IsWithdrawalRefused, cause_of}
 use Rattle.rfq_room.specs.RoomFacts.{room_facts}
 use Rattle.rfq_room.specs.Told.{withdrawal_told}
-use Rattle.room_answers.specs.Counting.{reports_in}
+use Rattle.room_answers.specs.Counting.{reports_in, trades_in}
 use Rattle.room_answers.specs.Known.{are_known}
 use Rattle.room_answers.specs.Sent.{both_sent, both_told, to_maker, to_requester}
 use Rattle.room_answers.proofs.Lists.{quiet-append, two-more}
@@ -94,3 +94,8 @@ withdraws-all law m h facts qs p replies a e planned told is =
 pub withdrawn-known : (count : ℕ) (qs : List RoomQuote) → are_known count (map withdrawn qs) ≡ true
 withdrawn-known count [] = refl
 withdrawn-known count (q ∷ qs) = withdrawn-known count qs
+
+-- and is no trade
+pub withdrawn-untraded : (qs : List RoomQuote) → 0 ≡ trades_in (map withdrawn qs)
+withdrawn-untraded [] = refl
+withdrawn-untraded (q ∷ qs) = withdrawn-untraded qs

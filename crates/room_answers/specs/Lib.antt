@@ -8,3 +8,7 @@ pub mod Known
 pub mod Read
 -- what is sent, by the symbol of its room
 pub mod Sent
+-- what is replied to a quote that is made
+pub mod Quoted
+-- what is replied to an answer to a quote
+pub mod Responded

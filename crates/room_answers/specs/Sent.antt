@@ -1,4 +1,4 @@
-use Rattle.std.specs.Prelude.{ℕ, List, [], ◌∷◌, Option, Some, None, option_map}
+use Rattle.std.specs.Prelude.{ℕ, Bool, true, false, List, [], ◌∷◌, Option, Some, None, option_map}
 use Rattle.participants.specs.ParticipantFile.{ParticipantFile}
 use Rattle.participants.specs.Relations.{name_of}
 use Rattle.instruments.specs.declared.instruments.Instrument.{Instrument}
@@ -55,10 +55,10 @@ prices_sent r symbol entries = reply r.requester (Prices (record { request_id = 
 unfoldable pub rests : List Fact → ℕ → List PictureEntry
 rests book instrument = picture book instrument
 
--- it is sent where the room has no quote yet
-abbrev pub shown_first : Room → List ℕ → List PictureEntry → Option RoomQuote → List Reply
-shown_first r symbol entries (Some q) = []
-shown_first r symbol entries None = prices_sent r symbol entries ∷ []
+-- it is sent unless the room has a quote
+abbrev pub shown_unless : Bool → Room → List ℕ → List PictureEntry → List Reply
+shown_unless true r symbol entries = []
+shown_unless false r symbol entries = prices_sent r symbol entries ∷ []
 
 -- the report of a trade in a room to one of its sides
 abbrev pub traded_report : Room → List ℕ → ℕ → ℕ → Hit → Option (List ℕ) → ℕ → Reply

@@ -1,6 +1,6 @@
 //! What the venue answers of its rooms to one message, before it does.
 ghost use Rattle.std.specs.Prelude.{◌≡◌, ◌≤◌};
-ghost use Rattle.room_answers.specs.Counting.{reports_in};
+ghost use Rattle.room_answers.specs.Counting.{reports_in, trades_in};
 
 use rfq_room::RoomPlan;
 use std::marker::Model;
@@ -12,31 +12,35 @@ pub struct RoomAnswer {
     plan: RoomPlan,
     replies: Vec<Reply>,
     reports: u64,
+    trades: u64,
 }
 
 impl Model for RoomAnswer {
     ghost use Rattle.std.specs.Prelude.{◌≡◌, ◌≤◌};
     ghost use Rattle.venue_rules.specs.Answer.{Answer};
-    ghost use Rattle.room_answers.specs.Counting.{reports_in};
+    ghost use Rattle.room_answers.specs.Counting.{reports_in, trades_in};
 
     ghost Value = { Answer };
 
     ghost view = { λ a. record { facts = a.plan.facts; replies = a.replies.items } };
 
-    ghost invariant = { λ a. (a.reports ≡ reports_in a.replies.items) × (a.reports ≤ 2) };
+    ghost invariant = { λ a. (a.reports ≡ reports_in a.replies.items) × (a.reports ≤ 2) × (a.trades ≡ trades_in a.plan.facts) × (a.trades ≤ 1) };
 }
 
 impl RoomAnswer {
-    /// These replies, of which so many are execution reports, and what they add to the rooms.
-    pub(crate) fn of(plan: RoomPlan, replies: Vec<Reply>, reports: u64) -> RoomAnswer
+    /// These replies, of which so many are execution reports, and what is added to the rooms, with so many trades.
+    pub(crate) fn of(plan: RoomPlan, replies: Vec<Reply>, reports: u64, trades: u64) -> RoomAnswer
         requires counted { reports ≡ reports_in replies.items }
         requires few { reports ≤ 2 }
+        requires traded { trades ≡ trades_in plan.facts }
+        requires one { trades ≤ 1 }
         ensures { result ≡ record { facts = plan.facts; replies = replies.items } }
     {
         RoomAnswer {
             plan,
             replies,
             reports,
+            trades,
         }
     }
 
@@ -53,6 +57,14 @@ impl RoomAnswer {
         ensures bound { result ≤ 2 }
     {
         self.reports
+    }
+
+    /// How many trades are among the facts that the rooms gain.
+    pub fn trades(&self) -> u64
+        ensures value { result ≡ trades_in self.now.facts }
+        ensures bound { result ≤ 1 }
+    {
+        self.trades
     }
 
     /// What the rooms are to apply.

@@ -37,7 +37,7 @@ fn refused(
     });
     let to = sender.who;
     let replies = vec![in alloc; Reply { to, what }]?;
-    Ok(RoomAnswer::of(RoomPlan::nothing(alloc), replies, 0))
+    Ok(RoomAnswer::of(RoomPlan::nothing(alloc), replies, 0, 0))
 }
 
 // The request of a room as it is sent to a recipient.
@@ -101,7 +101,7 @@ pub fn plan_request(
             let room = opened(&plan).unwrap();
             let symbol = symbol_of(alloc, instruments, room.instrument)?;
             let replies = sent_to_all(alloc, room, &symbol)?;
-            Ok(RoomAnswer::of(plan, replies, 0))
+            Ok(RoomAnswer::of(plan, replies, 0, 0))
         }
         Err(refusal) => match refusal.cause() {
             Some(Cause::Request(cause)) => refused(alloc, sender, request, cause),

@@ -28,5 +28,5 @@ pub(crate) fn unprocessed(
     });
     let to = sender.who;
     let replies = vec![in alloc; Reply { to, what }]?;
-    Ok(RoomAnswer::of(RoomPlan::nothing(alloc), replies, 0))
+    Ok(RoomAnswer::of(RoomPlan::nothing(alloc), replies, 0, 0))
 }

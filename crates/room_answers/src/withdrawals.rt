@@ -128,7 +128,7 @@ fn status(
     });
     let to = sender.who;
     let replies = vec![in alloc; Reply { to, what }]?;
-    Ok(RoomAnswer::of(RoomPlan::nothing(alloc), replies, 0))
+    Ok(RoomAnswer::of(RoomPlan::nothing(alloc), replies, 0, 0))
 }
 
 // The identifier of the quote that a withdrawal of one names, where it is one (QuoteCancelType, 298, is 5).
@@ -186,7 +186,7 @@ pub fn plan_withdrawal(
     match rooms.plan_withdraw(sender.who, request, moment) {
         Ok(plan) => {
             let replies = all_told(alloc, instruments, rooms, plan.quotes())?;
-            Ok(RoomAnswer::of(plan, replies, 0))
+            Ok(RoomAnswer::of(plan, replies, 0, 0))
         }
         Err(refusal) => match refusal.cause() {
             Some(Cause::Withdrawal(cause)) => refused(alloc, sender, request, cause),

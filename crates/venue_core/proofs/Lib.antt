@@ -1,9 +1,5 @@
-pub mod Readings
-pub mod Turning
-pub mod Walking
-pub mod Running
+pub mod Parting
 pub mod Adding
-pub mod Accepting
-pub mod Showing
-pub mod Changing
-pub mod Replacements
+pub mod Running
+pub mod Listing
+pub mod Unsupported

@@ -1,39 +1,74 @@
-use Rattle.std.proofs.Common.{◌≡◌, refl, sym, ap, ◌∙◌, ℕ, Bool, true, false, if◌then◌else◌, List, [], ◌∷◌, ◌++◌, map, append_assoc, append-nil}
-use Rattle.fix_dictionary.specs.declared.messages.App.TheVariants.{Unsupported}
-use Rattle.venue_rules.specs.declared.refusals.BusinessRefusal.TheVariants.{UnsupportedMessageType}
-use Rattle.venue_rules.specs.declared.trail.Taken.{Taken}
+use Rattle.std.proofs.Common.{◌≡◌, sym, ap, ◌∙◌, subst, List, [], ◌∷◌, ◌++◌, append_assoc, append-nil}
 use Rattle.venue_rules.specs.declared.replies.Reply.{Reply}
+use Rattle.venue_rules.specs.Answer.{Answer}
+use Rattle.venue_rules.specs.Facts.{History, no_history}
 use Rattle.venue_rules.specs.Market.{Market}
-use Rattle.venue_rules.specs.Facts.{History}
-use Rattle.venue_rules.specs.Answer.{Answer, unprocessed}
-use Rattle.venue_rules.specs.Answers.{answer, type_of}
-use Rattle.venue_rules.specs.Run.{Input, Message, Tick, Outcome, after, answer_input, run_from}
-use Rattle.venue_core.specs.Served.{is_served, one_more, sender, served_answer, served_input, served_run_from}
+use Rattle.venue_rules.specs.Run.{Input, Outcome, after, answer_input, run, run_from}
+use Rattle.venue_core.specs.State.{Standing, State}
+use Rattle.venue_core.specs.Standing.{IsAfter, IsAnswer, IsHistory, IsStanding}
+use Rattle.venue_core.specs.Taking.{IsSame, Stands, Takes, TakesAll}
 
--- an outcome that comes after replies
+-- a run of one input more is the run, and then its answer
+abbrev one_more : Market → Outcome → Input → Outcome
+one_more m o i = record { history = after o.history (answer_input m o.history i); replies = o.replies ++ (answer_input m o.history i).replies }
+
 abbrev behind : List Reply → Outcome → Outcome
 behind rs o = record { history = o.history; replies = rs ++ o.replies }
 
 behind-more : (m : Market) (rs : List Reply) (o : Outcome) (i : Input) → behind rs (one_more m o i) ≡ one_more m (behind rs o) i
-behind-more m rs o i = ap (λ replies. let p : Outcome = record { history = after o.history (served_answer m o.history i); replies = replies } in p) (sym (append_assoc rs o.replies (served_answer m o.history i).replies))
+behind-more m rs o i = ap (λ replies. let p : Outcome = record { history = after o.history (answer_input m o.history i); replies = replies } in p) (sym (append_assoc rs o.replies (answer_input m o.history i).replies))
 
-pub run-more : (m : Market) (h : History) (is : List Input) (i : Input) → served_run_from m h (is ++ i ∷ []) ≡ one_more m (served_run_from m h is) i
-run-more m h [] i = ap (λ replies. let p : Outcome = record { history = after h (served_answer m h i); replies = replies } in p) (append-nil (served_answer m h i).replies)
-run-more m h (j ∷ is) i = ap (behind (served_answer m h j).replies) (run-more m (after h (served_answer m h j)) is i) ∙ behind-more m (served_answer m h j).replies (served_run_from m (after h (served_answer m h j)) is) i
+run-more : (m : Market) (h : History) (is : List Input) (i : Input) → run_from m h (is ++ i ∷ []) ≡ one_more m (run_from m h is) i
+run-more m h [] i = ap (λ replies. let p : Outcome = record { history = after h (answer_input m h i); replies = replies } in p) (append-nil (answer_input m h i).replies)
+run-more m h (j ∷ is) i = ap (behind (answer_input m h j).replies) (run-more m (after h (answer_input m h j)) is i) ∙ behind-more m (answer_input m h j).replies (run_from m (after h (answer_input m h j)) is) i
 
--- an answer is that of the rules to the input as it is served
+-- the answer that is taken is that of the rules, by the market in question
+taken-answer : (m : Market) (h : History) (i : Input) (s s' : State) (a : Answer) → s.market ≡ m → IsHistory s h → Takes s i a s' → a ≡ answer_input m h i
+taken-answer m h i s s' a e stands takes = takes.answers h stands ∙ ap (λ (n : Market). answer_input n h i) e
 
-either-answer : (m : Market) (h : History) (taken : Taken) (t : ℕ) (b : Bool) → (if b then answer m h taken t else unprocessed (sender taken) UnsupportedMessageType) ≡ answer m h (if b then taken else record { from = taken.from; item = record { number = taken.item.number; app = Unsupported (type_of taken.item.app) } }) t
-either-answer m h taken t true = refl
-either-answer m h taken t false = refl
+taken-history : (m : Market) (h : History) (i : Input) (s s' : State) (a : Answer) → s.market ≡ m → IsHistory s h → Takes s i a s' → IsHistory s' (after h (answer_input m h i))
+taken-history m h i s s' a e stands takes = subst (λ (b : Answer). IsHistory s' (after h b)) (taken-answer m h i s s' a e stands takes) (takes.goes h stands)
 
-served-is : (m : Market) (h : History) (i : Input) → served_answer m h i ≡ answer_input m h (served_input i)
-unfolding served_answer
-served-is m h (Message taken t) = either-answer m h taken t (is_served taken.item.app)
-served-is m h (Tick t) = refl
+pub applied : (i : Input) (s between s' : State) (a : Answer) → IsSame s between → IsAnswer s i a → s'.market ≡ between.market → IsAfter between a s' → Takes s i a s'
+applied i s between s' a same answers market goes = record {
+  market = market ∙ same.market;
+  answers = answers;
+  goes = λ h stands. goes h (subst (λ (p : Standing). IsStanding p h) (sym same.day) stands);
+}
 
-pub run-served : (m : Market) (h : History) (is : List Input) → served_run_from m h is ≡ run_from m h (map served_input is)
-run-served m h [] = refl
-run-served m h (i ∷ is) =
-    let both : (a b : Answer) → a ≡ b → (let o : Outcome = record { history = (served_run_from m (after h a) is).history; replies = a.replies ++ (served_run_from m (after h a) is).replies } in o) ≡ (let o : Outcome = record { history = (run_from m (after h b) (map served_input is)).history; replies = b.replies ++ (run_from m (after h b) (map served_input is)).replies } in o) = λ a b e. ap (λ (x : Answer). let o : Outcome = record { history = (served_run_from m (after h x) is).history; replies = x.replies ++ (served_run_from m (after h x) is).replies } in o) e ∙ ap (λ (r : Outcome). let o : Outcome = record { history = r.history; replies = b.replies ++ r.replies } in o) (run-served m (after h b) is) in
-    both (served_answer m h i) (answer_input m h (served_input i)) (served-is m h i)
+pub stands-on : (m : Market) (is : List Input) (i : Input) (s s' : State) (a : Answer) → Stands m is s → Takes s i a s' → Stands m (is ++ i ∷ []) s'
+stands-on m is i s s' a st takes = record {
+  market = takes.market ∙ st.market;
+  history = subst (λ (o : Outcome). IsHistory s' o.history) (sym (run-more m no_history is i)) (taken-history m (run m is).history i s s' a st.market st.history takes);
+}
+
+pub replies-on : (m : Market) (is : List Input) (i : Input) (s s' : State) (a : Answer) → Stands m is s → Takes s i a s' → (run m (is ++ i ∷ [])).replies ≡ (run m is).replies ++ a.replies
+replies-on m is i s s' a st takes =
+    ap (λ (o : Outcome). o.replies) (run-more m no_history is i)
+    ∙ ap (λ (b : Answer). (run m is).replies ++ b.replies) (sym (taken-answer m (run m is).history i s s' a st.market st.history takes))
+
+-- from a history on, inputs lead where the rules' run leads, with its replies
+record Led (m : Market) (h : History) (is : List Input) (s' : State) (told : List Reply) : Type 0 where
+  pub market : s'.market ≡ m
+  pub history : IsHistory s' (run_from m h is).history
+  pub replies : told ≡ (run_from m h is).replies
+
+led : (m : Market) (h : History) (is : List Input) (s s' : State) (replies : List Reply) → s.market ≡ m → IsHistory s h → TakesAll s is replies s' → Led m h is s' replies
+led m h [] s s' replies e stands same = record {
+  market = same.0.market ∙ e;
+  history = subst (λ (p : Standing). IsStanding p h) (sym same.0.day) stands;
+  replies = same.1;
+}
+led m h (i ∷ is) s s' replies e stands t =
+    let answer = taken-answer m h i s t.between t.first e stands t.takes in
+    let rest = led m (after h (answer_input m h i)) is t.between s' t.more (t.takes.market ∙ e) (taken-history m h i s t.between t.first e stands t.takes) t.rest in
+    record {
+      market = rest.market;
+      history = rest.history;
+      replies = t.all ∙ ap (λ (b : Answer). b.replies ++ t.more) answer ∙ ap (λ rs. (answer_input m h i).replies ++ rs) rest.replies;
+    }
+
+pub day-run : (m : Market) (is : List Input) (s s' : State) (replies : List Reply) → s.market ≡ m → IsHistory s no_history → TakesAll s is replies s' → Stands m is s' × (replies ≡ (run m is).replies)
+day-run m is s s' replies e stands t =
+    let l = led m no_history is s s' replies e stands t in
+    (record { market = l.market; history = l.history }, l.replies)

@@ -1,11 +1,22 @@
-use Rattle.std.specs.Prelude.{ℕ}
+use Rattle.std.specs.Prelude.{ℕ, List}
+use Rattle.venue_rules.specs.declared.facts.Fact.{Fact}
 use Rattle.venue_rules.specs.Market.{Market}
-use Rattle.venue_rules.specs.Facts.{History}
-use Rattle.price_book.specs.Contents.{Spare}
+use Rattle.venue_core.specs.declared.day.Day.{Day}
 
--- a venue: its market, what has happened, how many items it has taken, and what it has room for without more memory
+-- what has happened on a venue: the facts of its book, of its rooms and of its held sides, each in order, and how many execution reports and trades there were
+pub record Standing : Type 0 where
+  pub book : List Fact
+  pub rooms : List Fact
+  pub delay : List Fact
+  pub reports : ℕ
+  pub trades : ℕ
+
+-- this, of what a venue keeps; the room that it has for more facts is left out
+abbrev pub standing : Day → Standing
+standing d = record { book = d.book.facts; rooms = d.rooms.facts; delay = d.held.facts; reports = d.reports; trades = d.trades }
+
+-- a venue: its market, what it keeps of its day, and how many items it has taken
 pub record State : Type 0 where
   pub market : Market
-  pub history : History
+  pub day : Day
   pub items : ℕ
-  pub spare : Spare

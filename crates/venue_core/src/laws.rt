@@ -1,22 +1,31 @@
-//! Laws of the definitions that the crates above use.
-ghost use Rattle.std.specs.Prelude.{◌≡◌, List, [], ◌∷◌, ◌++◌, map};
+//! What a venue comes to that takes inputs one after another.
+ghost use Rattle.std.specs.Prelude.{◌≡◌, List, [], ◌∷◌, ◌++◌};
+ghost use Rattle.venue_rules.specs.declared.replies.Reply.{Reply};
+ghost use Rattle.venue_rules.specs.Answer.{Answer};
+ghost use Rattle.venue_rules.specs.Facts.{no_history};
 ghost use Rattle.venue_rules.specs.Lawful.{Lawful};
 ghost use Rattle.venue_rules.specs.Market.{Market};
 ghost use Rattle.venue_rules.specs.Run.{Input, run};
-ghost use Rattle.venue_core.specs.Served.{one_more, served_input, served_run};
+ghost use Rattle.venue_core.specs.Standing.{IsAfter, IsAnswer, IsHistory};
+ghost use Rattle.venue_core.specs.State.{State};
+ghost use Rattle.venue_core.specs.Taking.{IsSame, Stands, Takes, TakesAll};
 
 use venue_rules::every_run_is_lawful;
 
-/// A run of one input more is the run before it, and then the answer to that input.
-pub fn served_run_goes_on()
-    ensures { (m : Market) (is : List Input) (i : Input) → served_run m (is ++ i ∷ []) ≡ one_more m (served_run m is) i }
-{}
-
-/// What a venue comes to is what the rules say of its inputs, a message that is not served standing as one of no
-/// supported type; so it keeps the laws that every list of inputs keeps.
-pub fn served_run_is_lawful()
-    ensures run { (m : Market) (is : List Input) → served_run m is ≡ run m (map served_input is) }
-    ensures lawful { (m : Market) (is : List Input) → Lawful m (map served_input is) }
+/// A venue on which nothing had happened, and that takes inputs one after another, stands where the rules' run of these
+/// inputs leads, and its replies are those of the run; so it keeps all laws of the venue.
+pub fn every_day_is_lawful()
+    ensures run { (m : Market) (is : List Input) (s s' : State) (replies : List Reply) → s.market ≡ m → IsHistory s no_history → TakesAll s is replies s' → Stands m is s' × (replies ≡ (run m is).replies) }
+    ensures lawful { (m : Market) (is : List Input) → Lawful m is }
 {
     every_run_is_lawful();
 }
+
+/// A plan that is the answer to an input, and then its application, take the input. A venue that stands where inputs
+/// lead, and takes one input more, stands where those and that one lead; the run's replies are those before, and then
+/// the answer's.
+pub fn day_goes_on()
+    ensures takes { (i : Input) (s between s' : State) (a : Answer) → IsSame s between → IsAnswer s i a → s'.market ≡ between.market → IsAfter between a s' → Takes s i a s' }
+    ensures stands { (m : Market) (is : List Input) (i : Input) (s s' : State) (a : Answer) → Stands m is s → Takes s i a s' → Stands m (is ++ i ∷ []) s' }
+    ensures replies { (m : Market) (is : List Input) (i : Input) (s s' : State) (a : Answer) → Stands m is s → Takes s i a s' → (run m (is ++ i ∷ [])).replies ≡ (run m is).replies ++ a.replies }
+{}

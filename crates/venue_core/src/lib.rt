@@ -1,23 +1,25 @@
-//! The venue: what it answers to a message, and what it is after it (17 CFR 37.3(a)(3), 37.9(a)(2)).
+//! The venue: what it answers to a message, and what it is after it (17 CFR 37.3(a)(3), 37.9(a)(2), (b)(1)).
 #![tactic(auto)]
 
-mod changes;
+#[cfg(test)]
+mod cross_tests;
+mod day;
 mod laws;
-mod listing;
 mod market;
 mod messages;
-mod orders;
+mod of_orders;
+mod of_rooms;
 mod plan;
-mod prices;
-mod reading;
-mod replacing;
-mod reports;
+#[cfg(test)]
+mod room_tests;
 #[cfg(test)]
 mod tests;
-mod unprocessed;
+#[cfg(test)]
+mod timed;
+mod unanswered;
 mod venue;
 
-pub use laws::{served_run_goes_on, served_run_is_lawful};
+pub use laws::{day_goes_on, every_day_is_lawful};
 pub use plan::Plan;
 pub use report_writer::message_of;
 pub use venue::Venue;

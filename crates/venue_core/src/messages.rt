@@ -1,62 +1,56 @@
 //! A message by its type.
-ghost use Rattle.std.specs.Prelude.{◌≡◌, ◌<◌, ◌^◌, true, length, IfOk};
+ghost use Rattle.std.specs.Prelude.{◌≡◌, IfOk};
+ghost use Rattle.venue_rules.specs.Answers.{answer};
 ghost use Rattle.venue_core.specs.Files.{market_of};
-ghost use Rattle.venue_core.specs.Listed.{IsMade, are_listed};
-ghost use Rattle.venue_core.specs.Served.{served_message};
+ghost use Rattle.venue_core.specs.Plan.{AreFew, IsListed, IsMade, IsPlanned};
+ghost use Rattle.venue_core.specs.State.{standing};
 
-use crate::changes::plan_cancel;
+use crate::day::Day;
 use crate::market::Market;
-use crate::orders::plan_order;
+use crate::of_orders::{plan_cancel, plan_cross, plan_order, plan_prices, plan_replace};
+use crate::of_rooms::{plan_quote, plan_request, plan_response, plan_withdrawal};
 use crate::plan::Plan;
-use crate::prices::plan_prices;
-use crate::replacing::plan_replace;
-use crate::unprocessed::unprocessed;
+use crate::unanswered::{plan_nothing, plan_unsupported};
 use fix_dictionary::App;
-use price_book::{FillPlan, PriceBook};
 use sef_moment::Moment;
 use std::alloc::{AllocError, Global};
-use venue_rules::{BusinessRefusal, Taken};
+use venue_rules::Taken;
 
 /// What a message would do; makes room for it.
 pub(crate) fn plan_message(
     alloc: Global,
     market: &Market,
-    book: &mut PriceBook,
-    reports: u64,
+    day: &mut Day,
     taken: &Taken,
     moment: Moment,
 ) -> Result<Plan, AllocError>
-    requires number { reports < 2 ^ 61 }
-    requires listed { are_listed (length market.now.instruments) book.old.facts ≡ true }
-    ensures kept { book.new.facts ≡ book.old.facts }
-    ensures planned { IfOk result (λ p. p ≡ served_message (market_of market.now) (record { facts = book.old.facts; reports = reports }) taken.now moment) }
-    ensures made { IfOk result (λ p. IsMade (length market.now.instruments) book.new p.facts) }
+    requires few { AreFew day.old }
+    requires listed { IsListed (market_of market.now) day.old }
+    ensures kept { standing day.new ≡ standing day.old }
+    ensures planned { IfOk result (IsPlanned (standing day.old) (λ h. answer (market_of market.now) h taken.now moment)) }
+    ensures made { IfOk result (IsMade (market_of market.now) day.new) }
 {
     match &taken.item.app {
-        App::NewOrderSingle(order) => {
-            plan_order(alloc, market, book, reports, taken, order, moment)
-        }
-        App::OrderCancelRequest(request) => {
-            plan_cancel(alloc, market, book, reports, taken, request)
-        }
+        App::NewOrderSingle(order) => plan_order(alloc, market, day, taken, order, moment),
+        App::OrderCancelRequest(request) => plan_cancel(alloc, market, day, taken, request),
         App::OrderCancelReplaceRequest(request) => {
-            plan_replace(alloc, market, book, reports, taken, request, moment)
+            plan_replace(alloc, market, day, taken, request, moment)
         }
-        App::MarketDataRequest(request) => plan_prices(alloc, market, book, taken, request),
-        App::BusinessMessageReject(_) => Ok(Plan::of(FillPlan::nothing(alloc), Vec::new(alloc))),
-        App::NewOrderCross(_)
-        | App::QuoteRequest(_)
-        | App::Quote(_)
-        | App::QuoteCancel(_)
-        | App::QuoteResponse(_)
-        | App::QuoteStatusReport(_)
+        App::MarketDataRequest(request) => plan_prices(alloc, market, day, taken, request),
+        App::NewOrderCross(cross) => plan_cross(alloc, market, day, taken, cross, moment),
+        App::QuoteRequest(request) => plan_request(alloc, market, day, taken, request, moment),
+        App::Quote(quote) => plan_quote(alloc, market, day, taken, quote, moment),
+        App::QuoteCancel(request) => plan_withdrawal(alloc, market, day, taken, request, moment),
+        App::QuoteResponse(response) => {
+            plan_response(alloc, market, day, taken, response, moment)
+        }
+        App::BusinessMessageReject(_) => Ok(plan_nothing(alloc)),
+        App::QuoteStatusReport(_)
         | App::QuoteRequestReject(_)
         | App::ExecutionReport(_)
         | App::OrderCancelReject(_)
         | App::MarketDataSnapshot(_)
         | App::MarketDataRequestReject(_)
-        | App::Unsupported(_) => {
-            unprocessed(alloc, taken, BusinessRefusal::UnsupportedMessageType)
-        }
+        | App::Unsupported(_) => plan_unsupported(alloc, taken),
     }
 }

@@ -1,7 +1,7 @@
 //! Worked messages as text, and what the venue answers. Each test holds whichever growth is refused: what met a refusal is tried once more.
 ghost use Rattle.std.specs.Prelude.{◌≤◌, ◌+◌, length, IfOk, IfSome};
 ghost use Rattle.fix_dictionary.specs.Values.{IsSequenceNumber};
-ghost use Rattle.venue_core.specs.Served.{IsPlanOf};
+ghost use Rattle.venue_core.specs.Plan.{IsPlanOf};
 
 use crate::{Plan, Venue, message_of};
 use fix_dictionary::{App, Item, SequenceNumber, print_app, read_app};
@@ -12,7 +12,7 @@ use std::test::Fail;
 use venue_rules::{Reply, Taken, Who, fixture_instruments, fixture_participants};
 
 // A line is the letter of a participant, a space, and a message with `|` for SOH.
-type Line = &'static [u8];
+pub(crate) type Line = &'static [u8];
 
 fn participant(letter: u8) -> Who {
     Who::of(match letter {
@@ -50,7 +50,7 @@ fn message(alloc: Global, text: &[u8]) -> Option<App> {
 }
 
 // The message of a line, as it is taken.
-fn taken(alloc: Global, number: u32, line: &[u8]) -> Option<Taken>
+pub(crate) fn taken(alloc: Global, number: u32, line: &[u8]) -> Option<Taken>
     requires { IsSequenceNumber number }
 {
     let (from, text) = line.split_first()?;
@@ -85,7 +85,7 @@ fn printed(alloc: Global, replies: &[Reply]) -> Result<Vec<u8>, AllocError> {
     Ok(lines)
 }
 
-fn planned(venue: &mut Venue, taken: &Taken, moment: Moment) -> Option<Plan>
+pub(crate) fn planned(venue: &mut Venue, taken: &Taken, moment: Moment) -> Option<Plan>
     requires { venue.old.items ≤ 1000 }
     ensures items { venue.new.items ≤ venue.old.items }
     ensures made { IfSome result (λ p. IsPlanOf venue.new p) }
@@ -99,19 +99,31 @@ fn planned(venue: &mut Venue, taken: &Taken, moment: Moment) -> Option<Plan>
     Some(plan)
 }
 
-// What a message is answered; after it the venue has gone on.
-fn said(alloc: Global, venue: &mut Venue, taken: &Taken) -> Option<Vec<u8>>
-    requires { venue.old.items ≤ 999 }
+// The replies of a plan; after it the venue has gone on.
+pub(crate) fn applied(alloc: Global, venue: &mut Venue, plan: Plan) -> Option<Vec<u8>>
+    requires { IsPlanOf venue.old plan }
     ensures { IfSome result (λ _. venue.new.items ≤ venue.old.items + 1) }
 {
-    let moment = Moment::of_ms(1_741_012_200_000)?;
-    let plan = planned(venue, taken, moment)?;
     let lines = match printed(alloc, plan.replies()) {
         Ok(lines) => lines,
         Err(_) => printed(alloc, plan.replies()).ok()?,
     };
     venue.apply(plan);
     Some(lines)
+}
+
+// 14:30:00 of the day, and so many milliseconds.
+pub(crate) fn after_half_past(ms: u64) -> Option<Moment> {
+    Moment::of_ms(1_741_012_200_000u64.saturating_add(ms))
+}
+
+// What a message is answered; after it the venue has gone on.
+fn said(alloc: Global, venue: &mut Venue, taken: &Taken) -> Option<Vec<u8>>
+    requires { venue.old.items ≤ 999 }
+    ensures { IfSome result (λ _. venue.new.items ≤ venue.old.items + 1) }
+{
+    let plan = planned(venue, taken, after_half_past(0)?)?;
+    applied(alloc, venue, plan)
 }
 
 // The answers to the last of some lines.
@@ -129,17 +141,35 @@ fn last_answer(alloc: Global, venue: &mut Venue, lines: &[Line]) -> Option<Vec<u
     Some(last)
 }
 
-// The fixture's venue.
-fn opened(alloc: Global) -> Option<Venue>
+// A venue of the fixture's files, whose linked orders wait so long.
+fn opened_waiting(alloc: Global, delay: u64) -> Result<Venue, AllocError>
+    requires { delay ≤ 3600000 }
+    ensures { IfOk result (λ v. v.items ≤ 0) }
+{
+    let participants = fixture_participants(alloc)?;
+    let instruments = fixture_instruments(alloc, delay)?;
+    Venue::open(alloc, participants, instruments)
+}
+
+// The same, tried once more where memory was refused.
+pub(crate) fn opened_with(alloc: Global, delay: u64) -> Option<Venue>
+    requires { delay ≤ 3600000 }
     ensures { IfSome result (λ v. v.items ≤ 0) }
 {
-    if let Ok(venue) = Venue::fixture(alloc) {
+    if let Ok(venue) = opened_waiting(alloc, delay) {
         return Some(venue);
     }
-    let Ok(venue) = Venue::fixture(alloc) else {
+    let Ok(venue) = opened_waiting(alloc, delay) else {
         return None;
     };
     Some(venue)
+}
+
+// A venue whose linked orders need not wait.
+fn opened(alloc: Global) -> Option<Venue>
+    ensures { IfSome result (λ v. v.items ≤ 0) }
+{
+    opened_with(alloc, 0)
 }
 
 // What the fixture's venue answers to the last of some lines.
@@ -229,7 +259,7 @@ fn too_much() -> Line {
 }
 
 // Two sellers, a buyer, an order in another instrument, and one that is killed.
-fn five() -> [Line; 5] {
+pub(crate) fn five() -> [Line; 5] {
     [first_seller(), second_seller(), buy(), basis(), too_much()]
 }
 
@@ -339,22 +369,11 @@ fn crossing() -> Line {
     b"A 35=G|11=a4|41=a3|38=10|40=2|44=2.5|"
 }
 
-// A venue whose linked orders wait for 15 seconds.
-fn opened_with_delay(alloc: Global) -> Result<Venue, AllocError>
-    ensures { IfOk result (λ v. v.items ≤ 0) }
-{
-    let participants = fixture_participants(alloc)?;
-    let instruments = fixture_instruments(alloc, 15_000)?;
-    Venue::open(alloc, participants, instruments)
-}
-
+// What is answered where linked orders wait for 15 seconds.
 fn answered_with_delay(alloc: Global, lines: &[Line]) -> Option<Vec<u8>>
     requires { length lines.now ≤ 20 }
 {
-    let mut venue = match opened_with_delay(alloc) {
-        Ok(venue) => venue,
-        Err(_) => return None,
-    };
+    let mut venue = opened_with(alloc, 15_000)?;
     last_answer(alloc, &mut venue, lines)
 }
 

@@ -1,43 +1,45 @@
-//! The venue: its files, its book, and how far it has come.
-ghost use Rattle.std.specs.Prelude.{◌≡◌, ◌≤◌, ◌+◌, IfOk};
-ghost use Rattle.venue_rules.specs.Facts.{no_history};
-ghost use Rattle.venue_rules.specs.Run.{Message, after};
-ghost use Rattle.venue_core.specs.Fixture.{fixture};
-ghost use Rattle.venue_core.specs.Served.{IsPlanOf, most_items, served_answer};
+//! The venue: its files, its day, and how far it has come.
+ghost use Rattle.std.specs.Prelude.{◌≡◌, ◌≤◌, ◌+◌, IfOk, is_some};
+ghost use Rattle.venue_rules.specs.Delay.{due};
+ghost use Rattle.venue_rules.specs.Facts.{History, no_history};
+ghost use Rattle.venue_rules.specs.Run.{Message, Tick};
+ghost use Rattle.venue_core.specs.Plan.{IsPlanOf, answer_of, most_items};
+ghost use Rattle.venue_core.specs.Standing.{IsAfter, IsAnswer, IsHistory};
+ghost use Rattle.venue_core.specs.State.{standing};
 
+use crate::day::{Day, add_plan, new_day};
 use crate::market::Market;
 use crate::messages::plan_message;
+use crate::of_orders::plan_due;
 use crate::plan::Plan;
+use cross_delay::delay_is_read_alone;
 use instruments::Instruments;
 use participants::Participants;
-use price_book::PriceBook;
 use sef_moment::Moment;
 use std::alloc::{AllocError, Global};
 use std::marker::Model;
-use venue_rules::{Taken, fixture_instruments, fixture_participants};
+use venue_rules::Taken;
 
 /// A swap execution facility: what it answers to each message, and what has happened on it.
 #[derive(Drop)]
 pub struct Venue {
     alloc: Global,
     market: Market,
-    book: PriceBook,
-    reports: u64,
+    day: Day,
     items: u64,
 }
 
 impl Model for Venue {
-    ghost use Rattle.std.specs.Prelude.{◌≡◌, ◌≤◌, ◌*◌, ◌+◌, true, length};
-    ghost use Rattle.venue_core.specs.State.{State};
+    ghost use Rattle.std.specs.Prelude.{◌≤◌, ◌*◌, ◌+◌};
     ghost use Rattle.venue_core.specs.Files.{market_of};
-    ghost use Rattle.venue_core.specs.Listed.{are_listed};
-    ghost use Rattle.venue_core.specs.Served.{most_items};
+    ghost use Rattle.venue_core.specs.Plan.{IsListed, most_items};
+    ghost use Rattle.venue_core.specs.State.{State};
 
     ghost Value = { State };
 
-    ghost view = { λ v. record { market = market_of v.market; history = record { facts = v.book.facts; reports = v.reports }; items = v.items; spare = v.book.spare } };
+    ghost view = { λ v. record { market = market_of v.market; day = v.day; items = v.items } };
 
-    ghost invariant = { λ v. (v.reports ≤ 402 * v.items) × (v.items ≤ most_items + 1) × (are_listed (length v.market.instruments) v.book.facts ≡ true) };
+    ghost invariant = { λ v. (v.day.reports ≤ 402 * v.items) × (v.day.trades ≤ 402 * v.items) × (v.items ≤ most_items + 1) × IsListed (market_of v.market) v.day };
 }
 
 impl Venue {
@@ -48,7 +50,7 @@ impl Venue {
         instruments: Instruments,
     ) -> Result<Venue, AllocError>
         ensures market { IfOk result (λ v. v.market ≡ record { participants = participants; instruments = instruments }) }
-        ensures history { IfOk result (λ v. v.history ≡ no_history) }
+        ensures history { IfOk result (λ v. IsHistory v no_history) }
         ensures items { IfOk result (λ v. v.items ≡ 0) }
     {
         Ok(Venue {
@@ -57,21 +59,9 @@ impl Venue {
                 participants,
                 instruments,
             },
-            book: PriceBook::new(alloc),
-            reports: 0,
+            day: new_day(alloc),
             items: 0,
         })
-    }
-
-    /// The venue of the first runs: SEF with five participants and two instruments.
-    pub fn fixture(alloc: Global) -> Result<Venue, AllocError>
-        ensures market { IfOk result (λ v. v.market ≡ fixture) }
-        ensures history { IfOk result (λ v. v.history ≡ no_history) }
-        ensures items { IfOk result (λ v. v.items ≡ 0) }
-    {
-        let participants = fixture_participants(alloc)?;
-        let instruments = fixture_instruments(alloc, 0)?;
-        Venue::open(alloc, participants, instruments)
     }
 
     /// The participants.
@@ -88,35 +78,47 @@ impl Venue {
         &self.market.instruments
     }
 
+    /// Whether a held side is due at a moment.
+    pub fn due(&self, moment: Moment) -> bool
+        ensures { (h : History) → IsHistory self.now h → result ≡ is_some (due h.facts moment) }
+    {
+        delay_is_read_alone();
+        self.day.held.due(moment).is_some()
+    }
+
     /// What the venue would do at a message taken at a moment; makes room for it. At most 10^15 items came before.
-    #[tactic(auto, unfolding(crate::specs::Served::served_answer))]
     pub fn plan(&mut self, taken: &Taken, moment: Moment) -> Result<Plan, AllocError>
         requires { self.old.items ≤ most_items }
         ensures market { self.new.market ≡ self.old.market }
-        ensures history { self.new.history ≡ self.old.history }
+        ensures day { standing self.new.day ≡ standing self.old.day }
         ensures items { self.new.items ≡ self.old.items }
-        ensures planned { IfOk result (λ p. p ≡ served_answer self.old.market self.old.history (Message taken.now moment)) }
+        ensures planned { IfOk result (λ p. IsAnswer self.old (Message taken.now moment) (answer_of p)) }
         ensures made { IfOk result (λ p. IsPlanOf self.new p) }
     {
-        plan_message(
-            self.alloc,
-            &self.market,
-            &mut self.book,
-            self.reports,
-            taken,
-            moment,
-        )
+        plan_message(self.alloc, &self.market, &mut self.day, taken, moment)
+    }
+
+    /// What the venue would do at a tick: the first held side that is due enters, that one alone; makes room for it. At
+    /// most 10^15 items came before.
+    pub fn plan_tick(&mut self, moment: Moment) -> Result<Plan, AllocError>
+        requires { self.old.items ≤ most_items }
+        ensures market { self.new.market ≡ self.old.market }
+        ensures day { standing self.new.day ≡ standing self.old.day }
+        ensures items { self.new.items ≡ self.old.items }
+        ensures planned { IfOk result (λ p. IsAnswer self.old (Tick moment) (answer_of p)) }
+        ensures made { IfOk result (λ p. IsPlanOf self.new p) }
+    {
+        plan_due(self.alloc, &self.market, &mut self.day, moment)
     }
 
     /// Does what a plan says that was made from this state, before any other plan was.
     pub fn apply(&mut self, plan: Plan)
         requires { IsPlanOf self.old plan }
         ensures market { self.new.market ≡ self.old.market }
-        ensures history { self.new.history ≡ after self.old.history plan }
         ensures items { self.new.items ≡ self.old.items + 1 }
+        ensures after { IsAfter self.old (answer_of plan) self.new }
     {
-        self.reports += plan.reports();
         self.items += 1;
-        self.book.apply(plan.into_book());
+        add_plan(&mut self.day, plan);
     }
 }

@@ -1,16 +1,17 @@
 -- The beginning of a run, and its ends.
-use Rattle.std.proofs.Common.{◌≡◌, ℕ, List, [], ◌∷◌, ◌++◌, Option, None, Some, Result, Ok, Err, OnOk, IfErr, IfSome, refl, sym, ap, ◌∙◌, subst, append-nil, arith}
+use Rattle.std.proofs.Common.{◌≡◌, ℕ, List, [], ◌++◌, Option, Result, Ok, Err, OnOk, IfErr, IfSome, refl, sym, ap, ◌∙◌, subst, append-nil, arith}
 use Rattle.std.specs.Io.KnownBytes.{Appends, Consumes, IsAtEnd, Keeps}
 use Rattle.std.proofs.KnownBytes.{Appends-kept, Appends-nil, Consumes-nil, Consumes-whole}
 use Rattle.fix_frame.specs.Buffered.{Buffered}
 use Rattle.fix_frame.specs.Stream.{HasOneList, Reads}
 use Rattle.venue_rules.specs.Facts.{no_history}
 use Rattle.venue_rules.specs.Market.{Market}
+use Rattle.venue_core.specs.Standing.{IsHistory}
 use Rattle.venue_core.specs.State.{State}
 use Rattle.venue_main.specs.Answering.{Stands}
 use Rattle.venue_main.specs.Once.{AnswersFront, AnswersStream, Stopped, UnlessOutput}
 use Rattle.venue_main.specs.Outgoing.{Outgoing}
-use Rattle.venue_main.specs.Wire.{Line, line_to}
+use Rattle.venue_main.specs.Wire.{line_to}
 use Rattle.venue_main.specs.declared.once.OnceFault.{OnceFault}
 use Rattle.venue_main.specs.declared.once.OnceFault.TheVariants.{Memory, Input as BadInput, Output}
 use Rattle.venue_main.proofs.Hearing.{OneList}
@@ -73,7 +74,7 @@ ended_alone frames one market t left left' written mid written' heard taken outp
     (λ other answers'. subst (Appends written written') (one_answer frames one market t heard output other answers answers') (Appends-kept written mid written' output appended kept))
 
 -- nothing has happened at first
-pub stands_at_first : (market : Market) (t : ℕ) (venue : State) (cutter : Buffered) (outbox : Outgoing) → venue.market ≡ market → venue.history ≡ no_history
+pub stands_at_first : (market : Market) (t : ℕ) (venue : State) (cutter : Buffered) (outbox : Outgoing) → venue.market ≡ market → IsHistory venue no_history
     → cutter.unread ≡ [] → outbox ≡ record { line = line_to market.participants 0 t; next = 1; frames = [] }
     → Stands market t cutter.unread venue outbox [] []
 stands_at_first market t venue cutter outbox market_is history empty first = record {
@@ -82,8 +83,7 @@ stands_at_first market t venue cutter outbox market_is history empty first = rec
   reads = subst (Reads [] []) (sym empty) reads_nothing;
   all = refl;
   stands = record {
-    market_is = market_is;
-    history = history;
+    venue_stands = record { market = market_is; history = history };
     line = ap (λ (o : Outgoing). o.line) first;
     answers = refl;
     next = ap (λ (o : Outgoing). o.next) first;

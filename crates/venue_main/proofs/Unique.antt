@@ -2,8 +2,7 @@
 use Rattle.std.proofs.Common.{◌≡◌, ℕ, List, [], ◌∷◌, ◌++◌, Option, None, Some, refl, sym, ap, ◌∙◌, subst}
 use Rattle.fix_frame.specs.Stream.{HasOneList}
 use Rattle.fix_dictionary.specs.declared.messages.Item.{Item}
-use Rattle.fix_dictionary.specs.declared.messages.Message.{Message}
-use Rattle.venue_main.specs.Heard.{AllHeard, Hears, SpellsText, item_of, listed}
+use Rattle.venue_main.specs.Heard.{AllHeard, Hears, item_of, listed}
 use Rattle.venue_rules.specs.Market.{Market}
 use Rattle.venue_main.specs.Once.{AnswersStream, written_for}
 use Rattle.venue_main.proofs.Hearing.{OneList, same_message}

@@ -1,5 +1,5 @@
 -- The run of one message more, and what goes out by it.
-use Rattle.std.proofs.Common.{◌≡◌, ℕ, ◌+◌, ◌==◌, List, [], ◌∷◌, ◌++◌, map, length, refl, sym, ap, ◌∙◌, append_assoc, arith}
+use Rattle.std.proofs.Common.{◌≡◌, ℕ, ◌+◌, ◌==◌, List, [], ◌∷◌, ◌++◌, map, length, sym, ap, ◌∙◌, append_assoc, arith}
 use Rattle.std.proofs.lemmas.List.{map-append}
 use Rattle.std.proofs.lemmas.List.Elements.{filter-append}
 use Rattle.fix_dictionary.specs.declared.messages.App.{App}
@@ -7,20 +7,23 @@ use Rattle.fix_dictionary.specs.declared.messages.Item.{Item}
 use Rattle.venue_rules.specs.declared.replies.Reply.{Reply}
 use Rattle.venue_rules.specs.Market.{Market}
 use Rattle.venue_rules.specs.Messages.{message}
-use Rattle.venue_rules.specs.Run.{Input, Message, replies_to}
-use Rattle.venue_core.specs.Served.{one_more, served_run}
+use Rattle.venue_rules.specs.Answer.{Answer}
+use Rattle.venue_rules.specs.Run.{Input, replies_to, run}
+use Rattle.venue_core.specs.State.{State}
+use Rattle.venue_core.specs.Taking.{Stands, Takes}
 use Rattle.venue_main.specs.Wire.{Line, framed, said, sent, wire}
-use Rattle.venue_main.specs.Once.{outcome, taken}
+use Rattle.venue_main.specs.Once.{taken, taken_at}
 
--- the law of the venue's runs
-abbrev pub GoesOn : Type 0
-GoesOn = (m : Market) (is : List Input) (i : Input) → served_run m (is ++ i ∷ []) ≡ one_more m (served_run m is) i
+-- the laws of a venue that takes one input more
+abbrev pub StandsOn : Type 0
+StandsOn = (m : Market) (is : List Input) (i : Input) (s s' : State) (a : Answer) → Stands m is s → Takes s i a s' → Stands m (is ++ i ∷ []) s'
+
+abbrev pub SaysMore : Type 0
+SaysMore = (m : Market) (is : List Input) (i : Input) (s s' : State) (a : Answer) → Stands m is s → Takes s i a s' → (run m (is ++ i ∷ [])).replies ≡ (run m is).replies ++ a.replies
 
 -- one message more is taken last
-pub outcome-push : GoesOn → (market : Market) (t : ℕ) (items : List Item) (item : Item) → outcome market t (items ++ item ∷ []) ≡ one_more market (outcome market t items) (Message (record { from = 0; item = item }) t)
-outcome-push goes_on market t items item =
-    ap (served_run market) (map-append (λ (x : Item). Message (record { from = 0; item = x }) t) items (item ∷ []))
-    ∙ goes_on market (taken t items) (Message (record { from = 0; item = item }) t)
+pub taken-push : (t : ℕ) (items : List Item) (item : Item) → taken t (items ++ item ∷ []) ≡ taken t items ++ taken_at t item ∷ []
+taken-push t items item = map-append (taken_at t) items (item ∷ [])
 
 pub said-append : (who : ℕ) (xs ys : List Reply) → said who (xs ++ ys) ≡ said who xs ++ said who ys
 said-append who xs ys =

@@ -6,6 +6,8 @@ use Rattle.instruments.specs.declared.instruments.Instrument.{Instrument}
 use Rattle.instruments.specs.Reading.{IsFaultOf as IsInstrumentsFaultOf, Reads as ReadsInstruments}
 use Rattle.venue_main.specs.declared.check.CheckFault.{CheckFault}
 use Rattle.venue_main.specs.declared.check.CheckFault.TheVariants.{Participants, Instruments, Output}
+use Rattle.venue_main.specs.declared.market.FilesFault.{FilesFault}
+use Rattle.venue_main.specs.declared.market.FilesFault.TheVariants as files
 
 -- both texts are read
 pub record AreRead (participants_text instruments_text : List ℕ) (file : ParticipantFile) (rows : List Instrument) : Type 0 where
@@ -20,11 +22,16 @@ counted names pairs rows = codes "participants " ++ (decimal names ++ (codes " r
 abbrev pub summary : ParticipantFile → List Instrument → List ℕ
 summary file rows = counted (length file.names) (length file.pairs) (length rows)
 
--- the fault is one of the participant file's text; else, where that is read, one of the instrument file's; and where both are read the output failed
-abbrev pub IsFaultOfFiles : List ℕ → List ℕ → CheckFault → Type 0
-IsFaultOfFiles participants_text instruments_text (Participants fault) = IsParticipantsFaultOf participants_text fault
-IsFaultOfFiles participants_text instruments_text (Instruments fault) = (file : ParticipantFile) × ReadsParticipants participants_text (Ok file) × IsInstrumentsFaultOf instruments_text fault
-IsFaultOfFiles participants_text instruments_text Output = (file : ParticipantFile) × (rows : List Instrument) × AreRead participants_text instruments_text file rows
+-- the first fault of the two files: one of the participant file's text, or, where that is read, one of the instrument file's
+abbrev pub IsFaultOfFiles : List ℕ → List ℕ → FilesFault → Type 0
+IsFaultOfFiles participants_text instruments_text (files.Participants fault) = IsParticipantsFaultOf participants_text fault
+IsFaultOfFiles participants_text instruments_text (files.Instruments fault) = (file : ParticipantFile) × ReadsParticipants participants_text (Ok file) × IsInstrumentsFaultOf instruments_text fault
+
+-- what stops the look at them: their first fault, and where both are read the output
+abbrev pub Stops : List ℕ → List ℕ → CheckFault → Type 0
+Stops participants_text instruments_text (Participants fault) = IsFaultOfFiles participants_text instruments_text (files.Participants fault)
+Stops participants_text instruments_text (Instruments fault) = IsFaultOfFiles participants_text instruments_text (files.Instruments fault)
+Stops participants_text instruments_text Output = (file : ParticipantFile) × (rows : List Instrument) × AreRead participants_text instruments_text file rows
 
 -- the fact, unless the output failed
 abbrev pub UnlessWriting : CheckFault → Type 0 → Type 0

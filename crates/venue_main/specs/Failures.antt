@@ -6,6 +6,8 @@ use Rattle.instruments.specs.declared.fault.FileFault.{FileFault as InstrumentsF
 use Rattle.instruments.specs.declared.fault.FileFault.TheVariants as instruments
 use Rattle.venue_main.specs.declared.check.CheckFault.{CheckFault}
 use Rattle.venue_main.specs.declared.check.CheckFault.TheVariants as check
+use Rattle.venue_main.specs.declared.market.FilesFault.{FilesFault}
+use Rattle.venue_main.specs.declared.market.FilesFault.TheVariants as files
 use Rattle.venue_main.specs.declared.failure.Failure.{Failure}
 use Rattle.venue_main.specs.declared.failure.Failure.TheVariants.{Stopped, CommandLine, Participants, Instruments}
 use Rattle.venue_main.specs.declared.once.OnceFault.TheVariants.{Memory, Output}
@@ -35,6 +37,11 @@ instruments_failure instruments.Twice = Instruments 3
 instruments_failure instruments.TooMany = Instruments 5
 instruments_failure instruments.BadValue = Instruments 6
 instruments_failure instruments.NoMemory = Stopped Memory
+
+-- and where one of the two has it
+abbrev pub files_failure : FilesFault → Failure
+files_failure (files.Participants fault) = participants_failure fault
+files_failure (files.Instruments fault) = instruments_failure fault
 
 abbrev pub check_failure : CheckFault → Failure
 check_failure (check.Participants fault) = participants_failure fault

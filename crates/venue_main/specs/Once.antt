@@ -1,23 +1,26 @@
 -- What a run over one stream writes.
-use Rattle.std.specs.Prelude.{◌≡◌, ℕ, List, [], ◌∷◌, ◌++◌, map, Option}
+use Rattle.std.specs.Prelude.{◌≡◌, ℕ, List, ◌++◌, map, Option}
 use Rattle.std.specs.Io.KnownBytes.{Appends, Consumes}
 use Rattle.fix_frame.specs.Stream.{Reads, Frames}
 use Rattle.fix_dictionary.specs.declared.messages.Item.{Item}
 use Rattle.venue_rules.specs.Market.{Market}
-use Rattle.venue_rules.specs.Run.{Input, Message, Outcome}
-use Rattle.venue_core.specs.Served.{served_run}
+use Rattle.venue_rules.specs.Run.{Input, Message, Outcome, run}
 use Rattle.venue_main.specs.Heard.{AllHeard}
 use Rattle.venue_main.specs.Wire.{line_to, said, wire}
 use Rattle.venue_main.specs.declared.once.OnceFault.{OnceFault}
 use Rattle.venue_main.specs.declared.once.OnceFault.TheVariants.{Memory, Input as BadInput, Output}
 
--- each message is taken from the first participant, at t
-abbrev pub taken : ℕ → List Item → List Input
-taken t items = map (λ (item : Item). Message (record { from = 0; item = item }) t) items
+-- a message is taken from the first participant, at t
+abbrev pub taken_at : ℕ → Item → Input
+taken_at t item = Message (record { from = 0; item = item }) t
 
--- what the venue comes to by these messages
+-- and so is each of these
+abbrev pub taken : ℕ → List Item → List Input
+taken t items = map (taken_at t) items
+
+-- what the rules say of these messages: the history that they make, and all replies
 abbrev pub outcome : Market → ℕ → List Item → Outcome
-outcome market t items = served_run market (taken t items)
+outcome market t items = run market (taken t items)
 
 -- what these messages have the venue say to the first participant, as it goes out
 abbrev pub written_for : Market → ℕ → List Item → List ℕ

@@ -1,5 +1,5 @@
 -- What goes out to a participant.
-use Rattle.std.specs.Prelude.{◌≡◌, ℕ, ◌+◌, List, [], ◌∷◌, ◌++◌, map, length, decimal, None}
+use Rattle.std.specs.Prelude.{ℕ, ◌+◌, List, [], ◌∷◌, ◌++◌, map, length, decimal, None}
 use Rattle.fix_frame.specs.Frame.{frame}
 use Rattle.fix_dictionary.specs.Text.{message_text}
 use Rattle.fix_dictionary.specs.declared.messages.App.{App}

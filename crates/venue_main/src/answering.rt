@@ -4,10 +4,12 @@ ghost use Rattle.std.specs.Prelude.{◌≡◌, ◌+◌, ◌≤◌, ◌++◌, ℕ
 ghost use Rattle.std.specs.Io.KnownBytes.{Appends, Keeps};
 ghost use Rattle.fix_dictionary.specs.declared.messages.Item.{Item};
 ghost use Rattle.venue_rules.specs.Market.{Market};
-ghost use Rattle.venue_core.specs.Served.{IsPlanOf, most_items};
+ghost use Rattle.venue_core.specs.Plan.{IsPlanOf, answer_of, most_items};
+ghost use Rattle.venue_core.specs.Standing.{IsAnswer};
+ghost use Rattle.venue_core.specs.State.{standing};
 ghost use Rattle.venue_main.specs.Heard.{Hears};
-ghost use Rattle.venue_main.specs.Once.{AnswersStream, AnswersFront, UnlessOutput};
-ghost use Rattle.venue_main.specs.Answering.{Answered, Stands, Took, answer_to};
+ghost use Rattle.venue_main.specs.Once.{AnswersStream, AnswersFront, UnlessOutput, taken_at};
+ghost use Rattle.venue_main.specs.Answering.{Answered, Stands, Took};
 
 use crate::heard::item_in;
 use crate::once::OnceFault;
@@ -17,7 +19,7 @@ use fix_frame::{Cut, Cutter};
 use sef_moment::Moment;
 use std::alloc::{AllocError, Global};
 use std::io::Write;
-use venue_core::{Plan, Venue, served_run_goes_on};
+use venue_core::{Plan, Venue, day_goes_on};
 use venue_rules::{Taken, Who};
 
 /// Takes each message of the frames that are whole, and writes the replies to it before it looks at the next frame.
@@ -41,7 +43,7 @@ pub fn answer_frames<W: Write>(
         × AnswersFront market t heard (output ++ more)
         × Appends (W.contents writer.old) (W.contents writer.new) more)) }
 {
-    served_run_goes_on();
+    day_goes_on();
     loop {
         match cutter.next() {
             Cut::Open => return Ok(()),
@@ -99,9 +101,9 @@ fn answer<W: Write>(
 fn plan_of(venue: &mut Venue, item: Item, at: Moment) -> Result<Plan, AllocError>
     requires { venue.old.items ≤ most_items }
     ensures market { venue.new.market ≡ venue.old.market }
-    ensures history { venue.new.history ≡ venue.old.history }
+    ensures day { standing venue.new.day ≡ standing venue.old.day }
     ensures items { venue.new.items ≡ venue.old.items }
-    ensures planned { IfOk result (λ p. p ≡ answer_to venue.old at item) }
+    ensures planned { IfOk result (λ p. IsAnswer venue.old (taken_at at item) (answer_of p)) }
     ensures made { IfOk result (λ p. IsPlanOf venue.new p) }
 {
     let taken = Taken {

@@ -4,10 +4,9 @@ ghost use Rattle.std.specs.Prelude.{◌≡◌, List, OnOk, IfErr};
 ghost use Rattle.std.specs.Io.KnownBytes.{Appends, Keeps};
 ghost use Rattle.participants.specs.ParticipantFile.{ParticipantFile};
 ghost use Rattle.instruments.specs.declared.instruments.Instrument.{Instrument};
-ghost use Rattle.venue_main.specs.Check.{AreRead, IsFaultOfFiles, UnlessWriting, counted, summary};
+ghost use Rattle.venue_main.specs.Check.{AreRead, Stops, UnlessWriting, counted, summary};
 
-use instruments::Instruments;
-use participants::Participants;
+use crate::market::{FilesFault, Market};
 use std::alloc::Global;
 use std::io::{self, Write};
 use thiserror::Error;
@@ -36,33 +35,28 @@ pub fn check<W: Write>(
 ) -> Result<(), CheckFault>
     ensures told { OnOk result ((file : ParticipantFile) × (rows : List Instrument) × AreRead participants_text.now instruments_text.now file rows
         × Appends (W.contents writer.old) (W.contents writer.new) (summary file rows)) }
-    ensures fault { IfErr result (IsFaultOfFiles participants_text.now instruments_text.now) }
+    ensures fault { IfErr result (Stops participants_text.now instruments_text.now) }
     ensures unwritten { IfErr result (λ fault. UnlessWriting fault (Keeps (W.contents writer.old) (W.contents writer.new))) }
 {
-    let participants = match Participants::read(alloc, participants_text) {
-        Ok(participants) => participants,
-        Err(fault) => return Err(CheckFault::Participants(fault)),
+    let market = match Market::read(alloc, participants_text, instruments_text) {
+        Ok(market) => market,
+        Err(FilesFault::Participants(fault)) => return Err(CheckFault::Participants(fault)),
+        Err(FilesFault::Instruments(fault)) => return Err(CheckFault::Instruments(fault)),
     };
-    let instruments = match Instruments::read(alloc, instruments_text) {
-        Ok(instruments) => instruments,
-        Err(fault) => return Err(CheckFault::Instruments(fault)),
-    };
-    match tell(&participants, &instruments, writer) {
+    match tell(&market, writer) {
         Ok(()) => Ok(()),
         Err(_) => Err(CheckFault::Output),
     }
 }
 
 /// Writes how many of each the files have.
-fn tell<W: Write>(
-    participants: &Participants,
-    instruments: &Instruments,
-    writer: &mut W,
-) -> io::Result<()>
-    ensures { OnOk result (Appends (W.contents writer.old) (W.contents writer.new) (summary participants.now instruments.now)) }
+fn tell<W: Write>(market: &Market, writer: &mut W) -> io::Result<()>
+    ensures { OnOk result (Appends (W.contents writer.old) (W.contents writer.new) (summary market.now.participants market.now.instruments)) }
 {
-    let pairs = participants.pairs();
-    write_counts(participants.len(), pairs.len(), instruments.len(), writer)
+    let names = market.participants.len();
+    let pairs = market.participants.pairs();
+    let rows = market.instruments.len();
+    write_counts(names, pairs.len(), rows, writer)
 }
 
 /// Writes these counts as one line.

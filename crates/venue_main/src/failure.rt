@@ -1,10 +1,11 @@
 //! How the program ends where it does not end well.
 
 ghost use Rattle.std.specs.Prelude.{◌≡◌};
-ghost use Rattle.venue_main.specs.Failures.{check_failure, instruments_failure, participants_failure, status_of};
+ghost use Rattle.venue_main.specs.Failures.{check_failure, files_failure, instruments_failure, participants_failure, status_of};
 ghost use Rattle.venue_main.specs.declared.failure.Failure.TheVariants.{Stopped as Stops};
 
 use crate::check::CheckFault;
+use crate::market::FilesFault;
 use crate::once::OnceFault;
 use thiserror::Error;
 
@@ -78,6 +79,17 @@ impl From<instruments::FileFault> for Failure {
             FileFault::TooMany => Failure::Instruments(5),
             FileFault::BadValue => Failure::Instruments(6),
             FileFault::NoMemory => Failure::Stopped(OnceFault::Memory),
+        }
+    }
+}
+
+impl From<FilesFault> for Failure {
+    ghost from_gives = { λ fault failure. failure ≡ files_failure fault };
+
+    fn from(fault: FilesFault) -> Failure {
+        match fault {
+            FilesFault::Participants(fault) => Failure::from(fault),
+            FilesFault::Instruments(fault) => Failure::from(fault),
         }
     }
 }

@@ -3,6 +3,7 @@
 use crate::check::{CheckFault, check};
 use crate::failure::Failure;
 use crate::files::text_of;
+use crate::market::{FilesFault, Market};
 use crate::once::OnceFault;
 use crate::tests::Full;
 use std::alloc::{AllocError, Global};
@@ -70,6 +71,22 @@ fn checked(
     (ended, written)
 }
 
+/// The first fault of two texts.
+fn fault_of(alloc: Global, participants: &str, instruments: &str) -> Option<FilesFault> {
+    Market::read(alloc, participants.as_bytes(), instruments.as_bytes()).err()
+}
+
+#[test]
+fn reads_the_files(rt: HostRuntime) -> Result<(), Fail> {
+    let Ok(market) = Market::read(rt.alloc(), FIVE.as_bytes(), TWO.as_bytes()) else {
+        return Err(Fail::new("not read"));
+    };
+    assert_eq!(rt; market.participants.len(), 5);
+    assert!(rt; market.participants.find(b"EPSILON").is_some());
+    assert_eq!(rt; market.instruments.len(), 2);
+    Ok(())
+}
+
 #[test]
 fn tells_how_much_the_files_list(rt: HostRuntime) {
     let alloc = rt.alloc();
@@ -127,8 +144,16 @@ fn participants_are_refused_before_instruments(rt: HostRuntime) -> Result<(), Fa
     for (later, instruments_text) in instruments {
         let (ended, written) = checked(alloc, FIVE, instruments_text);
         assert_eq!(rt; ended, Err(CheckFault::Instruments(later)));
+        assert_eq!(rt;
+            fault_of(alloc, FIVE, instruments_text),
+            Some(FilesFault::Instruments(later))
+        );
         assert!(rt; written.is_empty());
         for (first, participants_text) in participants {
+            assert_eq!(rt;
+                fault_of(alloc, participants_text, instruments_text),
+                Some(FilesFault::Participants(first))
+            );
             let (ended, written) = checked(alloc, participants_text, instruments_text);
             assert_eq!(rt;
                 ended,
@@ -144,11 +169,13 @@ fn participants_are_refused_before_instruments(rt: HostRuntime) -> Result<(), Fa
 #[test]
 fn the_program_ends_by_its_failure(rt: HostRuntime) -> Result<(), Fail> {
     let alloc = rt.alloc();
-    let unknown = CheckFault::Participants(participants::FileFault::UnknownName);
+    let unknown = FilesFault::Participants(participants::FileFault::UnknownName);
+    let missing = CheckFault::Participants(participants::FileFault::Missing);
     let same = CheckFault::Instruments(instruments::FileFault::Twice);
     let memory = CheckFault::Instruments(instruments::FileFault::NoMemory);
     let failures = [
         (Failure::from(unknown), 3, "participants refused 4"),
+        (Failure::from(missing), 3, "participants refused 2"),
         (Failure::from(same), 3, "instruments refused 3"),
         (Failure::from(memory), 1, "stopped: memory"),
         (Failure::from(CheckFault::Output), 1, "stopped: output"),

@@ -7,6 +7,7 @@ mod command_line;
 mod failure;
 mod files;
 mod heard;
+mod market;
 mod once;
 mod outbox;
 
@@ -14,21 +15,19 @@ pub use check::{CheckFault, check};
 use command_line::{Task, task_given};
 use failure::Failure;
 use files::{Texts, texts_at};
-use instruments::Instruments;
+pub use market::{FilesFault, Market};
 pub use once::{OnceFault, once};
-use participants::Participants;
 use sef_moment::Moment;
 use std::process::ExitCode;
 
 fn run_once(rt: &HostRuntime, texts: &Texts, at: Moment) -> Result<(), Failure> {
-    let participants = Participants::read(rt.alloc(), &texts.participants)?;
-    let instruments = Instruments::read(rt.alloc(), &texts.instruments)?;
+    let market = Market::read(rt.alloc(), &texts.participants, &texts.instruments)?;
     once(
         rt.alloc(),
         &mut rt.stdin(),
         &mut rt.stdout(),
-        participants,
-        instruments,
+        market.participants,
+        market.instruments,
         at,
     )?;
     Ok(())

@@ -48,6 +48,52 @@ const TWICE: &str =
 const NO_FIELD: &str =
     "8=FIXT.1.1|9=53|35=D|49=ALPHA|56=SEF|34=3|52=20250303-14:30:00|hello|10=186|";
 
+/// A request for quotes to three of whom two are related, and the same to four.
+const REQUEST_OF_THREE: &str =
+    "8=FIXT.1.1|9=155|35=R|49=ALPHA|56=SEF|34=2|52=20250303-14:30:00|131=q1|146=1|55=IRS5Y|54=1|38=100|453=3|448=BETA|447=D|452=35|448=GAMMA|447=D|452=35|448=DELTA|447=D|452=35|10=080|";
+
+const REQUEST_OF_FOUR: &str =
+    "8=FIXT.1.1|9=180|35=R|49=ALPHA|56=SEF|34=3|52=20250303-14:30:00|131=q1|146=1|55=IRS5Y|54=1|38=100|453=4|448=BETA|447=D|452=35|448=GAMMA|447=D|452=35|448=DELTA|447=D|452=35|448=EPSILON|447=D|452=35|10=170|";
+
+/// A quote, a withdrawal and an answer to a quote, in rooms that are not the sender's.
+const QUOTE: &str =
+    "8=FIXT.1.1|9=78|35=S|49=ALPHA|56=SEF|34=4|52=20250303-14:30:00|117=b1|131=R1|55=IRS5Y|133=2.5|10=010|";
+
+const WITHDRAWAL: &str =
+    "8=FIXT.1.1|9=60|35=Z|49=ALPHA|56=SEF|34=5|52=20250303-14:30:00|117=d1|298=5|10=061|";
+
+const RESPONSE: &str =
+    "8=FIXT.1.1|9=68|35=AJ|49=ALPHA|56=SEF|34=6|52=20250303-14:30:00|693=h1|117=Q1|694=1|10=217|";
+
+/// A cross, and a cancel of its second side, which is held.
+const CROSS: &str =
+    "8=FIXT.1.1|9=127|35=s|49=ALPHA|56=SEF|34=7|52=20250303-14:30:00|548=x1|549=4|550=1|552=2|54=1|11=c1|38=10|54=2|11=c2|38=10|55=IRS5Y|40=2|44=2.5|10=028|";
+
+const CANCEL_HELD: &str =
+    "8=FIXT.1.1|9=59|35=F|49=ALPHA|56=SEF|34=8|52=20250303-14:30:00|11=c3|41=c2|10=032|";
+
+/// What they are answered.
+const NOT_UNRELATED: &str =
+    "8=FIXT.1.1|9=109|35=AG|49=SEF|56=ALPHA|34=1|52=20250303-14:30:00.000|131=q1|658=99|146=1|55=IRS5Y|58=Recipients not unrelated|10=227|";
+
+const DUPLICATE_REQUEST: &str =
+    "8=FIXT.1.1|9=102|35=AG|49=SEF|56=ALPHA|34=2|52=20250303-14:30:00.000|131=q1|658=99|146=1|55=IRS5Y|58=Duplicate request|10=054|";
+
+const NOT_ASKED: &str =
+    "8=FIXT.1.1|9=91|35=AI|49=SEF|56=ALPHA|34=3|52=20250303-14:30:00.000|117=b1|131=R1|297=5|300=9|58=Not asked|10=142|";
+
+const NO_SUCH_QUOTE: &str =
+    "8=FIXT.1.1|9=65|35=AI|49=SEF|56=ALPHA|34=4|52=20250303-14:30:00.000|117=d1|297=9|10=050|";
+
+const NO_SUCH_NUMBER: &str =
+    "8=FIXT.1.1|9=72|35=AI|49=SEF|56=ALPHA|34=5|52=20250303-14:30:00.000|117=Q1|693=h1|297=9|10=151|";
+
+const CROSSED: &str =
+    "8=FIXT.1.1|9=106|35=8|49=SEF|56=ALPHA|34=6|52=20250303-14:30:00.000|37=O1|17=E1|150=0|39=0|55=IRS5Y|54=1|151=10|14=0|11=c1|10=228|";
+
+const HELD_SIDE_CANCELLED: &str =
+    "8=FIXT.1.1|9=113|35=8|49=SEF|56=ALPHA|34=7|52=20250303-14:30:00.000|37=NONE|17=E2|150=4|39=4|55=IRS5Y|54=2|151=0|14=0|11=c3|41=c2|10=166|";
+
 /// The bytes of texts, one behind the other.
 fn bytes_of(alloc: Global, texts: &[&str]) -> Result<Vec<u8>, AllocError> {
     let mut bytes = Vec::new(alloc);
@@ -97,6 +143,39 @@ fn answers_orders(rt: HostRuntime) -> Result<(), Fail> {
         assert_eq!(rt; ended, Ok(()));
         assert_eq!(rt; written.as_slice(), expected.as_slice());
     }
+    Ok(())
+}
+
+#[test]
+fn answers_requests_quotes_and_crosses(rt: HostRuntime) -> Result<(), Fail> {
+    let alloc = rt.alloc();
+    let (ended, written) = answered(
+        alloc,
+        &[
+            REQUEST_OF_THREE,
+            REQUEST_OF_FOUR,
+            REQUEST_OF_FOUR,
+            QUOTE,
+            WITHDRAWAL,
+            RESPONSE,
+            CROSS,
+            CANCEL_HELD,
+        ],
+    )?;
+    let expected = bytes_of(
+        alloc,
+        &[
+            NOT_UNRELATED,
+            DUPLICATE_REQUEST,
+            NOT_ASKED,
+            NO_SUCH_QUOTE,
+            NO_SUCH_NUMBER,
+            CROSSED,
+            HELD_SIDE_CANCELLED,
+        ],
+    )?;
+    assert_eq!(rt; ended, Ok(()));
+    assert_eq!(rt; written.as_slice(), expected.as_slice());
     Ok(())
 }
 

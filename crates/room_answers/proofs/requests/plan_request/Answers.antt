@@ -3,10 +3,11 @@ use Rattle.std.proofs.lemmas.Result.{IfOk-weaker}
 use Rattle.venue_rules.specs.Answer.{Answer, Sender}
 use Rattle.venue_rules.specs.Market.{Market}
 use Rattle.rfq_room.specs.Causes.{request_cause}
+use Rattle.rfq_room.specs.Plan.{Plan}
 use Rattle.rfq_room.specs.Plans.{room_asked}
 use Rattle.rfq_room.specs.Refusals.{cause_of}
 use Rattle.rfq_room.specs.declared.refusal.Cause.TheVariants as cause
-use Rattle.room_answers.specs.Counting.{reports_in}
+use Rattle.room_answers.specs.Counting.{reports_in, trades_in}
 use Rattle.room_answers.specs.Known.{are_known}
 use Rattle.room_answers.specs.Read.{first_room}
 use Rattle.room_answers.specs.Senders.{market, sent_by}
@@ -15,6 +16,9 @@ use Rattle.room_answers.proofs.requests.plan_request.Goals as goal
 
 pub of-requires-clause-counted : goal.of-requires-clause-counted
 of-requires-clause-counted c = sym (ap reports_in c.in_ok-replies-in-Ok.ensures ∙ sent-quiet c.unwrap-room.result.now c.in_ok-symbol-in-Ok.symbol c.unwrap-room.result.now.recipients)
+
+pub of-requires-clause-traded : goal.of-requires-clause-traded
+of-requires-clause-traded c = sym (ap (λ (p : Plan). trades_in p.facts) c.in-Ok.ensures.planned)
 
 pub returns-in_ok-replies-in-Ok-clause-planned : goal.returns-in_ok-replies-in-Ok-clause-planned
 returns-in_ok-replies-in-Ok-clause-planned c = λ h e.

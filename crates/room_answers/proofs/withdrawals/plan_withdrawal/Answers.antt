@@ -9,16 +9,21 @@ use Rattle.rfq_room.specs.Named.{named_quotes}
 use Rattle.rfq_room.specs.Plan.{Plan}
 use Rattle.rfq_room.specs.Refusals.{cause_of}
 use Rattle.rfq_room.specs.declared.refusal.Cause.TheVariants as cause
-use Rattle.room_answers.specs.Counting.{reports_in}
+use Rattle.room_answers.specs.Counting.{reports_in, trades_in}
 use Rattle.room_answers.specs.Known.{are_known}
 use Rattle.room_answers.specs.Senders.{market, sent_by}
 use Rattle.room_answers.specs.Sent.{both_told}
 use Rattle.room_answers.proofs.Rooms.{quiet-known, quiet-listed, quiet-made}
-use Rattle.room_answers.proofs.Withdrawing.{all-quiet, withdrawal-answer, withdrawal-holds, withdrawn-known, withdraws-all}
+use Rattle.room_answers.proofs.Withdrawing.{all-quiet, withdrawal-answer, withdrawal-holds, withdrawn-known, withdrawn-untraded, withdraws-all}
 use Rattle.room_answers.proofs.withdrawals.plan_withdrawal.Goals as goal
 
 pub of-requires-clause-counted : goal.of-requires-clause-counted
 of-requires-clause-counted c = sym (ap reports_in c.in_ok-replies-in-Ok.ensures ∙ all-quiet c.args.instruments.now c.plan_withdraw.new.self.facts c.quotes.result.now)
+
+pub of-requires-clause-traded : goal.of-requires-clause-traded
+of-requires-clause-traded c =
+    withdrawn-untraded (named_quotes c.args.rooms.now.facts c.args.sender.who c.args.moment (withdrawal_id c.args.request.now))
+    ∙ sym (ap (λ (p : Plan). trades_in p.facts) c.in-Ok.ensures.planned)
 
 pub returns-in_ok-replies-in-Ok-clause-planned : goal.returns-in_ok-replies-in-Ok-clause-planned
 returns-in_ok-replies-in-Ok-clause-planned c = λ participants h e.

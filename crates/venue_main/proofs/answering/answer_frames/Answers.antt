@@ -1,7 +1,7 @@
-use Rattle.std.proofs.Common.{◌≡◌, ℕ, ◌+◌, ◌≤◌, List, ◌∷◌, [], ◌++◌, length, drop, Option, Some, IfSome, sym, ap, ◌∙◌, subst, append_assoc, length-drop, arith}
+use Rattle.std.proofs.Common.{ℕ, List, ◌∷◌, [], ◌++◌, length, Option, IfSome, sym, ap, subst, append-nil, append_assoc, length-drop, arith}
 use Rattle.std.specs.Prelude.{slice_range}
 use Rattle.std.specs.Io.KnownBytes.{Appends, Keeps}
-use Rattle.std.proofs.KnownBytes.{Appends-kept, Appends-trans}
+use Rattle.std.proofs.KnownBytes.{Appends-kept, Appends-nil, Appends-trans}
 use Rattle.std.proofs.lemmas.Result.{err_from_is_err_and}
 use Rattle.fix_frame.specs.Stream.{Reads}
 use Rattle.venue_rules.specs.Market.{Market}
@@ -9,6 +9,13 @@ use Rattle.venue_main.specs.Answering.{Stands}
 use Rattle.venue_main.specs.Once.{AnswersFront}
 use Rattle.venue_main.proofs.Standing.{answered_items, body_answered, front_answered, stream_answered, unless_output}
 use Rattle.venue_main.proofs.answering.answer_frames.Goals as goal
+
+pub loop-body-init : goal.loop-body-init
+loop-body-init g c = record {
+  fewer = omega arith;
+  stands = λ market t heard output s.
+      ([], subst (Stands market t c.args.cutter.now.unread c.args.venue.now c.args.outbox.now heard) (sym (append-nil output)) s, Appends-nil (g.W.Write.contents c.args.writer.now));
+}
 
 pub returns-in-Open-clause-answered : goal.returns-in-Open-clause-answered
 returns-in-Open-clause-answered g c = λ market t heard output s.
@@ -34,7 +41,7 @@ loop-body-preserved g c =
       fewer = omega (arith, items, cut.1.0, cut.2.within, unread, length-drop cut.0 c.loop-body.cutter.unread, c.loop-body.invariant.fewer);
       stands = λ market t heard output s.
           let so_far = c.loop-body.invariant.stands market t heard output s in
-          let stands = body_answered c.served_run_goes_on.ensures market t c.loop-body.cutter.unread c.next.new.self.unread c.loop-body.venue c.answer_body.new.venue c.loop-body.outbox c.answer_body.new.outbox heard (output ++ so_far.0) text a.1 a.0 (reads heard) a.2 a.3 so_far.1 in (
+          let stands = body_answered c.day_goes_on.ensures.stands c.day_goes_on.ensures.replies market t c.loop-body.cutter.unread c.next.new.self.unread c.loop-body.venue c.answer_body.new.venue c.loop-body.outbox c.answer_body.new.outbox heard (output ++ so_far.0) text a.1 a.0 (reads heard) a.2 a.3 so_far.1 in (
             so_far.0 ++ a.1,
             subst (Stands market t c.next.new.self.unread c.answer_body.new.venue c.answer_body.new.outbox heard) (append_assoc output so_far.0 a.1) stands,
             Appends-trans _ _ _ so_far.0 a.1 so_far.2 a.4,

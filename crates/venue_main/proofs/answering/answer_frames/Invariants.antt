@@ -1,4 +1,4 @@
-use Rattle.std.proofs.Common.{◌≡◌, ◌≤◌, ◌+◌, ℕ, List, ◌++◌, length}
+use Rattle.std.proofs.Common.{◌≤◌, ◌+◌, ℕ, List, ◌++◌, length}
 use Rattle.std.specs.Io.KnownBytes.{Appends}
 use Rattle.venue_rules.specs.Market.{Market}
 use Rattle.venue_main.specs.Answering.{Stands}

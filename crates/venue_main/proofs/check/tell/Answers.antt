@@ -1,4 +1,4 @@
-use Rattle.std.proofs.Common.{◌≡◌, ℕ, List, OnOk, length, sym, ap, ◌∙◌, subst}
+use Rattle.std.proofs.Common.{◌≡◌, ℕ, List, OnOk, length, ap, ◌∙◌, subst}
 use Rattle.std.specs.Io.KnownBytes.{Appends}
 use Rattle.venue_main.specs.Check.{counted, summary}
 use Rattle.venue_main.proofs.check.tell.Goals as goal
@@ -7,11 +7,11 @@ pub returns : goal.returns
 returns g c =
     let written = g.W.Write.contents c.args.writer.now in
     let written' = g.W.Write.contents c.write_counts.new.writer in
-    let file = c.args.participants.now in
-    let rows = c.args.instruments.now in
+    let file = c.args.market.now.participants in
+    let rows = c.args.market.now.instruments in
     let pairs = length c.pairs-pairs.result.now in
-    let same : counted c.len.result pairs c.len-2.result ≡ summary file rows =
-    ap (λ (k : ℕ). counted k pairs c.len-2.result) c.len.ensures.count
-    ∙ ap (λ (k : ℕ). counted (length file.names) k c.len-2.result) (ap (λ (l : List (ℕ × ℕ)). length l) c.pairs-pairs.ensures)
-    ∙ ap (counted (length file.names) (length file.pairs)) c.len-2.ensures.count in
+    let same : counted c.len-names.result pairs c.len-rows.result ≡ summary file rows =
+    ap (λ (k : ℕ). counted k pairs c.len-rows.result) c.len-names.ensures.count
+    ∙ ap (λ (k : ℕ). counted (length file.names) k c.len-rows.result) (ap (λ (l : List (ℕ × ℕ)). length l) c.pairs-pairs.ensures)
+    ∙ ap (counted (length file.names) (length file.pairs)) c.len-rows.ensures.count in
     subst (λ (line : List ℕ). OnOk c.write_counts.result (Appends written written' line)) same c.write_counts.ensures

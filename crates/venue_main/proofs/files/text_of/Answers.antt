@@ -1,4 +1,4 @@
-use Rattle.std.proofs.Common.{◌≡◌, ℕ, ◌+◌, ◌≤◌, List, ◌++◌, length, take, IfSome, option_map, subst, arith}
+use Rattle.std.proofs.Common.{◌≡◌, ℕ, ◌+◌, List, ◌++◌, take, IfSome, option_map, subst, arith}
 use Rattle.venue_main.proofs.Counts.{short_is_whole}
 use Rattle.venue_main.proofs.files.text_of.Goals as goal
 

@@ -1,12 +1,11 @@
-use Rattle.std.proofs.Common.{◌≡◌, ℕ, ◌+◌, ◌*◌, ◌≤◌, ◌<◌, List, ◌∷◌, [], ◌++◌, Option, length, take, refl, sym, ap, ◌∙◌, subst, arith, length-append}
-use Rattle.std.specs.Io.KnownBytes.{Appends, Consumes, IsAtEnd}
+use Rattle.std.proofs.Common.{◌≡◌, ℕ, ◌<◌, List, [], ◌++◌, length, take, refl, ap, ◌∙◌, arith, length-append}
+use Rattle.std.specs.Io.KnownBytes.{Appends}
 use Rattle.std.proofs.KnownBytes.{Appends-kept, Appends-nil, Appends-trans, Consumes-kept, Consumes-nil, Consumes-trans}
 use Rattle.std.proofs.lemmas.Result.{err_from_is_err_and}
 use Rattle.fix_frame.specs.Buffered.{Buffered}
 use Rattle.venue_rules.specs.Market.{Market}
 use Rattle.venue_main.specs.Answering.{Stands}
-use Rattle.venue_main.specs.Once.{AnswersFront, AnswersStream, Stopped, UnlessOutput}
-use Rattle.venue_main.specs.Outgoing.{Outgoing}
+use Rattle.venue_main.specs.Once.{AnswersFront, Stopped, UnlessOutput}
 use Rattle.venue_main.proofs.Reading.{ended_alone, ended_well, if_err, on_ok, piece_heard, stands_at_first, stopped_after, stopped_at_once, unless_any}
 use Rattle.venue_main.proofs.Standing.{front_answered, unless_output}
 use Rattle.venue_main.proofs.once.once.Goals as goal

@@ -1,9 +1,9 @@
-use Rattle.std.proofs.Common.{◌≤◌, ◌∙◌, ap, sym, Result, Ok, Err, IfOk, arith}
+use Rattle.std.proofs.Common.{◌≤◌, ap, subst, Result, Ok, Err, IfOk, arith}
 use Rattle.std.proofs.lemmas.Result.{IfOk-weaker}
 use Rattle.venue_rules.specs.Run.{Message}
-use Rattle.venue_core.specs.Files.{market_of}
-use Rattle.venue_core.specs.Served.{most_items, served_answer, served_message}
-use Rattle.venue_core.specs.State.{State}
+use Rattle.venue_core.specs.Plan.{most_items}
+use Rattle.venue_core.specs.Standing.{IsStanding}
+use Rattle.venue_core.specs.State.{Standing, State}
 use Rattle.venue_core.proofs.venue.Venue.plan.Goals as goal
 
 both_ok : {T E : Type 0} (r : Result T E) (P Q : T → Type 0) → IfOk r P → IfOk r Q → IfOk r (λ x. P x × Q x)
@@ -11,8 +11,7 @@ both_ok (Ok x) P Q p q = (p, q)
 both_ok (Err e) P Q p q = tt
 
 pub returns-clause-made : goal.returns-clause-made
-unfolding served_answer
 returns-clause-made c =
     let few : c.self.inside.items ≤ most_items = omega (arith, ap (λ (s : State). s.items) c.self.view_is, c.requires) in
-    IfOk-weaker c.plan_message.result _ _ (λ p e. record { input = Message c.args.taken.now c.args.moment; answers = e.0 ∙ ap (λ facts. served_message (market_of c.self.inside.market) (record { facts = facts; reports = c.self.inside.reports }) c.args.taken.now c.args.moment) (sym c.plan_message.ensures.kept); made = e.1; items = few })
+    IfOk-weaker c.plan_message.result _ _ (λ p e. record { input = Message c.args.taken.now c.args.moment; answers = λ h stands. e.0 h (subst (λ (q : Standing). IsStanding q h) c.plan_message.ensures.kept stands); made = e.1; items = few })
     (both_ok c.plan_message.result _ _ c.plan_message.ensures.planned c.plan_message.ensures.made)

@@ -1,0 +1,74 @@
+//! What is answered to a cross that is refused.
+ghost use Rattle.std.specs.Prelude.{◌≡◌, ◌<◌, ◌^◌, [], IfOk};
+ghost use Rattle.venue_rules.specs.Crosses.{cross_refused, side_refused};
+ghost use Rattle.order_answers.specs.Market.{sender};
+ghost use Rattle.order_answers.specs.Parts.{answer_of};
+ghost use Rattle.cross_answers.specs.Crossing.{IsQuiet, turned_away};
+
+use crate::terms::Cause;
+use fix_dictionary::{Amount, CrossSide, NewOrderCross};
+use order_answers::{OrderAnswer, unprocessed};
+use std::alloc::{AllocError, Global};
+use venue_rules::{BusinessRefusal, CrossRefusal, CrossRefused, OrderReport, Reply, Taken, What};
+
+// The report that refuses a side.
+fn side_refused(
+    alloc: Global,
+    taken: &Taken,
+    cross: &NewOrderCross,
+    side: &CrossSide,
+    report: u64,
+    cause: CrossRefusal,
+) -> Result<Reply, AllocError>
+    ensures { IfOk result (λ r. r ≡ side_refused (sender taken.now) cross.now cause side.now report) }
+{
+    let order = OrderReport {
+        report,
+        order: None,
+        symbol: cross.symbol.copy(alloc)?,
+        side: side.side,
+        left: Amount::new(0),
+        filled: Amount::new(0),
+        id: side.order_id.copy(alloc)?,
+    };
+    let what = What::CrossRefused(CrossRefused { order, cause });
+    let to = taken.from;
+    Ok(Reply { to, what })
+}
+
+/// A cross is refused by two reports, one for each side in the message's order.
+pub(crate) fn refused(
+    alloc: Global,
+    taken: &Taken,
+    cross: &NewOrderCross,
+    reports: u64,
+    cause: CrossRefusal,
+) -> Result<OrderAnswer, AllocError>
+    requires { reports < 2 ^ 61 }
+    ensures answer { IfOk result (λ a. answer_of a ≡ cross_refused (record { facts = []; reports = reports }) (sender taken.now) cross.now cause) }
+    ensures quiet { IfOk result IsQuiet }
+{
+    let report = reports + 1;
+    let first = side_refused(alloc, taken, cross, &cross.first, report, cause)?;
+    let second = side_refused(alloc, taken, cross, &cross.second, report + 1, cause)?;
+    let replies = vec![in alloc; first, second]?;
+    Ok(OrderAnswer::of_replies(alloc, replies))
+}
+
+/// The answer to a cross that is turned away before the book is asked.
+pub(crate) fn turned_away(
+    alloc: Global,
+    taken: &Taken,
+    cross: &NewOrderCross,
+    reports: u64,
+    cause: Cause,
+) -> Result<OrderAnswer, AllocError>
+    requires { reports < 2 ^ 61 }
+    ensures answer { IfOk result (λ a. answer_of a ≡ turned_away (record { facts = []; reports = reports }) (sender taken.now) cross.now cause) }
+    ensures quiet { IfOk result IsQuiet }
+{
+    match cause {
+        Cause::Refused(cause) => refused(alloc, taken, cross, reports, cause),
+        Cause::PriceMissing => unprocessed(alloc, taken, BusinessRefusal::PriceMissing),
+    }
+}

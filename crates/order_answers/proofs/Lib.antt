@@ -1,0 +1,9 @@
+pub mod Readings
+pub mod ReadAlone
+pub mod Walking
+pub mod Adding
+pub mod Accepting
+pub mod Turning
+pub mod Showing
+pub mod Changing
+pub mod Replacements

@@ -1,0 +1,34 @@
+use Rattle.std.proofs.Common.{◌≡◌, ◌∙◌, ap, sym, length, Some, None, option_map, refl, ◌+◌, false}
+use Rattle.std.proofs.lemmas.Result.{IfOk-weaker}
+use Rattle.venue_rules.specs.Book.{Resting, find_order}
+use Rattle.price_book.specs.Views.{seen}
+use Rattle.venue_rules.specs.declared.refusals.ChangeRefusal.TheVariants.{DuplicateClOrdId}
+use Rattle.venue_rules.specs.declared.replies.Standing.{Standing}
+use Rattle.venue_rules.specs.Changes.{cancel_refused}
+use Rattle.cross_delay.specs.Plan.{Plan as DelayPlan}
+use Rattle.order_answers.specs.Parts.{Parts}
+use Rattle.order_answers.specs.Market.{market, sender}
+use Rattle.order_answers.proofs.Changing.{cancel-again, cancel-planned, order-listed}
+use Rattle.order_answers.proofs.changes.plan_cancel.Goals as goal
+
+pub returns-then-is_used-clause-planned : goal.returns-then-is_used-clause-planned
+returns-then-is_used-clause-planned c =
+    let order : Resting = seen c.in-Some.order in
+    let found : find_order c.args.book.now.facts c.args.taken.now.from c.args.request.now.original_id ≡ Some order = sym c.order.ensures.found ∙ ap (option_map seen) c.in-Some.is in
+    IfOk-weaker c.change_refused.result _ _ (λ a e. λ h x. e ∙ ap (λ (st : Standing). cancel_refused (sender c.args.taken.now) c.args.request.now (Some st) DuplicateClOrdId) c.standing.ensures ∙ sym (cancel-again (market c.args.participants.now c.args.instruments.now) h c.args.book.now.facts c.args.held.now.facts c.args.counts (sender c.args.taken.now) c.args.request.now order (c.parts_are_read_alone.ensures h c.args.book.now.facts c.args.held.now.facts c.args.counts x) found (sym c.if-is_used.ensures))) c.change_refused.ensures.answer
+
+pub cancel_reply-requires : goal.cancel_reply-requires
+cancel_reply-requires c =
+    let order : Resting = seen c.in-Some.order in
+    let found : find_order c.args.book.now.facts c.args.taken.now.from c.args.request.now.original_id ≡ Some order = sym c.order.ensures.found ∙ ap (option_map seen) c.in-Some.is in
+    order-listed c.args.book.now.facts (length c.args.instruments.now) c.args.taken.now.from c.args.request.now.original_id order c.requires.book_listed found
+
+pub returns-clause-planned : goal.returns-clause-planned
+returns-clause-planned c = λ h x.
+    let order : Resting = seen c.in-Some.order in
+    let found : find_order c.args.book.now.facts c.args.taken.now.from c.args.request.now.original_id ≡ Some order = sym c.order.ensures.found ∙ ap (option_map seen) c.in-Some.is in
+    let alone = c.parts_are_read_alone.ensures h c.args.book.now.facts c.args.held.now.facts c.args.counts x in
+    cancel-planned (market c.args.participants.now c.args.instruments.now) h c.args.book.now.facts c.args.held.now.facts c.args.counts (sender c.args.taken.now) c.args.request.now order c.in_ok-plan.plan c.in_ok-replies.replies.items c.of.result
+    alone found (sym c.if-is_used.ensures) c.in_ok-plan.ensures.planned
+    (c.in_ok-replies.ensures.items ∙ c.in_ok-reply.ensures (market c.args.participants.now c.args.instruments.now) h refl (ap (λ n. n + 1) (sym alone.reports)))
+    (c.of.ensures ∙ ap (λ (q : DelayPlan). let y : Parts = record { delay_first = false; delay = q.facts; book = c.in_ok-plan.plan.facts; replies = c.in_ok-replies.replies.items } in y) c.nothing-nothing.ensures)

@@ -1,0 +1,44 @@
+//! What the files say of an instrument.
+ghost use Rattle.std.specs.Prelude.{◌≡◌, ◌<◌, true, false, length, nat_lt, IfOk, MatchOption, Some};
+ghost use Rattle.instruments.specs.Listing.{instrument_of, is_off_tick, is_unknown_instrument, least_of, symbol_of, tick_of};
+
+use fix_dictionary::{Identifier, Price, Quantity};
+use instruments::Instruments;
+use std::alloc::{AllocError, Global};
+use venue_rules::symbol_identifier;
+
+/// The instrument of a symbol, by its place in the file.
+pub fn instrument_of(instruments: &Instruments, symbol: &Identifier) -> Option<u32>
+    ensures { MatchOption result (is_unknown_instrument instruments.now symbol.now ≡ true) (λ x. (x ≡ instrument_of instruments.now symbol.now) × (x < length instruments.now) × (is_unknown_instrument instruments.now symbol.now ≡ false)) }
+{
+    instruments.find(symbol.as_slice())
+}
+
+/// Whether a price is no multiple of the instrument's tick.
+pub fn is_off_tick(instruments: &Instruments, instrument: u32, price: Price) -> bool
+    requires { instrument < length instruments.now }
+    ensures { result ≡ is_off_tick instruments.now instrument price }
+{
+    let tick = instruments.get(instrument).tick;
+    price.get().unsigned_abs() % tick != 0
+}
+
+/// Whether a quantity is below the instrument's least.
+pub fn is_below_least(instruments: &Instruments, instrument: u32, quantity: Quantity) -> bool
+    requires { instrument < length instruments.now }
+    ensures { result ≡ nat_lt quantity (least_of instruments.now instrument) }
+{
+    quantity.get() < instruments.get(instrument).least
+}
+
+/// The symbol of an instrument, as messages have it.
+pub fn symbol_of(
+    alloc: Global,
+    instruments: &Instruments,
+    instrument: u32,
+) -> Result<Identifier, AllocError>
+    requires { instrument < length instruments.now }
+    ensures { IfOk result (λ symbol. symbol ≡ symbol_of instruments.now instrument) }
+{
+    symbol_identifier(alloc, instruments.get(instrument).symbol.as_slice())
+}

@@ -1,0 +1,58 @@
+//! Messages that are not processed.
+ghost use Rattle.std.specs.Prelude.{◌≡◌, [], IfOk};
+ghost use Rattle.fix_dictionary.specs.Values.{IsText};
+ghost use Rattle.venue_rules.specs.Answer.{unprocessed};
+ghost use Rattle.venue_rules.specs.Answers.{type_of};
+ghost use Rattle.order_answers.specs.Market.{sender};
+ghost use Rattle.order_answers.specs.Parts.{answer_of};
+
+use crate::answer::OrderAnswer;
+use fix_dictionary::{App, Identifier};
+use std::alloc::{AllocError, Global};
+use venue_rules::{BusinessRefusal, Reply, Taken, Unprocessed, What};
+
+/// The type (35) of a message.
+fn type_of(app: &App) -> &[u8]
+    ensures value { result.now ≡ type_of app.now }
+    ensures form { IsText 64 result.now }
+{
+    match app {
+        App::QuoteRequest(_) => b"R",
+        App::Quote(_) => b"S",
+        App::QuoteCancel(_) => b"Z",
+        App::QuoteResponse(_) => b"AJ",
+        App::QuoteStatusReport(_) => b"AI",
+        App::QuoteRequestReject(_) => b"AG",
+        App::NewOrderSingle(_) => b"D",
+        App::OrderCancelRequest(_) => b"F",
+        App::OrderCancelReplaceRequest(_) => b"G",
+        App::NewOrderCross(_) => b"s",
+        App::ExecutionReport(_) => b"8",
+        App::OrderCancelReject(_) => b"9",
+        App::MarketDataRequest(_) => b"V",
+        App::MarketDataSnapshot(_) => b"W",
+        App::MarketDataRequestReject(_) => b"Y",
+        App::BusinessMessageReject(_) => b"j",
+        App::Unsupported(kind) => kind.as_slice(),
+    }
+}
+
+/// The message is not processed, for this cause: a BusinessMessageReject (j), which is no report.
+pub fn unprocessed(
+    alloc: Global,
+    taken: &Taken,
+    cause: BusinessRefusal,
+) -> Result<OrderAnswer, AllocError>
+    ensures planned { IfOk result (λ a. answer_of a ≡ unprocessed (sender taken.now) cause) }
+    ensures quiet { IfOk result (λ a. (a.book ≡ []) × (a.delay ≡ [])) }
+{
+    let kind = Identifier::from_slice(alloc, type_of(&taken.item.app))?;
+    let what = What::Unprocessed(Unprocessed {
+        number: taken.item.number,
+        kind,
+        cause,
+    });
+    let to = taken.from;
+    let replies = vec![in alloc; Reply { to, what }]?;
+    Ok(OrderAnswer::of_replies(alloc, replies))
+}

@@ -1,0 +1,53 @@
+use Rattle.std.proofs.Common.{◌≡◌, ◌∙◌, ap, sym, codes, bytes_eq, length, option_map, Some}
+use Rattle.venue_rules.specs.Answer.{Answer}
+use Rattle.venue_rules.specs.Rooms.{find_room, printed}
+use Rattle.room_answers.specs.Counting.{reports_in}
+use Rattle.room_answers.specs.Quoted.{quote_replies}
+use Rattle.room_answers.specs.Read.{first_made}
+use Rattle.room_answers.specs.Senders.{sent_by}
+use Rattle.room_answers.proofs.Lists.{is-there}
+use Rattle.room_answers.proofs.Makers.{planned-made, planned-maker, planned-room, quote-untraded}
+use Rattle.room_answers.proofs.Quoting.{planned-answer, replies-quiet}
+use Rattle.room_answers.proofs.Rooms.{find-listed}
+use Rattle.room_answers.proofs.quotes.accepted.Goals as goal
+
+pub unwrap-room-requires : goal.unwrap-room-requires
+unwrap-room-requires c =
+    is-there (λ r. r.now) c.find_room.result (find_room c.args.rooms.now.facts c.args.quote.now.request_id) c.find_room.ensures
+    (planned-room c.args.rooms.now.facts c.args.sender.who c.args.quote.now c.args.plan c.requires.planned)
+
+pub unwrap-made-requires : goal.unwrap-made-requires
+unwrap-made-requires c =
+    is-there (λ q. q.now) c.made.result (first_made c.args.plan.facts) c.made.ensures
+    (planned-made c.args.rooms.now.facts c.args.sender.who c.args.quote.now c.args.plan c.requires.planned)
+
+pub symbol_of-requires : goal.symbol_of-requires
+symbol_of-requires c =
+    let found : find_room c.args.rooms.now.facts c.args.quote.now.request_id ≡ Some c.unwrap-room.result.now = sym c.find_room.ensures ∙ ap (option_map (λ r. r.now)) c.unwrap-room.ensures in
+    find-listed (length c.args.instruments.now) (λ r. bytes_eq (printed 82 r.number) c.args.quote.now.request_id) c.args.rooms.now.facts c.unwrap-room.result.now c.requires.listed found
+
+pub told-requires : goal.told-requires
+told-requires c =
+    let first : Some c.unwrap-made.result.now ≡ first_made c.args.plan.facts = sym (ap (option_map (λ q. q.now)) c.unwrap-made.ensures) ∙ c.made.ensures in
+    planned-maker c.args.rooms.now.facts c.args.sender.who c.args.quote.now c.args.plan c.unwrap-made.result.now (length c.args.participants.now.names) c.requires.planned first c.requires.known
+
+pub of-requires-clause-counted : goal.of-requires-clause-counted
+of-requires-clause-counted c =
+    replies-quiet c.args.participants.now c.args.book.now.facts (sent_by c.args.sender (codes "S")) c.args.quote.now c.has_quote-quoted.result c.unwrap-room.result.now c.in_ok-symbol.symbol c.unwrap-made.result.now
+    ∙ sym (ap reports_in c.in_ok-replies.ensures)
+
+pub of-requires-clause-traded : goal.of-requires-clause-traded
+of-requires-clause-traded c = quote-untraded c.args.rooms.now.facts c.args.sender.who c.args.quote.now c.args.plan c.requires.planned
+
+pub returns-clause-facts : goal.returns-clause-facts
+returns-clause-facts c = ap (λ (a : Answer). a.facts) c.of.ensures
+
+pub returns-clause-told : goal.returns-clause-told
+returns-clause-told c =
+    let found : find_room c.args.rooms.now.facts c.args.quote.now.request_id ≡ Some c.unwrap-room.result.now = sym c.find_room.ensures ∙ ap (option_map (λ r. r.now)) c.unwrap-room.ensures in
+    let first : Some c.unwrap-made.result.now ≡ first_made c.args.plan.facts = sym (ap (option_map (λ q. q.now)) c.unwrap-made.ensures) ∙ c.made.ensures in
+    planned-answer c.args.participants.now c.args.instruments.now c.args.rooms.now.facts c.args.book.now.facts (sent_by c.args.sender (codes "S")) c.args.quote.now c.unwrap-room.result.now c.unwrap-made.result.now
+    c.args.plan c.in_ok-symbol.symbol c.in_ok-replies.replies.items c.of.result
+    found c.requires.planned first c.in_ok-symbol.ensures
+    (c.in_ok-replies.ensures ∙ ap (λ b. quote_replies c.args.participants.now c.args.book.now.facts (sent_by c.args.sender (codes "S")) c.args.quote.now b c.unwrap-room.result.now c.in_ok-symbol.symbol c.unwrap-made.result.now) c.has_quote-quoted.ensures)
+    c.of.ensures

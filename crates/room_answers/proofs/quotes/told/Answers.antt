@@ -1,0 +1,10 @@
+use Rattle.std.proofs.Common.{codes}
+use Rattle.room_answers.specs.Senders.{sent_by}
+use Rattle.room_answers.proofs.Showing.{told-replies}
+use Rattle.room_answers.proofs.quotes.told.Goals as goal
+
+pub returns : goal.returns
+returns c =
+    told-replies c.args.participants.now c.args.book.now.facts (sent_by c.args.sender (codes "S")) c.args.quote.now c.args.quoted c.args.room.now c.args.symbol.now c.args.made.now
+    c.in_ok-quote_sent.field-0 c.in_ok-replies.replies.items c.show.new.replies.items c.push.new.self.items
+    c.in_ok-replies.ensures c.in_ok-show.ensures c.in_ok-quote_sent.ensures c.in_ok-push.ensures.items

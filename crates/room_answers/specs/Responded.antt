@@ -1,0 +1,42 @@
+use Rattle.std.specs.Prelude.{◌≡◌, ℕ, ◌+◌, List, [], ◌∷◌, Option, Some, None, MatchOption}
+use Rattle.fix_dictionary.specs.declared.messages.QuoteResponse.{QuoteResponse}
+use Rattle.instruments.specs.declared.instruments.Instrument.{Instrument}
+use Rattle.instruments.specs.Listing.{symbol_of}
+use Rattle.venue_rules.specs.declared.facts.Fact.{Fact}
+use Rattle.venue_rules.specs.declared.facts.Room.{Room}
+use Rattle.venue_rules.specs.declared.facts.RoomQuote.{RoomQuote}
+use Rattle.venue_rules.specs.declared.replies.QuoteState.TheVariants as state
+use Rattle.venue_rules.specs.declared.replies.Reply.{Reply}
+use Rattle.venue_rules.specs.Answer.{Sender}
+use Rattle.venue_rules.specs.Responses.{response_status}
+use Rattle.venue_rules.specs.Rooms.{find_quote}
+use Rattle.rfq_room.specs.Named.{quote_room}
+use Rattle.rfq_room.specs.declared.decision.Hit.{Hit}
+use Rattle.room_answers.specs.Sent.{other_side, to_maker, traded_report}
+
+-- a pass is told to the sender and to the maker
+unfoldable pub pass_told : List Instrument → Sender → QuoteResponse → Room → RoomQuote → List Reply
+pass_told instruments s d r q =
+    response_status s d (Some r.id) (Some (symbol_of instruments r.instrument)) state.Passed ∷ to_maker r (symbol_of instruments r.instrument) q state.Passed ∷ []
+
+-- a hit is reported to the sender, then to the maker, by the next numbers
+unfoldable pub hit_told : List Instrument → Room → ℕ → ℕ → ℕ → Hit → QuoteResponse → ℕ → List Reply
+hit_told instruments r trade who maker hit d reports =
+    traded_report r (symbol_of instruments r.instrument) trade who hit (Some d.response_id) (reports + 1)
+    ∷ traded_report r (symbol_of instruments r.instrument) trade maker (other_side hit) None (reports + 1 + 1)
+    ∷ []
+
+-- the replies to an answer that is a pass, or a hit: the next trade has the next number
+unfoldable pub response_replies : List Instrument → ℕ → ℕ → Sender → QuoteResponse → Room → RoomQuote → Option Hit → List Reply
+response_replies instruments reports traded s d r q None = pass_told instruments s d r q
+response_replies instruments reports traded s d r q (Some hit) = hit_told instruments r (traded + 1) s.who q.maker hit d reports
+
+-- these are those replies, by the quote that is named and its room
+abbrev pub IsResponseTold : List Instrument → List Fact → ℕ → ℕ → Sender → QuoteResponse → Option Hit → List Reply → Type 0
+IsResponseTold instruments facts reports traded s d hit replies =
+    MatchOption (find_quote facts d.quote_id) ⊥ (λ q. MatchOption (quote_room facts d.quote_id) ⊥ (λ r. replies ≡ response_replies instruments reports traded s d r q hit))
+
+-- how many trades a hit is, if there is one
+abbrev pub hits : Option Hit → ℕ
+hits None = 0
+hits (Some hit) = 1

@@ -1,0 +1,421 @@
+//! An answer to a quote (QuoteResponse, AJ): a hit, which is a trade and closes the room (17 CFR 37.9(a)(2), (a)(3)), or a pass.
+ghost use Rattle.std.specs.Prelude.{◌≡◌, ◌<◌, ◌≤◌, ◌^◌, ℕ, [], ◌∷◌, true, codes, length, option_map, IfOk, IfSome, IsSome};
+ghost use Rattle.participants.specs.ParticipantFile.{ParticipantFile};
+ghost use Rattle.venue_rules.specs.Answer.{answers};
+ghost use Rattle.venue_rules.specs.Book.{opposite};
+ghost use Rattle.venue_rules.specs.Facts.{History, trades};
+ghost use Rattle.venue_rules.specs.Responses.{answer_response, response_status};
+ghost use Rattle.venue_rules.specs.Rooms.{find_quote};
+ghost use Rattle.rfq_room.specs.Kept.{are_listed};
+ghost use Rattle.rfq_room.specs.Named.{quote_room};
+ghost use Rattle.rfq_room.specs.RoomFacts.{room_facts};
+ghost use Rattle.rfq_room.specs.Steps.{IsPlanOf};
+ghost use Rattle.rfq_room.specs.Told.{response_refused};
+ghost use Rattle.room_answers.specs.Counting.{trades_in};
+ghost use Rattle.room_answers.specs.Known.{are_known};
+ghost use Rattle.room_answers.specs.Responded.{IsResponseTold, hit_told, hits, pass_told, response_replies};
+ghost use Rattle.room_answers.specs.Senders.{market, sent_by};
+ghost use Rattle.room_answers.specs.Sent.{other_side, symbol_in, traded_report};
+
+use crate::answer::RoomAnswer;
+use crate::listing::{symbol_in, symbol_of};
+use crate::sender::Sender;
+use crate::unprocessed::unprocessed;
+use crate::withdrawals::to_maker;
+use fix_dictionary::{Identifier, QuoteResponse, Side};
+use instruments::Instruments;
+use participants::Who;
+use rfq_room::{Cause, Hit, ResponseCause, RoomPlan, Rooms, rooms_decide};
+use sef_moment::Moment;
+use std::alloc::{AllocError, Global};
+use venue_rules::{
+    BusinessRefusal, QuoteState, QuoteStatus, Reply, ResponseRefusal, Room, RoomQuote, RoomReport,
+    What,
+};
+
+// The requester's identifier of the request of a room, where there is one.
+fn request_in(alloc: Global, room: Option<&Room>) -> Result<Option<Identifier>, AllocError>
+    ensures { IfOk result (λ id. id ≡ option_map (λ r. r.id) (option_map (λ r. r.now) room.entry)) }
+{
+    match room {
+        Some(room) => Ok(Some(room.id.copy(alloc)?)),
+        None => Ok(None),
+    }
+}
+
+// What is said to the sender: the quote and the answer as sent, and of a room of its own its request and the instrument.
+fn status(
+    alloc: Global,
+    instruments: &Instruments,
+    sender: Sender,
+    response: &QuoteResponse,
+    room: Option<&Room>,
+    state: QuoteState,
+) -> Result<Reply, AllocError>
+    requires { IfSome room (λ r. r.now.instrument < length instruments.now) }
+    ensures { IfOk result (λ r. r ≡ response_status (sent_by sender (codes "AJ")) response.now (option_map (λ r. r.id) (option_map (λ r. r.now) room.entry)) (symbol_in instruments.now (option_map (λ r. r.now) room.entry)) state) }
+{
+    let what = What::QuoteStatus(QuoteStatus {
+        quote_id: Some(response.quote_id.copy(alloc)?),
+        request_id: request_in(alloc, room)?,
+        response_id: Some(response.response_id.copy(alloc)?),
+        symbol: symbol_in(alloc, instruments, room)?,
+        state,
+    });
+    Ok(Reply {
+        to: sender.who,
+        what,
+    })
+}
+
+// The sender alone is told.
+fn told(
+    alloc: Global,
+    instruments: &Instruments,
+    sender: Sender,
+    response: &QuoteResponse,
+    room: Option<&Room>,
+    state: QuoteState,
+) -> Result<RoomAnswer, AllocError>
+    requires { IfSome room (λ r. r.now.instrument < length instruments.now) }
+    ensures { IfOk result (λ a. a ≡ answers (response_status (sent_by sender (codes "AJ")) response.now (option_map (λ r. r.id) (option_map (λ r. r.now) room.entry)) (symbol_in instruments.now (option_map (λ r. r.now) room.entry)) state ∷ [])) }
+{
+    let reply = status(alloc, instruments, sender, response, room, state)?;
+    let replies = vec![in alloc; reply]?;
+    Ok(RoomAnswer::of(RoomPlan::nothing(alloc), replies, 0, 0))
+}
+
+// An answer refused: the room is named from where it is known to be the sender's own.
+fn refused_in(
+    alloc: Global,
+    instruments: &Instruments,
+    sender: Sender,
+    response: &QuoteResponse,
+    room: Option<&Room>,
+    cause: ResponseCause,
+) -> Result<RoomAnswer, AllocError>
+    requires { IfSome room (λ r. r.now.instrument < length instruments.now) }
+    ensures quiet { IfOk result (λ a. a.facts ≡ []) }
+    ensures told { IfOk result (λ a. (participants : ParticipantFile) → a ≡ response_refused (market participants instruments.now) (sent_by sender (codes "AJ")) response.now (option_map (λ r. r.now) room.entry) cause) }
+{
+    match cause {
+        ResponseCause::SideMissing => {
+            unprocessed(alloc, sender, b"AJ", BusinessRefusal::SideMissing)
+        }
+        ResponseCause::Unsupported => {
+            let state = QuoteState::ResponseRefused(ResponseRefusal::UnsupportedResponse);
+            told(alloc, instruments, sender, response, None, state)
+        }
+        ResponseCause::UnknownQuote => {
+            let state = QuoteState::NotFound;
+            told(alloc, instruments, sender, response, None, state)
+        }
+        ResponseCause::NotYours => {
+            let state = QuoteState::ResponseRefused(ResponseRefusal::NotYours);
+            told(alloc, instruments, sender, response, None, state)
+        }
+        ResponseCause::Over => {
+            let state = QuoteState::NotFound;
+            told(alloc, instruments, sender, response, room, state)
+        }
+        ResponseCause::Withdrawn => {
+            let state = QuoteState::Withdrawn;
+            told(alloc, instruments, sender, response, room, state)
+        }
+        ResponseCause::Expired => {
+            let state = QuoteState::Expired;
+            told(alloc, instruments, sender, response, room, state)
+        }
+        ResponseCause::OtherSide => {
+            let state = QuoteState::ResponseRefused(ResponseRefusal::Side);
+            told(alloc, instruments, sender, response, room, state)
+        }
+        ResponseCause::NoPrice => {
+            let state = QuoteState::ResponseRefused(ResponseRefusal::InvalidPrice);
+            told(alloc, instruments, sender, response, room, state)
+        }
+    }
+}
+
+// Two replies.
+fn both(alloc: Global, first: Reply, second: Reply) -> Result<Vec<Reply>, AllocError>
+    ensures { IfOk result (λ v. v.items ≡ first ∷ second ∷ []) }
+{
+    let mut replies = vec![in alloc; first]?;
+    replies.push(second)?;
+    Ok(replies)
+}
+
+// An answer refused, by the room of the quote that it names.
+fn refused(
+    alloc: Global,
+    instruments: &Instruments,
+    rooms: &Rooms,
+    sender: Sender,
+    response: &QuoteResponse,
+    cause: ResponseCause,
+) -> Result<RoomAnswer, AllocError>
+    requires { are_listed (length instruments.now) rooms.now.facts ≡ true }
+    ensures quiet { IfOk result (λ a. a.facts ≡ []) }
+    ensures told { IfOk result (λ a. (participants : ParticipantFile) → a ≡ response_refused (market participants instruments.now) (sent_by sender (codes "AJ")) response.now (quote_room rooms.now.facts response.now.quote_id) cause) }
+{
+    let room = rooms.quote_room(&response.quote_id);
+    refused_in(alloc, instruments, sender, response, room, cause)
+}
+
+// A pass: the sender and the maker are told.
+#[tactic(auto, unfolding(crate::specs::Responded::pass_told))]
+fn passed(
+    alloc: Global,
+    instruments: &Instruments,
+    sender: Sender,
+    response: &QuoteResponse,
+    room: &Room,
+    quote: &RoomQuote,
+) -> Result<Vec<Reply>, AllocError>
+    requires { room.now.instrument < length instruments.now }
+    ensures { IfOk result (λ v. v.items ≡ pass_told instruments.now (sent_by sender (codes "AJ")) response.now room.now quote.now) }
+{
+    let symbol = symbol_of(alloc, instruments, room.instrument)?;
+    let state = QuoteState::Passed;
+    let own = status(alloc, instruments, sender, response, Some(room), state)?;
+    let makers = to_maker(alloc, room, &symbol, quote, QuoteState::Passed)?;
+    both(alloc, own, makers)
+}
+
+fn opposite(side: Side) -> Side
+    ensures { result ≡ opposite side }
+{
+    match side {
+        Side::Buy => Side::Sell,
+        Side::Sell => Side::Buy,
+    }
+}
+
+// The hit as the maker has it.
+fn other_side(hit: Hit) -> Hit
+    ensures { result ≡ other_side hit }
+{
+    Hit {
+        side: opposite(hit.side),
+        price: hit.price,
+    }
+}
+
+// The report of a trade in a room to one of its sides.
+fn traded_report(
+    alloc: Global,
+    room: &Room,
+    symbol: &Identifier,
+    trade: u64,
+    to: Who,
+    hit: Hit,
+    response_id: Option<Identifier>,
+    report: u64,
+) -> Result<Reply, AllocError>
+    ensures { IfOk result (λ r. r ≡ traded_report room.now symbol.now trade to hit response_id report) }
+{
+    let what = What::RoomTraded(RoomReport {
+        report,
+        room: room.number,
+        symbol: symbol.copy(alloc)?,
+        side: hit.side,
+        quantity: room.quantity,
+        price: hit.price,
+        trade,
+        response_id,
+    });
+    Ok(Reply { to, what })
+}
+
+// The reports of a hit: the requester's, then the maker's.
+#[tactic(auto, unfolding(crate::specs::Responded::hit_told))]
+fn hit_told(
+    alloc: Global,
+    instruments: &Instruments,
+    sender: Sender,
+    response: &QuoteResponse,
+    room: &Room,
+    maker: Who,
+    hit: Hit,
+    trade: u64,
+    reports: u64,
+) -> Result<Vec<Reply>, AllocError>
+    requires listed { room.now.instrument < length instruments.now }
+    requires number { reports < 2 ^ 61 }
+    ensures { IfOk result (λ v. v.items ≡ hit_told instruments.now room.now trade sender.who maker hit response.now reports) }
+{
+    let symbol = symbol_of(alloc, instruments, room.instrument)?;
+    let response_id = Some(response.response_id.copy(alloc)?);
+    let to = sender.who;
+    let own = traded_report(
+        alloc,
+        room,
+        &symbol,
+        trade,
+        to,
+        hit,
+        response_id,
+        reports + 1,
+    )?;
+    let other = other_side(hit);
+    let number = reports + 1 + 1;
+    let makers = traded_report(alloc, room, &symbol, trade, maker, other, None, number)?;
+    both(alloc, own, makers)
+}
+
+// The replies to an answer that is a pass, or this hit.
+#[tactic(auto, unfolding(crate::specs::Responded::response_replies))]
+fn answered(
+    alloc: Global,
+    instruments: &Instruments,
+    reports: u64,
+    traded: u64,
+    sender: Sender,
+    response: &QuoteResponse,
+    room: &Room,
+    quote: &RoomQuote,
+    hit: Option<Hit>,
+) -> Result<Vec<Reply>, AllocError>
+    requires listed { room.now.instrument < length instruments.now }
+    requires reports { reports < 2 ^ 61 }
+    requires traded { traded < 2 ^ 61 }
+    ensures { IfOk result (λ v. v.items ≡ response_replies instruments.now reports traded (sent_by sender (codes "AJ")) response.now room.now quote.now hit) }
+{
+    let Some(hit) = hit else {
+        return passed(alloc, instruments, sender, response, room, quote);
+    };
+    hit_told(
+        alloc,
+        instruments,
+        sender,
+        response,
+        room,
+        quote.maker,
+        hit,
+        traded + 1,
+        reports,
+    )
+}
+
+// How many trades a plan is.
+fn trades_of(plan: &RoomPlan) -> u64
+    ensures value { result ≡ hits plan.now.hit }
+    ensures few { result ≤ 1 }
+{
+    match plan.hit() {
+        Some(_) => 1,
+        None => 0,
+    }
+}
+
+// An answer accepted, to a quote of a room: what the plan adds, and all replies.
+fn accepted_in(
+    alloc: Global,
+    instruments: &Instruments,
+    reports: u64,
+    traded: u64,
+    sender: Sender,
+    response: &QuoteResponse,
+    room: &Room,
+    quote: &RoomQuote,
+    plan: RoomPlan,
+) -> Result<RoomAnswer, AllocError>
+    requires listed { room.now.instrument < length instruments.now }
+    requires reports { reports < 2 ^ 61 }
+    requires traded { traded < 2 ^ 61 }
+    requires trade { trades_in plan.facts ≡ hits plan.hit }
+    ensures facts { IfOk result (λ a. a.facts ≡ plan.facts) }
+    ensures told { IfOk result (λ a. a.replies ≡ response_replies instruments.now reports traded (sent_by sender (codes "AJ")) response.now room.now quote.now plan.hit) }
+{
+    let replies = answered(
+        alloc,
+        instruments,
+        reports,
+        traded,
+        sender,
+        response,
+        room,
+        quote,
+        plan.hit(),
+    )?;
+    let trades = trades_of(&plan);
+    Ok(RoomAnswer::of(plan, replies, 2 * trades, trades))
+}
+
+// An answer accepted, by the quote that it names and the quote's room.
+fn accepted(
+    alloc: Global,
+    instruments: &Instruments,
+    rooms: &Rooms,
+    reports: u64,
+    traded: u64,
+    sender: Sender,
+    response: &QuoteResponse,
+    plan: RoomPlan,
+) -> Result<RoomAnswer, AllocError>
+    requires listed { are_listed (length instruments.now) rooms.now.facts ≡ true }
+    requires reports { reports < 2 ^ 61 }
+    requires traded { traded < 2 ^ 61 }
+    requires quote { IsSome (find_quote rooms.now.facts response.now.quote_id) }
+    requires room { IsSome (quote_room rooms.now.facts response.now.quote_id) }
+    requires trade { trades_in plan.facts ≡ hits plan.hit }
+    ensures facts { IfOk result (λ a. a.facts ≡ plan.facts) }
+    ensures told { IfOk result (λ a. IsResponseTold instruments.now rooms.now.facts reports traded (sent_by sender (codes "AJ")) response.now plan.hit a.replies) }
+{
+    let quote = rooms.find_quote(&response.quote_id).unwrap();
+    let room = rooms.quote_room(&response.quote_id).unwrap();
+    accepted_in(
+        alloc,
+        instruments,
+        reports,
+        traded,
+        sender,
+        response,
+        room,
+        quote,
+        plan,
+    )
+}
+
+/// The answer to an answer to a quote; makes space for what it adds to the rooms. So many execution reports were sent, and
+/// there were so many trades on the venue, before.
+pub fn plan_response(
+    alloc: Global,
+    instruments: &Instruments,
+    rooms: &mut Rooms,
+    reports: u64,
+    traded: u64,
+    sender: Sender,
+    response: &QuoteResponse,
+    moment: Moment,
+) -> Result<RoomAnswer, AllocError>
+    requires listed { are_listed (length instruments.now) rooms.old.facts ≡ true }
+    requires reports { reports < 2 ^ 61 }
+    requires traded { traded < 2 ^ 61 }
+    ensures kept { rooms.new.facts ≡ rooms.old.facts }
+    ensures planned { IfOk result (λ a. (participants : ParticipantFile) (h : History) → room_facts h.facts ≡ rooms.old.facts → h.reports ≡ reports → length (trades h.facts) ≡ traded → a ≡ answer_response (market participants instruments.now) h (sent_by sender (codes "AJ")) response.now moment) }
+    ensures made { IfOk result (λ a. IsPlanOf rooms.new a.facts) }
+    ensures listed { IfOk result (λ a. (count : ℕ) → are_listed count a.facts ≡ true) }
+    ensures known { IfOk result (λ a. (count : ℕ) → are_known count a.facts ≡ true) }
+{
+    rooms_decide();
+    match rooms.plan_answer(sender.who, response, moment) {
+        Ok(plan) => accepted(
+            alloc,
+            instruments,
+            rooms,
+            reports,
+            traded,
+            sender,
+            response,
+            plan,
+        ),
+        Err(refusal) => match refusal.cause() {
+            Some(Cause::Response(cause)) => {
+                refused(alloc, instruments, rooms, sender, response, cause)
+            }
+            _ => Err(AllocError),
+        },
+    }
+}

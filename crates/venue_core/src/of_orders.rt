@@ -1,0 +1,187 @@
+//! Messages of orders, and held sides whose moment comes.
+ghost use Rattle.std.specs.Prelude.{◌≡◌, IfOk};
+ghost use Rattle.venue_rules.specs.Changes.{answer_cancel, answer_replace};
+ghost use Rattle.venue_rules.specs.Crosses.{answer_cross};
+ghost use Rattle.venue_rules.specs.MarketData.{answer_market_data};
+ghost use Rattle.venue_rules.specs.Orders.{answer_order};
+ghost use Rattle.venue_rules.specs.Run.{Tick, answer_input};
+ghost use Rattle.order_answers.specs.Market.{sender};
+ghost use Rattle.venue_core.specs.Files.{market_of};
+ghost use Rattle.venue_core.specs.Plan.{AreFew, IsListed, IsMade, IsPlanned};
+ghost use Rattle.venue_core.specs.State.{standing};
+
+use crate::day::{Day, counts};
+use crate::market::Market;
+use crate::plan::Plan;
+use fix_dictionary::{
+    MarketDataRequest, NewOrderCross, NewOrderSingle, OrderCancelReplaceRequest, OrderCancelRequest,
+};
+use sef_moment::Moment;
+use std::alloc::{AllocError, Global};
+use venue_rules::Taken;
+
+/// What an order (NewOrderSingle, D) would do; makes room for it.
+pub(crate) fn plan_order(
+    alloc: Global,
+    market: &Market,
+    day: &mut Day,
+    taken: &Taken,
+    order: &NewOrderSingle,
+    moment: Moment,
+) -> Result<Plan, AllocError>
+    requires few { AreFew day.old }
+    requires listed { IsListed (market_of market.now) day.old }
+    ensures kept { standing day.new ≡ standing day.old }
+    ensures planned { IfOk result (IsPlanned (standing day.old) (λ h. answer_order (market_of market.now) h (sender taken.now) order.now moment)) }
+    ensures made { IfOk result (IsMade (market_of market.now) day.new) }
+{
+    let counts = counts(day);
+    let answer = order_answers::plan_order(
+        alloc,
+        &market.participants,
+        &market.instruments,
+        &mut day.book,
+        &day.held,
+        counts,
+        taken,
+        order,
+        moment,
+    )?;
+    Ok(Plan::of_orders(answer))
+}
+
+/// What a cancel (OrderCancelRequest, F) would do; makes room for it.
+pub(crate) fn plan_cancel(
+    alloc: Global,
+    market: &Market,
+    day: &mut Day,
+    taken: &Taken,
+    request: &OrderCancelRequest,
+) -> Result<Plan, AllocError>
+    requires few { AreFew day.old }
+    requires listed { IsListed (market_of market.now) day.old }
+    ensures kept { standing day.new ≡ standing day.old }
+    ensures planned { IfOk result (IsPlanned (standing day.old) (λ h. answer_cancel (market_of market.now) h (sender taken.now) request.now)) }
+    ensures made { IfOk result (IsMade (market_of market.now) day.new) }
+{
+    let counts = counts(day);
+    let answer = order_answers::plan_cancel(
+        alloc,
+        &market.participants,
+        &market.instruments,
+        &mut day.book,
+        &mut day.held,
+        counts,
+        taken,
+        request,
+    )?;
+    Ok(Plan::of_orders(answer))
+}
+
+/// What a replacement (OrderCancelReplaceRequest, G) would do; makes room for it.
+pub(crate) fn plan_replace(
+    alloc: Global,
+    market: &Market,
+    day: &mut Day,
+    taken: &Taken,
+    request: &OrderCancelReplaceRequest,
+    moment: Moment,
+) -> Result<Plan, AllocError>
+    requires few { AreFew day.old }
+    requires listed { IsListed (market_of market.now) day.old }
+    ensures kept { standing day.new ≡ standing day.old }
+    ensures planned { IfOk result (IsPlanned (standing day.old) (λ h. answer_replace (market_of market.now) h (sender taken.now) request.now moment)) }
+    ensures made { IfOk result (IsMade (market_of market.now) day.new) }
+{
+    let counts = counts(day);
+    let answer = order_answers::plan_replace(
+        alloc,
+        &market.participants,
+        &market.instruments,
+        &mut day.book,
+        &day.held,
+        counts,
+        taken,
+        request,
+        moment,
+    )?;
+    Ok(Plan::of_orders(answer))
+}
+
+/// What a request for market data (MarketDataRequest, V) is answered.
+pub(crate) fn plan_prices(
+    alloc: Global,
+    market: &Market,
+    day: &Day,
+    taken: &Taken,
+    request: &MarketDataRequest,
+) -> Result<Plan, AllocError>
+    ensures planned { IfOk result (IsPlanned (standing day.now) (λ h. answer_market_data (market_of market.now) h (sender taken.now) request.now)) }
+    ensures made { IfOk result (IsMade (market_of market.now) day.now) }
+{
+    let answer = order_answers::plan_prices(
+        alloc,
+        &market.participants,
+        &market.instruments,
+        &day.book,
+        taken,
+        request,
+    )?;
+    Ok(Plan::of_orders(answer))
+}
+
+/// What a cross (NewOrderCross, s) would do; makes room for it.
+pub(crate) fn plan_cross(
+    alloc: Global,
+    market: &Market,
+    day: &mut Day,
+    taken: &Taken,
+    cross: &NewOrderCross,
+    moment: Moment,
+) -> Result<Plan, AllocError>
+    requires few { AreFew day.old }
+    requires listed { IsListed (market_of market.now) day.old }
+    ensures kept { standing day.new ≡ standing day.old }
+    ensures planned { IfOk result (IsPlanned (standing day.old) (λ h. answer_cross (market_of market.now) h (sender taken.now) cross.now moment)) }
+    ensures made { IfOk result (IsMade (market_of market.now) day.new) }
+{
+    let counts = counts(day);
+    let answer = cross_answers::plan_cross(
+        alloc,
+        &market.participants,
+        &market.instruments,
+        &mut day.book,
+        &mut day.held,
+        counts,
+        taken,
+        cross,
+        moment,
+    )?;
+    Ok(Plan::of_orders(answer))
+}
+
+/// What the first held side that is due would do; makes room for it.
+pub(crate) fn plan_due(
+    alloc: Global,
+    market: &Market,
+    day: &mut Day,
+    moment: Moment,
+) -> Result<Plan, AllocError>
+    requires few { AreFew day.old }
+    requires listed { IsListed (market_of market.now) day.old }
+    ensures kept { standing day.new ≡ standing day.old }
+    ensures planned { IfOk result (IsPlanned (standing day.old) (λ h. answer_input (market_of market.now) h (Tick moment))) }
+    ensures made { IfOk result (IsMade (market_of market.now) day.new) }
+{
+    let counts = counts(day);
+    let answer = cross_answers::plan_due(
+        alloc,
+        &market.participants,
+        &market.instruments,
+        &mut day.book,
+        &mut day.held,
+        counts,
+        moment,
+    )?;
+    Ok(Plan::of_orders(answer))
+}
