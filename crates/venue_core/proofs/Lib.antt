@@ -3,3 +3,4 @@ pub mod Adding
 pub mod Running
 pub mod Listing
 pub mod Unsupported
+pub mod FirstQuotes

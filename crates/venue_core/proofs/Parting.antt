@@ -1,12 +1,11 @@
-use Rattle.std.proofs.Common.{◌≡◌, refl, sym, ap, ◌∙◌, ◌+◌, Bool, true, false, ◌&&◌, cond, List, [], ◌∷◌, ◌++◌, filter, length, length-append}
+use Rattle.std.proofs.Common.{◌≡◌, refl, sym, ap, ◌∙◌, Bool, true, false, ◌&&◌, cond, List, [], ◌∷◌, ◌++◌, filter}
 use Rattle.std.specs.List.{list_all}
 use Rattle.std.proofs.lemmas.List.Folds.{list_all-append}
-use Rattle.std.proofs.lemmas.List.Elements.{filter_map-append}
 use Rattle.venue_rules.specs.declared.facts.Fact.{Fact}
 use Rattle.venue_rules.specs.declared.facts.Fact.TheVariants.{Entered, Traded, Removed, Held, Unheld, Asked, Quoted, Withdrawn, Closed}
 use Rattle.venue_rules.specs.declared.facts.Place.{Place}
 use Rattle.venue_rules.specs.declared.facts.Place.TheVariants.{Book as InBook, Room as InRoom}
-use Rattle.venue_rules.specs.Facts.{trades, trade_in}
+use Rattle.venue_rules.specs.Facts.{trades}
 use Rattle.price_book.specs.BookFacts.{is_book_fact, is_in_book}
 use Rattle.rfq_room.specs.RoomFacts.{is_room_fact, is_in_room}
 use Rattle.cross_delay.specs.DelayFacts.{is_delay_fact}
@@ -133,6 +132,3 @@ delay-trades (Asked r ∷ fs) h = cc
 delay-trades (Quoted q ∷ fs) h = cc
 delay-trades (Withdrawn w ∷ fs) h = cc
 delay-trades (Closed c ∷ fs) h = cc
-
-pub trades-both : (fs gs : List Fact) → length (trades (fs ++ gs)) ≡ length (trades fs) + length (trades gs)
-trades-both fs gs = ap length (filter_map-append trade_in fs gs) ∙ length-append (trades fs) (trades gs)

@@ -4,6 +4,8 @@ pub mod Files
 pub mod State
 -- the histories that it stands for
 pub mod Standing
+-- what is read back of the first quote of a room
+pub mod Read
 -- what an input adds, and what it asks to be added
 pub mod Plan
 -- inputs taken one after another

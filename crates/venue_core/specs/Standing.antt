@@ -1,19 +1,22 @@
-use Rattle.std.specs.Prelude.{◌≡◌, length}
-use Rattle.venue_rules.specs.Facts.{History, trades}
+use Rattle.std.specs.Prelude.{◌≡◌}
+use Rattle.venue_rules.specs.Facts.{History}
+use Rattle.venue_rules.specs.Readings.{trade_facts}
 use Rattle.venue_rules.specs.Answer.{Answer}
 use Rattle.venue_rules.specs.Run.{Input, after, answer_input}
 use Rattle.price_book.specs.BookFacts.{book_facts}
 use Rattle.rfq_room.specs.RoomFacts.{room_facts}
 use Rattle.cross_delay.specs.DelayFacts.{delay_facts}
+use Rattle.read_back.specs.ReadOf.{IsReadOf}
 use Rattle.venue_core.specs.State.{Standing, State, standing}
 
--- these are the facts of the book, of the rooms and of the held sides of a history, and its counts of reports and of trades
+-- these are the facts of the book, of the rooms and of the held sides of a history, its count of reports, and its trades, and its rooms in which there was a quote, as they are read back
 pub record IsStanding (p : Standing) (h : History) : Type 0 where
   pub book : book_facts h.facts ≡ p.book
   pub rooms : room_facts h.facts ≡ p.rooms
   pub delay : delay_facts h.facts ≡ p.delay
   pub reports : h.reports ≡ p.reports
-  pub trades : length (trades h.facts) ≡ p.trades
+  pub trades : trade_facts h.facts ≡ p.trades
+  pub quoted : IsReadOf p.quoted h.facts
 
 -- the venue stands for this history
 abbrev pub IsHistory : State → History → Type 0

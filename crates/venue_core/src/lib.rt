@@ -11,6 +11,10 @@ mod of_orders;
 mod of_rooms;
 mod plan;
 #[cfg(test)]
+mod read_tests;
+#[cfg(test)]
+mod request_tests;
+#[cfg(test)]
 mod room_tests;
 #[cfg(test)]
 mod tests;

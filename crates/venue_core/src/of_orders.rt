@@ -47,6 +47,7 @@ pub(crate) fn plan_order(
         order,
         moment,
     )?;
+    day.traded.reserve(answer.trades() as usize)?;
     Ok(Plan::of_orders(answer))
 }
 
@@ -75,6 +76,7 @@ pub(crate) fn plan_cancel(
         taken,
         request,
     )?;
+    day.traded.reserve(answer.trades() as usize)?;
     Ok(Plan::of_orders(answer))
 }
 
@@ -105,6 +107,7 @@ pub(crate) fn plan_replace(
         request,
         moment,
     )?;
+    day.traded.reserve(answer.trades() as usize)?;
     Ok(Plan::of_orders(answer))
 }
 
@@ -157,6 +160,7 @@ pub(crate) fn plan_cross(
         cross,
         moment,
     )?;
+    day.traded.reserve(answer.trades() as usize)?;
     Ok(Plan::of_orders(answer))
 }
 
@@ -183,5 +187,6 @@ pub(crate) fn plan_due(
         counts,
         moment,
     )?;
+    day.traded.reserve(answer.trades() as usize)?;
     Ok(Plan::of_orders(answer))
 }

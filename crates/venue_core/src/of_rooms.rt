@@ -1,5 +1,5 @@
 //! Messages of rooms.
-ghost use Rattle.std.specs.Prelude.{◌≡◌, codes, IfOk};
+ghost use Rattle.std.specs.Prelude.{◌≡◌, codes, option_map, IfOk};
 ghost use Rattle.venue_rules.specs.Quotes.{answer_quote};
 ghost use Rattle.venue_rules.specs.Requests.{answer_request};
 ghost use Rattle.venue_rules.specs.Responses.{answer_response};
@@ -7,16 +7,20 @@ ghost use Rattle.venue_rules.specs.Withdrawals.{answer_withdrawal};
 ghost use Rattle.room_answers.specs.Senders.{sent_by};
 ghost use Rattle.venue_core.specs.Files.{market_of};
 ghost use Rattle.venue_core.specs.Plan.{AreFew, IsListed, IsMade, IsPlanned};
+ghost use Rattle.venue_core.specs.Read.{in_reply, number_in, picture_in, quote_read};
 ghost use Rattle.venue_core.specs.State.{standing};
 
-use crate::day::Day;
+use crate::day::{Day, counts};
 use crate::market::Market;
 use crate::plan::Plan;
 use fix_dictionary::{Quote, QuoteCancel, QuoteRequest, QuoteResponse};
+use price_book::book_is_read_alone;
+use read_back::quoted_room;
+use rfq_room::{Rooms, rooms_decide};
 use room_answers::Sender;
 use sef_moment::Moment;
 use std::alloc::{AllocError, Global};
-use venue_rules::Taken;
+use venue_rules::{PictureEntries, Reply, RoomFact, Taken, What};
 
 /// Who sent a message.
 fn sender(taken: &Taken) -> Sender
@@ -43,6 +47,7 @@ pub(crate) fn plan_request(
     ensures planned { IfOk result (IsPlanned (standing day.old) (λ h. answer_request (market_of market.now) h (sent_by (record { who = taken.now.from; number = taken.now.item.number }) (codes "R")) request.now moment)) }
     ensures made { IfOk result (IsMade (market_of market.now) day.new) }
 {
+    rooms_decide();
     let sender = sender(taken);
     let answer = room_answers::plan_request(
         alloc,
@@ -53,7 +58,50 @@ pub(crate) fn plan_request(
         request,
         moment,
     )?;
-    Ok(Plan::of_rooms(answer))
+    day.traded.reserve(answer.trades() as usize)?;
+    Ok(Plan::of_rooms(answer, None))
+}
+
+// The picture of the book that a reply is, and the number of the quote that it sends on.
+fn picture_in(reply: Option<&Reply>) -> Option<&PictureEntries>
+    ensures { option_map (λ e. e.now) result ≡ in_reply picture_in (option_map (λ r. r.now) reply.entry) }
+{
+    match &reply?.what {
+        What::Prices(prices) => Some(&prices.entries),
+        _ => None,
+    }
+}
+
+fn number_in(reply: Option<&Reply>) -> Option<u64>
+    ensures { result ≡ in_reply number_in (option_map (λ r. r.now) reply.entry) }
+{
+    match &reply?.what {
+        What::QuoteSent(sent) => Some(sent.quote),
+        _ => None,
+    }
+}
+
+// What is read back of a quote, if it is the first of its room: then the replies have the picture of the book, and after
+// it the quote.
+fn quote_read(
+    alloc: Global,
+    rooms: &Rooms,
+    quote: &Quote,
+    replies: &[Reply],
+) -> Result<Option<RoomFact>, AllocError>
+    ensures { IfOk result (λ read. read ≡ quote_read rooms.now.facts quote.now.request_id replies.now) }
+{
+    let Some(entries) = picture_in(replies.get(1)) else {
+        return Ok(None);
+    };
+    let Some(number) = number_in(replies.get(2)) else {
+        return Ok(None);
+    };
+    let Some(room) = rooms.find_room(&quote.request_id) else {
+        return Ok(None);
+    };
+    let read = quoted_room(alloc, room, number, entries.as_slice())?;
+    Ok(Some(read))
 }
 
 /// What a quote (Quote, S) would do; makes room for it.
@@ -71,6 +119,8 @@ pub(crate) fn plan_quote(
     ensures planned { IfOk result (IsPlanned (standing day.old) (λ h. answer_quote (market_of market.now) h (sent_by (record { who = taken.now.from; number = taken.now.item.number }) (codes "S")) quote.now moment)) }
     ensures made { IfOk result (IsMade (market_of market.now) day.new) }
 {
+    rooms_decide();
+    book_is_read_alone();
     let sender = sender(taken);
     let answer = room_answers::plan_quote(
         alloc,
@@ -82,7 +132,10 @@ pub(crate) fn plan_quote(
         quote,
         moment,
     )?;
-    Ok(Plan::of_rooms(answer))
+    let read = quote_read(alloc, &day.rooms, quote, answer.replies())?;
+    day.quoted.reserve()?;
+    day.traded.reserve(answer.trades() as usize)?;
+    Ok(Plan::of_rooms(answer, read))
 }
 
 /// What a withdrawal of quotes (QuoteCancel, Z) would do; makes room for it.
@@ -100,6 +153,7 @@ pub(crate) fn plan_withdrawal(
     ensures planned { IfOk result (IsPlanned (standing day.old) (λ h. answer_withdrawal (market_of market.now) h (sent_by (record { who = taken.now.from; number = taken.now.item.number }) (codes "Z")) request.now moment)) }
     ensures made { IfOk result (IsMade (market_of market.now) day.new) }
 {
+    rooms_decide();
     let sender = sender(taken);
     let answer = room_answers::plan_withdrawal(
         alloc,
@@ -109,7 +163,8 @@ pub(crate) fn plan_withdrawal(
         request,
         moment,
     )?;
-    Ok(Plan::of_rooms(answer))
+    day.traded.reserve(answer.trades() as usize)?;
+    Ok(Plan::of_rooms(answer, None))
 }
 
 /// What an answer to a quote (QuoteResponse, AJ) would do; makes room for it.
@@ -127,16 +182,19 @@ pub(crate) fn plan_response(
     ensures planned { IfOk result (IsPlanned (standing day.old) (λ h. answer_response (market_of market.now) h (sent_by (record { who = taken.now.from; number = taken.now.item.number }) (codes "AJ")) response.now moment)) }
     ensures made { IfOk result (IsMade (market_of market.now) day.new) }
 {
+    rooms_decide();
     let sender = sender(taken);
+    let counts = counts(day);
     let answer = room_answers::plan_response(
         alloc,
         &market.instruments,
         &mut day.rooms,
-        day.reports,
-        day.trades,
+        counts.reports,
+        counts.trades,
         sender,
         response,
         moment,
     )?;
-    Ok(Plan::of_rooms(answer))
+    day.traded.reserve(answer.trades() as usize)?;
+    Ok(Plan::of_rooms(answer, None))
 }

@@ -6,13 +6,13 @@ ghost use Rattle.venue_core.specs.declared.plan.Part.TheVariants.{OfOrders, OfRo
 use order_answers::OrderAnswer;
 use room_answers::RoomAnswer;
 use std::marker::Model;
-use venue_rules::Reply;
+use venue_rules::{Reply, RoomFact};
 
-/// What orders answer, or what rooms do: no input adds to both.
+/// What orders answer, or what rooms do, with what is read back of a quote that is the first of its room: no input adds to both.
 #[derive(Drop)]
 pub(crate) enum Part {
     OfOrders(OrderAnswer),
-    OfRooms(RoomAnswer),
+    OfRooms(RoomAnswer, Option<RoomFact>),
 }
 
 /// The facts that the venue gains, and the replies, in order.
@@ -38,11 +38,11 @@ impl Plan {
         }
     }
 
-    pub(crate) fn of_rooms(answer: RoomAnswer) -> Plan
-        ensures { result ≡ OfRooms answer }
+    pub(crate) fn of_rooms(answer: RoomAnswer, read: Option<RoomFact>) -> Plan
+        ensures { result ≡ OfRooms answer read }
     {
         Plan {
-            part: Part::OfRooms(answer),
+            part: Part::OfRooms(answer, read),
         }
     }
 
@@ -52,7 +52,7 @@ impl Plan {
     {
         match &self.part {
             Part::OfOrders(answer) => answer.replies(),
-            Part::OfRooms(answer) => answer.replies(),
+            Part::OfRooms(answer, _) => answer.replies(),
         }
     }
 

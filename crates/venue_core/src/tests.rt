@@ -3,6 +3,7 @@ ghost use Rattle.std.specs.Prelude.{◌≤◌, ◌+◌, length, IfOk, IfSome};
 ghost use Rattle.fix_dictionary.specs.Values.{IsSequenceNumber};
 ghost use Rattle.venue_core.specs.Plan.{IsPlanOf};
 
+use crate::timed::{Timed, all_said, said_at, said_of};
 use crate::{Plan, Venue, message_of};
 use fix_dictionary::{App, Item, SequenceNumber, print_app, read_app};
 use fix_fields::split;
@@ -10,9 +11,6 @@ use sef_moment::Moment;
 use std::alloc::{AllocError, Global};
 use std::test::Fail;
 use venue_rules::{Reply, Taken, Who, fixture_instruments, fixture_participants};
-
-// A line is the letter of a participant, a space, and a message with `|` for SOH.
-pub(crate) type Line = &'static [u8];
 
 fn participant(letter: u8) -> Who {
     Who::of(match letter {
@@ -49,7 +47,7 @@ fn message(alloc: Global, text: &[u8]) -> Option<App> {
     read_app(alloc, &fields).ok()
 }
 
-// The message of a line, as it is taken.
+// The message of a line, as it is taken: a line is the letter of a participant, a space, and a message with `|` for SOH.
 pub(crate) fn taken(alloc: Global, number: u32, line: &[u8]) -> Option<Taken>
     requires { IsSequenceNumber number }
 {
@@ -117,30 +115,6 @@ pub(crate) fn after_half_past(ms: u64) -> Option<Moment> {
     Moment::of_ms(1_741_012_200_000u64.saturating_add(ms))
 }
 
-// What a message is answered; after it the venue has gone on.
-fn said(alloc: Global, venue: &mut Venue, taken: &Taken) -> Option<Vec<u8>>
-    requires { venue.old.items ≤ 999 }
-    ensures { IfSome result (λ _. venue.new.items ≤ venue.old.items + 1) }
-{
-    let plan = planned(venue, taken, after_half_past(0)?)?;
-    applied(alloc, venue, plan)
-}
-
-// The answers to the last of some lines.
-fn last_answer(alloc: Global, venue: &mut Venue, lines: &[Line]) -> Option<Vec<u8>>
-    requires { venue.old.items + length lines.now ≤ 999 }
-    ensures { IfSome result (λ _. venue.new.items ≤ venue.old.items + length lines.now) }
-{
-    let mut last = Vec::new(alloc);
-    let mut number = 1u32;
-    for line in lines {
-        number += 1;
-        let taken = taken(alloc, number, line)?;
-        last = said(alloc, venue, &taken)?;
-    }
-    Some(last)
-}
-
 // A venue of the fixture's files, whose linked orders wait so long.
 fn opened_waiting(alloc: Global, delay: u64) -> Result<Venue, AllocError>
     requires { delay ≤ 3600000 }
@@ -165,226 +139,110 @@ pub(crate) fn opened_with(alloc: Global, delay: u64) -> Option<Venue>
     Some(venue)
 }
 
-// A venue whose linked orders need not wait.
-fn opened(alloc: Global) -> Option<Venue>
-    ensures { IfSome result (λ v. v.items ≤ 0) }
-{
-    opened_with(alloc, 0)
-}
-
-// What the fixture's venue answers to the last of some lines.
-fn answered(alloc: Global, lines: &[Line]) -> Option<Vec<u8>>
-    requires { length lines.now ≤ 20 }
-{
-    let mut venue = opened(alloc)?;
-    last_answer(alloc, &mut venue, lines)
-}
-
-fn buy() -> Line {
-    b"A 35=D|11=a1|55=IRS5Y|54=1|38=100|40=2|44=2.5|"
-}
-
-fn sell() -> Line {
-    b"A 35=D|11=a2|55=IRS5Y|54=2|38=40|40=2|44=2.5|"
-}
-
-fn reported() -> Line {
-    b"A 35=8|37=O1|17=E1|150=0|39=0|55=IRS5Y|54=1|151=100|14=0|11=a1|\n"
-}
-
 #[test]
-fn order_is_reported(rt: HostRuntime) -> Result<(), Fail> {
-    let said = answered(rt.alloc(), &[buy()]).ok_or("memory")?;
-    assert_eq!(rt; said.as_slice(), reported());
-    Ok(())
-}
-
-fn sold() -> Line {
-    b"A 35=8|37=O2|17=E2|150=0|39=0|55=IRS5Y|54=2|151=40|14=0|11=a2|\n\
+fn orders_meet(rt: HostRuntime) -> Result<(), Fail> {
+    let lines: [Timed; 4] = [
+        (0, b"A 35=D|11=a1|55=IRS5Y|54=1|38=100|40=2|"),
+        (0, b"A 35=D|11=a1|55=IRS5Y|54=1|38=100|40=2|44=2.5|"),
+        (0, b"A 35=D|11=a2|55=IRS5Y|54=2|38=40|40=2|44=2.5|"),
+        (0, b"E 35=V|262=v3|263=1|264=0|267=1|269=0|146=1|55=IRS5Y|"),
+    ];
+    let said = said_of(rt.alloc(), 0, &lines).ok_or("memory")?;
+    let expected = b"A 35=j|45=2|372=D|380=5|58=Price missing|\n\
+A 35=8|37=O1|17=E1|150=0|39=0|55=IRS5Y|54=1|151=100|14=0|11=a1|\n\
+A 35=8|37=O2|17=E2|150=0|39=0|55=IRS5Y|54=2|151=40|14=0|11=a2|\n\
 A 35=8|37=O2|17=E3|150=F|39=2|55=IRS5Y|54=2|151=0|14=40|11=a2|31=2.5|32=40|880=T1|\n\
-A 35=8|37=O1|17=E4|150=F|39=1|55=IRS5Y|54=1|151=60|14=40|11=a1|31=2.5|32=40|880=T1|\n"
-}
-
-#[test]
-fn order_meets_a_resting_one(rt: HostRuntime) -> Result<(), Fail> {
-    let said = answered(rt.alloc(), &[buy(), sell()]).ok_or("memory")?;
-    assert_eq!(rt; said.as_slice(), sold());
+A 35=8|37=O1|17=E4|150=F|39=1|55=IRS5Y|54=1|151=60|14=40|11=a1|31=2.5|32=40|880=T1|\n\
+E 35=Y|262=v3|281=4|58=Snapshots only|\n";
+    assert_eq!(rt; said.as_slice(), expected.as_slice());
     Ok(())
 }
 
-fn unpriced() -> Line {
-    b"A 35=D|11=a1|55=IRS5Y|54=1|38=100|40=2|"
-}
-
-fn price_missing() -> Line {
-    b"A 35=j|45=2|372=D|380=5|58=Price missing|\n"
-}
-
-#[test]
-fn order_without_a_price(rt: HostRuntime) -> Result<(), Fail> {
-    let said = answered(rt.alloc(), &[unpriced()]).ok_or("memory")?;
-    assert_eq!(rt; said.as_slice(), price_missing());
-    Ok(())
-}
-
-fn first_seller() -> Line {
-    b"B 35=D|11=b1|55=IRS5Y|54=2|38=60|40=2|44=2.5|"
-}
-
-fn second_seller() -> Line {
-    b"D 35=D|11=d1|55=IRS5Y|54=2|38=70|40=2|44=2.5|"
-}
-
-fn basis() -> Line {
-    b"A 35=D|11=a2|55=BASIS1Y|54=2|38=1|40=2|44=-0.25|"
-}
-
-fn filled() -> Line {
-    b"A 35=8|37=O3|17=E3|150=0|39=0|55=IRS5Y|54=1|151=100|14=0|11=a1|\n\
-A 35=8|37=O3|17=E4|150=F|39=1|55=IRS5Y|54=1|151=40|14=60|11=a1|31=2.5|32=60|880=T1|\n\
-B 35=8|37=O1|17=E5|150=F|39=2|55=IRS5Y|54=2|151=0|14=60|11=b1|31=2.5|32=60|880=T1|\n\
-A 35=8|37=O3|17=E6|150=F|39=2|55=IRS5Y|54=1|151=0|14=100|11=a1|31=2.5|32=40|880=T2|\n\
-D 35=8|37=O2|17=E7|150=F|39=1|55=IRS5Y|54=2|151=30|14=40|11=d1|31=2.5|32=40|880=T2|\n"
+/// Two sellers, a buyer, an order in another instrument, and one that is killed.
+pub(crate) fn five() -> [Timed; 5] {
+    [
+        (0, b"B 35=D|11=b1|55=IRS5Y|54=2|38=60|40=2|44=2.5|"),
+        (0, b"D 35=D|11=d1|55=IRS5Y|54=2|38=70|40=2|44=2.5|"),
+        (0, b"A 35=D|11=a1|55=IRS5Y|54=1|38=100|40=2|44=2.5|"),
+        (0, b"A 35=D|11=a2|55=BASIS1Y|54=2|38=1|40=2|44=-0.25|"),
+        (0, b"G 35=D|11=g1|55=IRS5Y|54=1|38=31|40=2|44=2.5|59=4|"),
+    ]
 }
 
 #[test]
 fn buyer_meets_two_sellers(rt: HostRuntime) -> Result<(), Fail> {
-    let said = answered(rt.alloc(), &[first_seller(), second_seller(), buy()]).ok_or("memory")?;
-    assert_eq!(rt; said.as_slice(), filled());
+    let said = said_of(rt.alloc(), 0, &five()).ok_or("memory")?;
+    let expected = b"B 35=8|37=O1|17=E1|150=0|39=0|55=IRS5Y|54=2|151=60|14=0|11=b1|\n\
+D 35=8|37=O2|17=E2|150=0|39=0|55=IRS5Y|54=2|151=70|14=0|11=d1|\n\
+A 35=8|37=O3|17=E3|150=0|39=0|55=IRS5Y|54=1|151=100|14=0|11=a1|\n\
+A 35=8|37=O3|17=E4|150=F|39=1|55=IRS5Y|54=1|151=40|14=60|11=a1|31=2.5|32=60|880=T1|\n\
+B 35=8|37=O1|17=E5|150=F|39=2|55=IRS5Y|54=2|151=0|14=60|11=b1|31=2.5|32=60|880=T1|\n\
+A 35=8|37=O3|17=E6|150=F|39=2|55=IRS5Y|54=1|151=0|14=100|11=a1|31=2.5|32=40|880=T2|\n\
+D 35=8|37=O2|17=E7|150=F|39=1|55=IRS5Y|54=2|151=30|14=40|11=d1|31=2.5|32=40|880=T2|\n\
+A 35=8|37=O4|17=E8|150=0|39=0|55=BASIS1Y|54=2|151=1|14=0|11=a2|\n\
+G 35=8|37=O5|17=E9|150=0|39=0|55=IRS5Y|54=1|151=31|14=0|11=g1|\n\
+G 35=8|37=O5|17=E10|150=4|39=4|55=IRS5Y|54=1|151=0|14=0|11=g1|\n";
+    assert_eq!(rt; said.as_slice(), expected.as_slice());
     Ok(())
 }
 
-fn too_much() -> Line {
-    b"G 35=D|11=g1|55=IRS5Y|54=1|38=31|40=2|44=2.5|59=4|"
-}
-
-// Two sellers, a buyer, an order in another instrument, and one that is killed.
-pub(crate) fn five() -> [Line; 5] {
-    [first_seller(), second_seller(), buy(), basis(), too_much()]
-}
-
-fn killed() -> Line {
-    b"G 35=8|37=O5|17=E9|150=0|39=0|55=IRS5Y|54=1|151=31|14=0|11=g1|\n\
-G 35=8|37=O5|17=E10|150=4|39=4|55=IRS5Y|54=1|151=0|14=0|11=g1|\n"
+/// What is answered to some lines after the five.
+pub(crate) fn then(alloc: Global, lines: &[Timed]) -> Option<Vec<u8>>
+    requires { length lines.now ≤ 20 }
+{
+    let mut venue = opened_with(alloc, 0)?;
+    let _answers = all_said(alloc, &mut venue, &five())?;
+    all_said(alloc, &mut venue, lines)
 }
 
 #[test]
-fn order_is_killed(rt: HostRuntime) -> Result<(), Fail> {
-    let said = answered(rt.alloc(), &five()).ok_or("memory")?;
-    assert_eq!(rt; said.as_slice(), killed());
+fn orders_are_replaced_and_cancelled(rt: HostRuntime) -> Result<(), Fail> {
+    let lines: [Timed; 6] = [
+        (
+            0,
+            b"E 35=V|262=v1|263=0|264=0|267=1|269=0|146=1|55=BASIS1Y|",
+        ),
+        (0, b"D 35=G|11=d9|41=d1|38=40|40=2|44=2.5|"),
+        (0, b"D 35=G|11=d2|41=d1|38=50|40=2|44=2.5025|"),
+        (0, b"D 35=F|11=d3|41=d2|"),
+        (0, b"D 35=F|11=d4|41=d2|"),
+        (0, b"E 35=V|262=v2|263=0|264=0|267=1|269=0|146=1|55=IRS5Y|"),
+    ];
+    let said = then(rt.alloc(), &lines).ok_or("memory")?;
+    let expected = b"E 35=W|262=v1|55=BASIS1Y|268=1|269=1|270=-0.25|271=1|278=O4|\n\
+D 35=9|37=O2|11=d9|41=d1|39=1|434=2|102=99|58=Quantity already filled|\n\
+D 35=8|37=O6|17=E11|150=5|39=1|55=IRS5Y|54=2|151=10|14=40|11=d2|41=d1|\n\
+D 35=8|37=O6|17=E12|150=4|39=4|55=IRS5Y|54=2|151=0|14=40|11=d3|41=d2|\n\
+D 35=9|37=NONE|11=d4|41=d2|39=8|434=1|102=1|58=Unknown order|\n\
+E 35=W|262=v2|55=IRS5Y|268=1|269=J|\n";
+    assert_eq!(rt; said.as_slice(), expected.as_slice());
     Ok(())
-}
-
-// What is answered to the last of some lines after the five.
-fn then(alloc: Global, lines: &[Line]) -> Option<Vec<u8>>
-    requires { length lines.now ≤ 20 }
-{
-    let mut venue = opened(alloc)?;
-    let _answer = last_answer(alloc, &mut venue, &five())?;
-    last_answer(alloc, &mut venue, lines)
-}
-
-fn all() -> Line {
-    b"G 35=D|11=g2|55=IRS5Y|54=1|38=30|40=2|44=2.5|59=4|"
-}
-
-fn filled_at_once() -> Line {
-    b"G 35=8|37=O6|17=E11|150=0|39=0|55=IRS5Y|54=1|151=30|14=0|11=g2|\n\
-G 35=8|37=O6|17=E12|150=F|39=2|55=IRS5Y|54=1|151=0|14=30|11=g2|31=2.5|32=30|880=T3|\n\
-D 35=8|37=O2|17=E13|150=F|39=2|55=IRS5Y|54=2|151=0|14=70|11=d1|31=2.5|32=30|880=T3|\n"
 }
 
 #[test]
 fn order_is_filled_at_once(rt: HostRuntime) -> Result<(), Fail> {
-    let said = then(rt.alloc(), &[all()]).ok_or("memory")?;
-    assert_eq!(rt; said.as_slice(), filled_at_once());
+    let lines: [Timed; 1] = [(0, b"G 35=D|11=g2|55=IRS5Y|54=1|38=30|40=2|44=2.5|59=4|")];
+    let said = then(rt.alloc(), &lines).ok_or("memory")?;
+    let expected = b"G 35=8|37=O6|17=E11|150=0|39=0|55=IRS5Y|54=1|151=30|14=0|11=g2|\n\
+G 35=8|37=O6|17=E12|150=F|39=2|55=IRS5Y|54=1|151=0|14=30|11=g2|31=2.5|32=30|880=T3|\n\
+D 35=8|37=O2|17=E13|150=F|39=2|55=IRS5Y|54=2|151=0|14=70|11=d1|31=2.5|32=30|880=T3|\n";
+    assert_eq!(rt; said.as_slice(), expected.as_slice());
     Ok(())
 }
 
-fn no_more() -> Line {
-    b"D 35=G|11=d9|41=d1|38=40|40=2|44=2.5|"
-}
-
-fn already_filled() -> Line {
-    b"D 35=9|37=O2|11=d9|41=d1|39=1|434=2|102=99|58=Quantity already filled|\n"
-}
-
 #[test]
-fn replacement_by_what_is_filled(rt: HostRuntime) -> Result<(), Fail> {
-    let said = then(rt.alloc(), &[no_more()]).ok_or("memory")?;
-    assert_eq!(rt; said.as_slice(), already_filled());
-    Ok(())
-}
-
-fn replace() -> Line {
-    b"D 35=G|11=d2|41=d1|38=50|40=2|44=2.5025|"
-}
-
-fn replaced() -> Line {
-    b"D 35=8|37=O6|17=E11|150=5|39=1|55=IRS5Y|54=2|151=10|14=40|11=d2|41=d1|\n"
-}
-
-#[test]
-fn order_is_replaced(rt: HostRuntime) -> Result<(), Fail> {
-    let said = then(rt.alloc(), &[replace()]).ok_or("memory")?;
-    assert_eq!(rt; said.as_slice(), replaced());
-    Ok(())
-}
-
-fn cancel() -> Line {
-    b"D 35=F|11=d3|41=d2|"
-}
-
-fn cancelled() -> Line {
-    b"D 35=8|37=O6|17=E12|150=4|39=4|55=IRS5Y|54=2|151=0|14=40|11=d3|41=d2|\n"
-}
-
-#[test]
-fn order_is_cancelled(rt: HostRuntime) -> Result<(), Fail> {
-    let said = then(rt.alloc(), &[replace(), cancel()]).ok_or("memory")?;
-    assert_eq!(rt; said.as_slice(), cancelled());
-    Ok(())
-}
-
-fn cancel_again() -> Line {
-    b"D 35=F|11=d4|41=d2|"
-}
-
-fn unknown() -> Line {
-    b"D 35=9|37=NONE|11=d4|41=d2|39=8|434=1|102=1|58=Unknown order|\n"
-}
-
-#[test]
-fn order_is_gone(rt: HostRuntime) -> Result<(), Fail> {
-    let said = then(rt.alloc(), &[replace(), cancel(), cancel_again()]).ok_or("memory")?;
-    assert_eq!(rt; said.as_slice(), unknown());
-    Ok(())
-}
-
-fn below() -> Line {
-    b"A 35=D|11=a3|55=IRS5Y|54=2|38=10|40=2|44=2.5025|"
-}
-
-fn crossing() -> Line {
-    b"A 35=G|11=a4|41=a3|38=10|40=2|44=2.5|"
-}
-
-// What is answered where linked orders wait for 15 seconds.
-fn answered_with_delay(alloc: Global, lines: &[Line]) -> Option<Vec<u8>>
-    requires { length lines.now ≤ 20 }
-{
-    let mut venue = opened_with(alloc, 15_000)?;
-    last_answer(alloc, &mut venue, lines)
-}
-
-fn too_recent() -> Line {
-    b"A 35=9|37=O2|11=a4|41=a3|39=0|434=2|102=99|58=Linked order too recent|\n"
-}
-
-#[test]
-fn replacement_meets_a_linked_order(rt: HostRuntime) -> Result<(), Fail> {
-    let said = answered_with_delay(rt.alloc(), &[buy(), below(), crossing()]).ok_or("memory")?;
-    assert_eq!(rt; said.as_slice(), too_recent());
+fn immediate_order_does_not_rest(rt: HostRuntime) -> Result<(), Fail> {
+    let lines: [Timed; 2] = [
+        (0, b"D 35=D|11=d1|55=IRS5Y|54=2|38=70|40=2|44=2.5|"),
+        (0, b"G 35=D|11=g3|55=IRS5Y|54=1|38=100|40=2|44=2.5|59=3|"),
+    ];
+    let said = said_of(rt.alloc(), 0, &lines).ok_or("memory")?;
+    let expected = b"D 35=8|37=O1|17=E1|150=0|39=0|55=IRS5Y|54=2|151=70|14=0|11=d1|\n\
+G 35=8|37=O2|17=E2|150=0|39=0|55=IRS5Y|54=1|151=100|14=0|11=g3|\n\
+G 35=8|37=O2|17=E3|150=F|39=1|55=IRS5Y|54=1|151=30|14=70|11=g3|31=2.5|32=70|880=T1|\n\
+D 35=8|37=O1|17=E4|150=F|39=2|55=IRS5Y|54=2|151=0|14=70|11=d1|31=2.5|32=70|880=T1|\n\
+G 35=8|37=O2|17=E5|150=4|39=4|55=IRS5Y|54=1|151=0|14=70|11=g3|\n";
+    assert_eq!(rt; said.as_slice(), expected.as_slice());
     Ok(())
 }
 
@@ -403,112 +261,32 @@ fn add_sellers(alloc: Global, venue: &mut Venue, count: u32) -> Option<()>
             Ok(line) => line,
             Err(_) => seller(alloc, k).ok()?,
         };
-        let taken = taken(alloc, k + 1, line.as_bytes())?;
-        let _answer = said(alloc, venue, &taken)?;
+        let _answer = said_at(alloc, venue, k + 1, 0, line.as_bytes())?;
     }
     Some(())
 }
 
-// What is answered to the last of some lines where 200 sells rest.
-fn beside_a_full_side(alloc: Global, lines: &[Line]) -> Option<Vec<u8>>
+// What is answered to some lines where 200 sells rest.
+fn beside_a_full_side(alloc: Global, lines: &[Timed]) -> Option<Vec<u8>>
     requires { length lines.now ≤ 20 }
 {
-    let mut venue = opened(alloc)?;
+    let mut venue = opened_with(alloc, 0)?;
     add_sellers(alloc, &mut venue, 200)?;
-    last_answer(alloc, &mut venue, lines)
-}
-
-fn one_more() -> Line {
-    b"B 35=D|11=b1|55=IRS5Y|54=2|38=1|40=2|44=2.5|"
-}
-
-fn side_full() -> Line {
-    b"B 35=8|37=NONE|17=E201|150=8|39=8|55=IRS5Y|54=2|151=0|14=0|11=b1|103=3|58=Book side full|\n"
-}
-
-fn one_bought() -> Line {
-    b"B 35=D|11=b1|55=IRS5Y|54=1|38=1|40=2|44=2.5|"
-}
-
-fn still_filled() -> Line {
-    b"B 35=8|37=O201|17=E202|150=0|39=0|55=IRS5Y|54=1|151=1|14=0|11=b1|\n\
-B 35=8|37=O201|17=E203|150=F|39=2|55=IRS5Y|54=1|151=0|14=1|11=b1|31=2.5|32=1|880=T1|\n\
-D 35=8|37=O1|17=E204|150=F|39=2|55=IRS5Y|54=2|151=0|14=1|11=d0|31=2.5|32=1|880=T1|\n"
+    all_said(alloc, &mut venue, lines)
 }
 
 #[test]
 fn no_more_rest_on_a_full_side(rt: HostRuntime) -> Result<(), Fail> {
-    let said = beside_a_full_side(rt.alloc(), &[one_more()]).ok_or("memory")?;
-    assert_eq!(rt; said.as_slice(), side_full());
-    Ok(())
-}
-
-#[test]
-fn full_side_fills(rt: HostRuntime) -> Result<(), Fail> {
-    let said = beside_a_full_side(rt.alloc(), &[one_more(), one_bought()]).ok_or("memory")?;
-    assert_eq!(rt; said.as_slice(), still_filled());
-    Ok(())
-}
-
-fn at_once() -> Line {
-    b"G 35=D|11=g3|55=IRS5Y|54=1|38=100|40=2|44=2.5|59=3|"
-}
-
-fn filled_in_part() -> Line {
-    b"G 35=8|37=O2|17=E2|150=0|39=0|55=IRS5Y|54=1|151=100|14=0|11=g3|\n\
-G 35=8|37=O2|17=E3|150=F|39=1|55=IRS5Y|54=1|151=30|14=70|11=g3|31=2.5|32=70|880=T1|\n\
-D 35=8|37=O1|17=E4|150=F|39=2|55=IRS5Y|54=2|151=0|14=70|11=d1|31=2.5|32=70|880=T1|\n\
-G 35=8|37=O2|17=E5|150=4|39=4|55=IRS5Y|54=1|151=0|14=70|11=g3|\n"
-}
-
-#[test]
-fn immediate_order_does_not_rest(rt: HostRuntime) -> Result<(), Fail> {
-    let said = answered(rt.alloc(), &[second_seller(), at_once()]).ok_or("memory")?;
-    assert_eq!(rt; said.as_slice(), filled_in_part());
-    Ok(())
-}
-
-fn look_at_basis() -> Line {
-    b"E 35=V|262=v1|263=0|264=0|267=1|269=0|146=1|55=BASIS1Y|"
-}
-
-fn offer() -> Line {
-    b"E 35=W|262=v1|55=BASIS1Y|268=1|269=1|270=-0.25|271=1|278=O4|\n"
-}
-
-#[test]
-fn offer_is_shown(rt: HostRuntime) -> Result<(), Fail> {
-    let said = then(rt.alloc(), &[look_at_basis()]).ok_or("memory")?;
-    assert_eq!(rt; said.as_slice(), offer());
-    Ok(())
-}
-
-fn look() -> Line {
-    b"E 35=V|262=v2|263=0|264=0|267=1|269=0|146=1|55=IRS5Y|"
-}
-
-fn nothing_rests() -> Line {
-    b"E 35=W|262=v2|55=IRS5Y|268=1|269=J|\n"
-}
-
-#[test]
-fn empty_book_is_shown(rt: HostRuntime) -> Result<(), Fail> {
-    let said = then(rt.alloc(), &[replace(), cancel(), look()]).ok_or("memory")?;
-    assert_eq!(rt; said.as_slice(), nothing_rests());
-    Ok(())
-}
-
-fn subscribe() -> Line {
-    b"E 35=V|262=v3|263=1|264=0|267=1|269=0|146=1|55=IRS5Y|"
-}
-
-fn snapshots_only() -> Line {
-    b"E 35=Y|262=v3|281=4|58=Snapshots only|\n"
-}
-
-#[test]
-fn subscription_is_refused(rt: HostRuntime) -> Result<(), Fail> {
-    let said = answered(rt.alloc(), &[subscribe()]).ok_or("memory")?;
-    assert_eq!(rt; said.as_slice(), snapshots_only());
+    let lines: [Timed; 2] = [
+        (0, b"B 35=D|11=b1|55=IRS5Y|54=2|38=1|40=2|44=2.5|"),
+        (0, b"B 35=D|11=b1|55=IRS5Y|54=1|38=1|40=2|44=2.5|"),
+    ];
+    let said = beside_a_full_side(rt.alloc(), &lines).ok_or("memory")?;
+    let expected =
+        b"B 35=8|37=NONE|17=E201|150=8|39=8|55=IRS5Y|54=2|151=0|14=0|11=b1|103=3|58=Book side full|\n\
+B 35=8|37=O201|17=E202|150=0|39=0|55=IRS5Y|54=1|151=1|14=0|11=b1|\n\
+B 35=8|37=O201|17=E203|150=F|39=2|55=IRS5Y|54=1|151=0|14=1|11=b1|31=2.5|32=1|880=T1|\n\
+D 35=8|37=O1|17=E204|150=F|39=2|55=IRS5Y|54=2|151=0|14=1|11=d0|31=2.5|32=1|880=T1|\n";
+    assert_eq!(rt; said.as_slice(), expected.as_slice());
     Ok(())
 }

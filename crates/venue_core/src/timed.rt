@@ -2,13 +2,13 @@
 ghost use Rattle.std.specs.Prelude.{◌≡◌, ◌≤◌, ◌+◌, length, IfSome};
 ghost use Rattle.venue_core.specs.Plan.{IsPlanOf};
 
-use crate::tests::{Line, after_half_past, applied, opened_with, planned, taken};
+use crate::tests::{after_half_past, applied, opened_with, planned, taken};
 use crate::{Plan, Venue};
 use sef_moment::Moment;
 use std::alloc::Global;
 
-/// A line with the milliseconds after 14:30:00 at which it is taken; the line `tick` is a tick.
-pub(crate) type Timed = (u64, Line);
+/// The milliseconds after 14:30:00 at which a line is taken, and the line; the line `tick` is a tick.
+pub(crate) type Timed = (u64, &'static [u8]);
 
 fn planned_tick(venue: &mut Venue, moment: Moment) -> Option<Plan>
     requires { venue.old.items ≤ 1000 }
@@ -24,14 +24,19 @@ fn planned_tick(venue: &mut Venue, moment: Moment) -> Option<Plan>
     Some(plan)
 }
 
-// What a line is answered; after it the venue has gone on.
-fn said_at(alloc: Global, venue: &mut Venue, number: u32, timed: Timed) -> Option<Vec<u8>>
+/// What a line is answered; after it the venue has gone on.
+pub(crate) fn said_at(
+    alloc: Global,
+    venue: &mut Venue,
+    number: u32,
+    ms: u64,
+    line: &[u8],
+) -> Option<Vec<u8>>
     requires items { venue.old.items ≤ 999 }
     requires number { 1 ≤ number }
     requires few { number ≤ 999 }
     ensures { IfSome result (λ _. venue.new.items ≤ venue.old.items + 1) }
 {
-    let (ms, line) = timed;
     let moment = after_half_past(ms)?;
     if line == b"tick".as_slice() {
         let plan = planned_tick(venue, moment)?;
@@ -42,24 +47,35 @@ fn said_at(alloc: Global, venue: &mut Venue, number: u32, timed: Timed) -> Optio
     applied(alloc, venue, plan)
 }
 
-/// The answers to the last of some lines.
-pub(crate) fn last_said(alloc: Global, venue: &mut Venue, lines: &[Timed]) -> Option<Vec<u8>>
-    requires { venue.old.items + length lines.now ≤ 100 }
+// Appends bytes, at a second try where memory was refused.
+fn append(bytes: &[u8], all: &mut Vec<u8>) -> Option<()> {
+    if all.extend_from_slice(bytes).is_err() {
+        all.extend_from_slice(bytes).ok()?;
+    }
+    Some(())
+}
+
+/// The answers to all of some lines, in order; the first line has number 2.
+pub(crate) fn all_said(alloc: Global, venue: &mut Venue, lines: &[Timed]) -> Option<Vec<u8>>
+    requires { venue.old.items + length lines.now ≤ 900 }
     ensures { IfSome result (λ _. venue.new.items ≤ venue.old.items + length lines.now) }
 {
-    let mut last = Vec::new(alloc);
+    let mut all = Vec::new(alloc);
     let mut number = 1u32;
     for line in lines {
         number += 1;
-        last = said_at(alloc, venue, number, *line)?;
+        let (ms, text) = *line;
+        let said = said_at(alloc, venue, number, ms, text)?;
+        append(&said, &mut all)?;
     }
-    Some(last)
+    Some(all)
 }
 
-/// What is answered to the last of some lines where linked orders wait for 15 seconds.
-pub(crate) fn said_of(alloc: Global, lines: &[Timed]) -> Option<Vec<u8>>
-    requires { length lines.now ≤ 20 }
+/// What is answered to all of some lines where linked orders wait so long, in milliseconds.
+pub(crate) fn said_of(alloc: Global, delay: u64, lines: &[Timed]) -> Option<Vec<u8>>
+    requires delay { delay ≤ 3600000 }
+    requires few { length lines.now ≤ 20 }
 {
-    let mut venue = opened_with(alloc, 15_000)?;
-    last_said(alloc, &mut venue, lines)
+    let mut venue = opened_with(alloc, delay)?;
+    all_said(alloc, &mut venue, lines)
 }

@@ -1,7 +1,8 @@
 //! The venue: its files, its day, and how far it has come.
-ghost use Rattle.std.specs.Prelude.{◌≡◌, ◌≤◌, ◌+◌, IfOk, is_some};
+ghost use Rattle.std.specs.Prelude.{◌≡◌, ◌≤◌, ◌+◌, option_map, IfOk, is_some};
 ghost use Rattle.venue_rules.specs.Delay.{due};
 ghost use Rattle.venue_rules.specs.Facts.{History, no_history};
+ghost use Rattle.venue_rules.specs.Readings.{room_fact, trade_facts};
 ghost use Rattle.venue_rules.specs.Run.{Message, Tick};
 ghost use Rattle.venue_core.specs.Plan.{IsPlanOf, answer_of, most_items};
 ghost use Rattle.venue_core.specs.Standing.{IsAfter, IsAnswer, IsHistory};
@@ -18,7 +19,7 @@ use participants::Participants;
 use sef_moment::Moment;
 use std::alloc::{AllocError, Global};
 use std::marker::Model;
-use venue_rules::Taken;
+use venue_rules::{RoomFact, Taken, TradeFact};
 
 /// A swap execution facility: what it answers to each message, and what has happened on it.
 #[derive(Drop)]
@@ -30,7 +31,7 @@ pub struct Venue {
 }
 
 impl Model for Venue {
-    ghost use Rattle.std.specs.Prelude.{◌≤◌, ◌*◌, ◌+◌};
+    ghost use Rattle.std.specs.Prelude.{◌≤◌, ◌*◌, ◌+◌, length};
     ghost use Rattle.venue_core.specs.Files.{market_of};
     ghost use Rattle.venue_core.specs.Plan.{IsListed, most_items};
     ghost use Rattle.venue_core.specs.State.{State};
@@ -39,7 +40,7 @@ impl Model for Venue {
 
     ghost view = { λ v. record { market = market_of v.market; day = v.day; items = v.items } };
 
-    ghost invariant = { λ v. (v.day.reports ≤ 402 * v.items) × (v.day.trades ≤ 402 * v.items) × (v.items ≤ most_items + 1) × IsListed (market_of v.market) v.day };
+    ghost invariant = { λ v. (v.day.reports ≤ 402 * v.items) × (length v.day.traded.trades ≤ 402 * v.items) × (v.items ≤ most_items + 1) × IsListed (market_of v.market) v.day };
 }
 
 impl Venue {
@@ -84,6 +85,21 @@ impl Venue {
     {
         delay_is_read_alone();
         self.day.held.due(moment).is_some()
+    }
+
+    /// The trades so far, in order: each has its place, from 1, as its number.
+    pub fn trades(&self) -> &[TradeFact]
+        ensures { (h : History) → IsHistory self.now h → result.now ≡ trade_facts h.facts }
+    {
+        self.day.traded.as_slice()
+    }
+
+    /// The room with this number as it is read back, if there was a quote in it: the first of them, and what the requester was
+    /// shown with it.
+    pub fn room(&self, number: u64) -> Option<&RoomFact>
+        ensures { (h : History) → IsHistory self.now h → option_map (λ f. f.now) result ≡ room_fact h.facts number }
+    {
+        self.day.quoted.find(number)
     }
 
     /// What the venue would do at a message taken at a moment; makes room for it. At most 10^15 items came before.

@@ -1,0 +1,5 @@
+pub mod Lists
+pub mod TradeNumbers
+pub mod Finding
+pub mod RoomNumbers
+pub mod RoomReads

@@ -1,0 +1,64 @@
+use Rattle.std.specs.Prelude.{◌≡◌, ℕ, List, [], ◌∷◌, Option, Some, None, slice_get, true}
+use Rattle.venue_rules.specs.declared.facts.Fact.{Fact}
+use Rattle.venue_rules.specs.declared.facts.Fact.TheVariants.{Quoted}
+use Rattle.venue_rules.specs.declared.facts.Room.{Room}
+use Rattle.venue_rules.specs.declared.facts.RoomQuote.{RoomQuote}
+use Rattle.venue_rules.specs.declared.replies.PictureEntry.{PictureEntry}
+use Rattle.venue_rules.specs.declared.replies.Reply.{Reply}
+use Rattle.venue_rules.specs.declared.replies.What.{What}
+use Rattle.venue_rules.specs.declared.replies.What.TheVariants.{Prices, QuoteSent}
+use Rattle.venue_rules.specs.declared.trail.RoomFact.{RoomFact}
+use Rattle.venue_rules.specs.Book.{picture}
+use Rattle.venue_rules.specs.Rooms.{find_room, first_quote, room_by_number}
+use Rattle.rfq_room.specs.RoomFacts.{room_facts}
+use Rattle.read_back.specs.Quoted.{room_shown}
+use Rattle.read_back.specs.ReadOf.{are_later}
+
+-- What is read back of a quote that is the first of its room.
+
+-- these facts, added to those, are the first quote of a room; what is read back of it is the room, with what rests in the book
+pub record IsFirstQuote (facts added : List Fact) (read : RoomFact) : Type 0 where
+  pub asked : Room
+  pub quote : RoomQuote
+  pub made : added ≡ Quoted quote ∷ []
+  pub room : room_by_number (room_facts facts) quote.room ≡ Some asked
+  pub first : first_quote (room_facts facts) quote.room ≡ None
+  pub shown : read ≡ room_shown asked quote.number (picture facts asked.instrument)
+
+-- this is read back of the facts added to those: nothing where no quote among them is the first of its room
+abbrev pub IsReadWith : List Fact → List Fact → Option RoomFact → Type 0
+IsReadWith facts added None = are_later (room_facts facts) (room_facts added) ≡ true
+IsReadWith facts added (Some read) = IsFirstQuote facts added read
+
+-- how many rooms that is, and which
+abbrev pub read_count : Option RoomFact → ℕ
+read_count None = 0
+read_count (Some read) = 1
+
+abbrev pub rooms_of : Option RoomFact → List RoomFact
+rooms_of None = []
+rooms_of (Some read) = read ∷ []
+
+-- Read off the replies to a quote: the first of a room is answered to its maker, then come the picture of the book and the quote itself.
+
+abbrev pub picture_in : What → Option (List PictureEntry)
+picture_in (Prices p) = Some p.entries
+picture_in _ = None
+
+abbrev pub number_in : What → Option ℕ
+number_in (QuoteSent q) = Some q.quote
+number_in _ = None
+
+abbrev pub in_reply : {X : Type 0} → (What → Option X) → Option Reply → Option X
+in_reply f None = None
+in_reply f (Some r) = f r.what
+
+abbrev pub read_in : Option (List PictureEntry) → Option ℕ → Option Room → Option RoomFact
+read_in None number room = None
+read_in (Some entries) None room = None
+read_in (Some entries) (Some number) None = None
+read_in (Some entries) (Some number) (Some r) = Some (room_shown r number entries)
+
+-- what is read back of a quote that names a room by this identifier, by the replies to it
+abbrev pub quote_read : List Fact → List ℕ → List Reply → Option RoomFact
+quote_read rooms id replies = read_in (in_reply picture_in (slice_get replies 1)) (in_reply number_in (slice_get replies 2)) (find_room rooms id)
