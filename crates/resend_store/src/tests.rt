@@ -88,3 +88,15 @@ fn one_refused_growth(rt: HostRuntime) -> Result<(), Fail> {
     assert_eq!(rt; store.add_admin(2), Ok(()));
     Ok(())
 }
+
+// So it does of a mark alone.
+#[test]
+fn one_refused_mark(rt: HostRuntime) -> Result<(), Fail> {
+    let mut store = Store::new(rt.alloc());
+    if store.add_admin(1) == Err(StoreFault::NoMemory) {
+        assert_eq!(rt; store.range(1, 0).len(), 0);
+        assert_eq!(rt; store.add_admin(1), Ok(()));
+    }
+    assert_eq!(rt; store.range(1, 0).len(), 1);
+    Ok(())
+}
