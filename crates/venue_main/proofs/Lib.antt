@@ -1,8 +1,8 @@
-pub mod Bodies
 pub mod Counts
 pub mod Hearing
+pub mod Outcomes
 pub mod Reading
 pub mod Sending
-pub mod Standing
-pub mod Unique
-pub mod Wiring
+pub mod Stepping
+pub mod Taking
+pub mod Turning

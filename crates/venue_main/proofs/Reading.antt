@@ -1,98 +1,209 @@
--- The beginning of a run, and its ends.
-use Rattle.std.proofs.Common.{◌≡◌, ℕ, List, [], ◌++◌, Option, Result, Ok, Err, OnOk, IfErr, IfSome, refl, sym, ap, ◌∙◌, subst, append-nil, arith}
+-- The beginning of a run, a piece more that is read, and its ends.
+use Rattle.std.proofs.Common.{◌≡◌, ℕ, ◌+◌, ◌≤◌, length, List, [], ◌∷◌, ◌++◌, max, Bool, true, false, if◌then◌else◌, Option, IfSome, refl, sym, ap, ◌∙◌, subst, append-nil, length-append, length-drop, arith}
 use Rattle.std.specs.Io.KnownBytes.{Appends, Consumes, IsAtEnd, Keeps}
-use Rattle.std.proofs.KnownBytes.{Appends-kept, Appends-nil, Consumes-nil, Consumes-whole}
-use Rattle.fix_frame.specs.Buffered.{Buffered}
-use Rattle.fix_frame.specs.Stream.{HasOneList, Reads}
+use Rattle.std.proofs.KnownBytes.{Appends-kept, Appends-nil, Consumes-nil, Consumes-trans, Consumes-whole}
+use Rattle.fix_session.specs.declared.comp_ids.CompIds.{CompIds}
+use Rattle.fix_session.specs.Chain.{accepted}
+use Rattle.fix_session.specs.Machine.{pushed}
+use Rattle.fix_session.specs.Reader.{Reader, settled}
+use Rattle.fix_session.specs.Runs.{Event, History, Resume, begin, happens, run}
+use Rattle.fix_session.specs.Sent.{apps}
+use Rattle.fix_session.specs.State.{State, fresh, resumed}
 use Rattle.venue_rules.specs.Facts.{no_history}
 use Rattle.venue_rules.specs.Market.{Market}
 use Rattle.venue_core.specs.Standing.{IsHistory}
-use Rattle.venue_core.specs.State.{State}
-use Rattle.venue_main.specs.Answering.{Stands}
-use Rattle.venue_main.specs.Once.{AnswersFront, AnswersStream, Stopped, UnlessOutput}
-use Rattle.venue_main.specs.Outgoing.{Outgoing}
-use Rattle.venue_main.specs.Wire.{line_to}
-use Rattle.venue_main.specs.declared.once.OnceFault.{OnceFault}
-use Rattle.venue_main.specs.declared.once.OnceFault.TheVariants.{Memory, Input as BadInput, Output}
-use Rattle.venue_main.proofs.Hearing.{OneList}
-use Rattle.venue_main.proofs.Unique.{one_answer}
+use Rattle.venue_core.specs.State.{State as Venue}
+use Rattle.venue_main.specs.Course.{Goes, Halts, IsEnd, IsMore, IsSoFar, Stands}
+use Rattle.venue_main.specs.Once.{AnswersStream, Stopped}
+use Rattle.venue_main.specs.Turns.{Course, IsAnswered, IsHeardOut, Leads, Reads, Turn, after, connected, first_ids, read}
+use Rattle.venue_main.proofs.Turning.{are_calls, goes-nil, goes-one, goes-so, goes-still, goes-then}
 
-pub unless_any : (fault : OnceFault) (P : Type 0) → P → UnlessOutput fault P
-unless_any Memory P p = p
-unless_any BadInput P p = p
-unless_any Output P p = tt
+-- nothing has happened at first
+pub stands_at_first : (r : Reader) (m : Market) (t : ℕ) (s s1 : State) (venue : Venue) (w : Option (List ℕ)) → s ≡ fresh (first_ids m.participants) → s1 ≡ resumed s (max s.line.moment t)
+    → venue.market ≡ m → IsHistory venue no_history → Stands m t (connected r m t) s1 venue w w
+unfolding connected
+stands_at_first r m t s s1 venue w new up market history =
+    let is : s1 ≡ (connected r m t).session.session = up ∙ ap (λ (x : State). resumed x (max x.line.moment t)) new in
+    record {
+      at = record { is = is; stands = record { market = market; history = history }; owes = refl };
+      answered = record { taken = ap (λ (x : State). x.ready) is; written = ap (λ (x : State). x.wire) is };
+      written = Appends-nil w;
+    }
 
-pub on_ok : {X E : Type 0} (r : Result X E) (P : Type 0) → P → OnOk r P
-on_ok (Ok x) P p = p
-on_ok (Err e) P p = tt
+-- nothing is unread or ready at first
+pub few_at_first : (m : Market) (s s1 : State) (at : ℕ) → s ≡ fresh (first_ids m.participants) → s1 ≡ resumed s at → length s1.ready + length s1.unread ≡ 0
+few_at_first m s s1 at new up =
+    let all : s1 ≡ resumed (fresh (first_ids m.participants)) at = up ∙ ap (λ (x : State). resumed x at) new in
+    ap (λ (x : State). length x.ready + length x.unread) all
 
-pub if_err : {X E : Type 0} (r : Result X E) (P : E → Type 0) → ((e : E) → P e) → IfErr r P
-if_err (Ok x) P p = tt
-if_err (Err e) P p = p e
+-- what bytes that come leave as it was
+record Kept (s s' : State) : Type 0 where
+  pub ready : s'.ready ≡ s.ready
+  pub wire : s'.wire ≡ s.wire
+  pub apps : apps s'.entries ≡ apps s.entries
 
-pub reads_nothing : Reads [] [] []
-reads_nothing = (0, record { within = omega arith; never = λ k below may. absurd (omega arith) }, refl)
+kept_if : (up : Bool) (s : State) (unread : List ℕ) → Kept s (if up then record s { unread = unread } else s)
+kept_if true s unread = record { ready = refl; wire = refl; apps = refl }
+kept_if false s unread = record { ready = refl; wire = refl; apps = refl }
 
--- before anything is read
-pub stopped_at_once : (market : Market) (t : ℕ) (left written : Option (List ℕ)) → Stopped market t left left written written
-stopped_at_once market t left written = record {
+stands_read : (r : Reader) (m : Market) (t : ℕ) (b : Course) (piece : List ℕ) (s s1 : State) (venue : Venue) (first w : Option (List ℕ)) → s1 ≡ pushed r s piece
+    → Stands m t b s venue first w → Stands m t (after r m t b (Reads piece)) s1 venue first w
+unfolding after
+stands_read r m t b piece s s1 venue first w is stands =
+    let kept = kept_if b.session.session.line.up b.session.session (settled r (b.session.session.unread ++ piece)) in
+    let is_pushed : s1 ≡ pushed r b.session.session piece = is ∙ ap (λ (x : State). pushed r x piece) stands.at.is in
+    record {
+      at = record { is = is_pushed; stands = stands.at.stands; owes = kept.apps ∙ stands.at.owes };
+      answered = record {
+        taken = ap (λ (x : State). x.ready) is_pushed ∙ kept.ready ∙ ap (λ (x : State). x.ready) (sym stands.at.is) ∙ stands.answered.taken;
+        written = ap (λ (x : State). x.wire) is_pushed ∙ kept.wire ∙ ap (λ (x : State). x.wire) (sym stands.at.is) ∙ stands.answered.written;
+      };
+      written = subst (λ (l : List ℕ). Appends first w l) (sym (append-nil b.written)) stands.written;
+    }
+
+few_if : (up : Bool) (s : State) (unread : List ℕ) (n : ℕ) → length unread ≤ length s.unread + n → length (if up then record s { unread = unread } else s).ready + length (if up then record s { unread = unread } else s).unread ≤ length s.ready + (length s.unread + n)
+few_if true s unread n few = omega (arith, few)
+few_if false s unread n few = omega arith
+
+pub few_pushed : (r : Reader) (s s1 : State) (piece : List ℕ) → s1 ≡ pushed r s piece → length s1.ready + length s1.unread ≤ length s.ready + (length s.unread + length piece)
+few_pushed r s s1 piece is =
+    let all = s.unread ++ piece in
+    let rest = length-drop (r.front all).passed all in
+    let same = ap (λ (x : State). length x.ready + length x.unread) is in
+    let few = few_if s.line.up s (settled r all) (length piece) (omega (arith, rest, length-append s.unread piece)) in
+    omega (arith, same, few)
+
+-- a piece more is read
+pub goes_on_read : (r : Reader) (m : Market) (t : ℕ) (b : Course) (piece : List ℕ) (s s1 : State) (venue : Venue) (first w : Option (List ℕ)) → s1 ≡ pushed r s piece
+    → IsHeardOut r s → Stands m t b s venue first w → Goes r m t b piece (λ c. Stands m t c s1 venue first w)
+goes_on_read r m t b piece s s1 venue first w is heard stands =
+    let P : Course → Type 0 = λ c. Stands m t c s1 venue first w in
+    let heard_there : IsHeardOut r b.session.session = subst (IsHeardOut r) stands.at.is heard in
+    let answered_there : IsAnswered b.session.session = subst IsAnswered stands.at.is stands.answered in
+    subst (λ (l : List ℕ). Goes r m t b l P) (append-nil piece)
+    (goes-one r m t b (Reads piece) P (heard_there, answered_there) (stands_read r m t b piece s s1 venue first w is stands))
+
+-- what is accepted was taken, where nothing is ready
+abbrev pub TakenThenReady : Type 0
+TakenThenReady = (r : Reader) (ids : CompIds) (events : List Event) → (run r events (begin ids)).taken ++ (run r events (begin ids)).session.ready ≡ accepted (run r events (begin ids)).heard
+
+all_calls : (r : Reader) (m : Market) (t : ℕ) (b : Course) (turns : List Turn) → Leads r m t (connected r m t) turns b → (events : List Event) × (b.session ≡ run r events (begin (first_ids m.participants)))
+unfolding connected
+all_calls r m t b turns leads = let events = are_calls r m t (connected r m t) b turns leads in (Resume t ∷ events.0, events.1)
+
+all_taken : TakenThenReady → (r : Reader) (ids : CompIds) (h : History) (events : List Event) → h ≡ run r events (begin ids) → h.session.ready ≡ [] → h.taken ≡ accepted h.heard
+all_taken law r ids h events is none =
+    let all : h.taken ++ h.session.ready ≡ accepted h.heard =
+    subst (λ (x : History). x.taken ++ x.session.ready ≡ accepted x.heard) (sym is) (law r ids events) in
+    sym (append-nil h.taken) ∙ ap (λ l. h.taken ++ l) (sym none) ∙ all
+
+-- nothing is read so far
+pub so_far_none : (t : ℕ) (s : State) (venue : Venue) (left held : Option (List ℕ)) → IsSoFar t s venue left held s venue left held
+so_far_none t s venue left held = record {
   heard = [];
-  unheard = [];
-  output = [];
   consumed = Consumes-nil left;
-  front = ([], [], reads_nothing, ([], refl, refl));
-  appended = Appends-nil written;
+  goes = λ r m first a stands. goes-nil r m t a (λ b. Stands m t b s venue first held) stands;
 }
 
--- where all that was read was heard
-pub stopped_after : (market : Market) (t : ℕ) (left left' written written' : Option (List ℕ)) (heard output : List ℕ) → Consumes left left' heard → AnswersFront market t heard output → Appends written written' output → Stopped market t left left' written written'
-stopped_after market t left left' written written' heard output consumed front appended = record {
-  heard = heard;
-  unheard = [];
-  output = output;
-  consumed = subst (Consumes left left') (sym (append-nil heard)) consumed;
-  front = front;
-  appended = appended;
+-- what the frames of what is unread lead to
+abbrev pub Answers : ℕ → State → Venue → Option (List ℕ) → State → Venue → Option (List ℕ) → Type 0
+Answers t s venue held s' venue' held' = (r : Reader) (m : Market) (first : Option (List ℕ)) (a : Course) → Stands m t a s venue first held
+    → Goes r m t a [] (λ b. Stands m t b s' venue' first held' × IsHeardOut r s')
+
+-- a piece more
+pub so_far_more : (t : ℕ) (s0 : State) (v0 : Venue) (left0 held0 : Option (List ℕ)) (s s1 s2 : State) (v v1 : Venue) (left left' held held' : Option (List ℕ))
+    → IsSoFar t s0 v0 left0 held0 s v left held → Answers t s v held s1 v1 held' → IsMore s1 s2 left left' → IsSoFar t s0 v0 left0 held0 s2 v1 left' held'
+so_far_more t s0 v0 left0 held0 s s1 s2 v v1 left left' held held' so_far answers more = record {
+  heard = so_far.heard ++ more.piece;
+  consumed = Consumes-trans left0 left left' so_far.heard more.piece so_far.consumed more.consumed;
+  goes = λ r m first a stands.
+      goes-then r m t a so_far.heard more.piece (λ b. Stands m t b s v first held) (λ b. Stands m t b s2 v1 first held') (so_far.goes r m first a stands)
+      (λ b stands.
+      goes-then r m t b [] more.piece (λ d. Stands m t d s1 v1 first held' × IsHeardOut r s1) (λ d. Stands m t d s2 v1 first held') (answers r m first b stands)
+      (λ d last. goes_on_read r m t d more.piece s1 s2 v1 first held' (more.heard r) last.1 last.0));
 }
 
 -- at the end of the input
-pub ended_well : (market : Market) (t : ℕ) (left left' written mid written' : Option (List ℕ)) (heard taken output : List ℕ) → taken ≡ [] → Consumes left left' (heard ++ taken) → IsAtEnd left'
-    → AnswersStream market t heard output → Appends written mid output → Keeps mid written'
-    → IfSome left (λ input. (out : List ℕ) × AnswersStream market t input out × Appends written written' out)
-ended_well market t left left' written mid written' heard taken output none consumed end answers appended kept =
-    let all : heard ++ taken ≡ heard = ap (λ (l : List ℕ). heard ++ l) none ∙ append-nil heard in
-    Consumes-whole left left' heard (λ input. (out : List ℕ) × AnswersStream market t input out × Appends written written' out)
-    (subst (Consumes left left') all consumed) end (output, answers, Appends-kept written mid written' output appended kept)
+pub so_far_ended : (t : ℕ) (s0 : State) (v0 : Venue) (left0 held0 : Option (List ℕ)) (s s1 s2 : State) (v v1 : Venue) (left left' held mid held' : Option (List ℕ))
+    → IsSoFar t s0 v0 left0 held0 s v left held → Answers t s v held s1 v1 mid → IsEnd s1 s2 left left' → Keeps mid held'
+    → (r : Reader) (m : Market) (first : Option (List ℕ)) (a : Course) → Stands m t a s0 v0 first held0
+    → IfSome left0 (λ input. Goes r m t a input (λ b. Stands m t b s2 v1 first held' × IsHeardOut r s2))
+so_far_ended t s0 v0 left0 held0 s s1 s2 v v1 left left' held mid held' so_far answers end kept r m first a stands =
+    let P : State → Course → Type 0 = λ x b. Stands m t b x v1 first held' × IsHeardOut r x in
+    let all : so_far.heard ++ [] ≡ so_far.heard = append-nil so_far.heard in
+    let consumed : Consumes left0 left' so_far.heard = subst (Consumes left0 left') all (Consumes-trans left0 left left' so_far.heard [] so_far.consumed end.consumed) in
+    let goes : Goes r m t a so_far.heard (P s1) =
+    goes-still r m t a so_far.heard (λ b. Stands m t b s v first held) (P s1) (so_far.goes r m first a stands)
+    (λ b stands.
+    goes-so r m t b [] (λ d. Stands m t d s1 v1 first mid × IsHeardOut r s1) (P s1) (answers r m first b stands)
+    (λ d last. (record { at = last.0.at; answered = last.0.answered; written = Appends-kept first mid held' d.written last.0.written kept }, last.1))) in
+    Consumes-whole left0 left' so_far.heard (λ input. Goes r m t a input (P s2)) consumed end.ends (subst (λ (x : State). Goes r m t a so_far.heard (P x)) (sym end.same) goes)
 
-pub ended_alone : HasOneList → OneList → (market : Market) (t : ℕ) (left left' written mid written' : Option (List ℕ)) (heard taken output : List ℕ) → taken ≡ [] → Consumes left left' (heard ++ taken) → IsAtEnd left'
-    → AnswersStream market t heard output → Appends written mid output → Keeps mid written'
-    → IfSome left (λ input. (other : List ℕ) → AnswersStream market t input other → Appends written written' other)
-ended_alone frames one market t left left' written mid written' heard taken output none consumed end answers appended kept =
-    let all : heard ++ taken ≡ heard = ap (λ (l : List ℕ). heard ++ l) none ∙ append-nil heard in
-    Consumes-whole left left' heard (λ input. (other : List ℕ) → AnswersStream market t input other → Appends written written' other)
-    (subst (Consumes left left') all consumed) end
-    (λ other answers'. subst (Appends written written') (one_answer frames one market t heard output other answers answers') (Appends-kept written mid written' output appended kept))
-
--- nothing has happened at first
-pub stands_at_first : (market : Market) (t : ℕ) (venue : State) (cutter : Buffered) (outbox : Outgoing) → venue.market ≡ market → IsHistory venue no_history
-    → cutter.unread ≡ [] → outbox ≡ record { line = line_to market.participants 0 t; next = 1; frames = [] }
-    → Stands market t cutter.unread venue outbox [] []
-stands_at_first market t venue cutter outbox market_is history empty first = record {
-  bodies = [];
-  items = [];
-  reads = subst (Reads [] []) (sym empty) reads_nothing;
-  all = refl;
-  stands = record {
-    venue_stands = record { market = market_is; history = history };
-    line = ap (λ (o : Outgoing). o.line) first;
-    answers = refl;
-    next = ap (λ (o : Outgoing). o.next) first;
-  };
+-- where a run stops behind what was heard
+pub so_far_halts : (t : ℕ) (s0 : State) (v0 : Venue) (left0 held0 : Option (List ℕ)) (s : State) (v : Venue) (left left' held held' : Option (List ℕ)) (unheard : List ℕ)
+    → IsSoFar t s0 v0 left0 held0 s v left held → Consumes left left' unheard
+    → (r : Reader) (m : Market) (first : Option (List ℕ))
+    → ((b : Course) → Stands m t b s v first held → Goes r m t b [] (λ d. Appends first held' d.written))
+    → (a : Course) → Stands m t a s0 v0 first held0 → Halts r m t a left0 left' first held'
+so_far_halts t s0 v0 left0 held0 s v left left' held held' unheard so_far consumed r m first goes a stands = record {
+  heard = so_far.heard;
+  unheard = unheard;
+  consumed = Consumes-trans left0 left left' so_far.heard unheard so_far.consumed consumed;
+  goes = goes-still r m t a so_far.heard (λ b. Stands m t b s v first held) (λ d. Appends first held' d.written) (so_far.goes r m first a stands) goes;
 }
 
--- a piece more is heard
-pub piece_heard : (market : Market) (t : ℕ) (unread unread' : List ℕ) (venue : State) (outbox : Outgoing) (heard piece output : List ℕ)
-    → ((bodies : List (List ℕ)) → Reads heard bodies unread → Reads (heard ++ piece) bodies unread')
-    → Stands market t unread venue outbox heard output → Stands market t unread' venue outbox (heard ++ piece) output
-piece_heard market t unread unread' venue outbox heard piece output read s =
-    record { bodies = s.bodies; items = s.items; reads = read s.bodies s.reads; all = s.all; stands = s.stands }
+-- what was answered is written
+pub answers_written : (t : ℕ) (s s' : State) (v v' : Venue) (held mid held' : Option (List ℕ)) → Answers t s v held s' v' mid → Keeps mid held'
+    → (r : Reader) (m : Market) (first : Option (List ℕ)) (b : Course) → Stands m t b s v first held → Goes r m t b [] (λ d. Appends first held' d.written)
+answers_written t s s' v v' held mid held' answers kept r m first b stands =
+    goes-so r m t b [] (λ d. Stands m t d s' v' first mid × IsHeardOut r s') (λ d. Appends first held' d.written) (answers r m first b stands)
+    (λ d last. Appends-kept first mid held' d.written last.0.written kept)
+
+-- a whole stream
+pub answers_stream : TakenThenReady → (r : Reader) (m : Market) (t : ℕ) (s : State) (venue : Venue) (first held : Option (List ℕ)) (input : List ℕ)
+    → Goes r m t (connected r m t) input (λ b. Stands m t b s venue first held × IsHeardOut r s)
+    → (output : List ℕ) × AnswersStream r m t input output × Appends first held output
+answers_stream law r m t s venue first held input goes =
+    let b = goes.last in
+    let stands = goes.comes.0 in
+    let answered : IsAnswered b.session.session = subst IsAnswered stands.at.is stands.answered in
+    let events = all_calls r m t b goes.turns goes.leads in
+    let answers : AnswersStream r m t input b.written = record {
+      turns = goes.turns;
+      last = b;
+      leads = goes.leads;
+      read_all = goes.reads;
+      heard = subst (IsHeardOut r) stands.at.is goes.comes.1;
+      answered = answered;
+      events = events.0;
+      runs = events.1;
+      takes = all_taken law r (first_ids m.participants) b.session events.0 events.1 answered.taken;
+      owes = stands.at.owes;
+      written = refl;
+    } in
+    (b.written, answers, stands.written)
+
+-- where a run stops
+pub stopped_at : (r : Reader) (m : Market) (t : ℕ) (left left' written written' : Option (List ℕ)) → Halts r m t (connected r m t) left left' written written' → Stopped r m t left left' written written'
+stopped_at r m t left left' written written' h = record {
+  turns = h.goes.turns;
+  last = h.goes.last;
+  unheard = h.unheard;
+  leads = h.goes.leads;
+  consumed = subst (λ (l : List ℕ). Consumes left left' (l ++ h.unheard)) (sym h.goes.reads) h.consumed;
+  appended = h.goes.comes;
+}
+
+written_none : (r : Reader) (m : Market) (t : ℕ) (w : Option (List ℕ)) → Appends w w (connected r m t).written
+unfolding connected
+written_none r m t w = Appends-nil w
+
+-- before anything is read
+pub stopped_at_once : (r : Reader) (m : Market) (t : ℕ) (left written : Option (List ℕ)) → Stopped r m t left left written written
+stopped_at_once r m t left written =
+    stopped_at r m t left left written written (record {
+      heard = [];
+      unheard = [];
+      consumed = Consumes-nil left;
+      goes = goes-nil r m t (connected r m t) (λ b. Appends written written b.written) (written_none r m t written);
+    })

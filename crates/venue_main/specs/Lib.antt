@@ -1,13 +1,11 @@
--- what is heard in a stream
-pub mod Heard
--- what goes out
-pub mod Wire
+-- what is told for a message
+pub mod Answering
+-- the turns of a run
+pub mod Turns
 -- what a whole run writes
 pub mod Once
--- what callers see of an outbox
-pub mod Outgoing
--- one message answered, and how far a run has come
-pub mod Answering
+-- the program at a point of its run
+pub mod Course
 -- the statuses of the program
 pub mod Failures
 -- what is said of the two files

@@ -1,52 +1,42 @@
 -- What a run over one stream writes.
-use Rattle.std.specs.Prelude.{◌≡◌, ℕ, List, ◌++◌, map, Option}
+use Rattle.std.specs.Prelude.{◌≡◌, ℕ, List, ◌++◌, Option}
 use Rattle.std.specs.Io.KnownBytes.{Appends, Consumes}
-use Rattle.fix_frame.specs.Stream.{Reads, Frames}
-use Rattle.fix_dictionary.specs.declared.messages.Item.{Item}
+use Rattle.fix_session.specs.Chain.{accepted}
+use Rattle.fix_session.specs.Reader.{Reader}
+use Rattle.fix_session.specs.Runs.{Event, begin, run}
+use Rattle.fix_session.specs.Sent.{apps}
 use Rattle.venue_rules.specs.Market.{Market}
-use Rattle.venue_rules.specs.Run.{Input, Message, Outcome, run}
-use Rattle.venue_main.specs.Heard.{AllHeard}
-use Rattle.venue_main.specs.Wire.{line_to, said, wire}
+use Rattle.venue_rules.specs.Run.{owed}
+use Rattle.venue_main.specs.Answering.{taken}
+use Rattle.venue_main.specs.Turns.{Course, IsAnswered, IsHeardOut, Leads, Turn, connected, first_ids, read}
 use Rattle.venue_main.specs.declared.once.OnceFault.{OnceFault}
 use Rattle.venue_main.specs.declared.once.OnceFault.TheVariants.{Memory, Input as BadInput, Output}
 
--- a message is taken from the first participant, at t
-abbrev pub taken_at : ℕ → Item → Input
-taken_at t item = Message (record { from = 0; item = item }) t
+-- What is written for a whole stream: turns read it, up to where all is heard, answered and written. The session made these
+-- calls; what was taken from it is what it accepted of all that it heard, and the application messages that it numbered for the
+-- participant are those that the rules' run of what was taken owes it.
+pub record AnswersStream (r : Reader) (market : Market) (t : ℕ) (input output : List ℕ) : Type 0 where
+  pub turns : List Turn
+  pub last : Course
+  pub leads : Leads r market t (connected r market t) turns last
+  pub read_all : read turns ≡ input
+  pub heard : IsHeardOut r last.session.session
+  pub answered : IsAnswered last.session.session
+  pub events : List Event
+  pub runs : last.session ≡ run r events (begin (first_ids market.participants))
+  pub takes : last.session.taken ≡ accepted last.session.heard
+  pub owes : apps last.session.session.entries ≡ owed market 0 (taken t last.session.taken)
+  pub written : last.written ≡ output
 
--- and so is each of these
-abbrev pub taken : ℕ → List Item → List Input
-taken t items = map (taken_at t) items
-
--- what the rules say of these messages: the history that they make, and all replies
-abbrev pub outcome : Market → ℕ → List Item → Outcome
-outcome market t items = run market (taken t items)
-
--- what these messages have the venue say to the first participant, as it goes out
-abbrev pub written_for : Market → ℕ → List Item → List ℕ
-written_for market t items = wire (line_to market.participants 0 t) 1 (said 0 (outcome market t items).replies)
-
--- what is written for these bodies: the frames of the replies to what is heard in them
-abbrev pub Answers : Market → ℕ → List (List ℕ) → List ℕ → Type 0
-Answers market t bodies output = (items : List Item) × AllHeard bodies items × (output ≡ written_for market t items)
-
--- what is written for a whole stream: the answers to its frames
-abbrev pub AnswersStream : Market → ℕ → List ℕ → List ℕ → Type 0
-AnswersStream market t input output = (bodies : List (List ℕ)) × Frames input bodies × Answers market t bodies output
-
--- what was written for a stream that was left off: the answers to frames at its front
-abbrev pub AnswersFront : Market → ℕ → List ℕ → List ℕ → Type 0
-AnswersFront market t input output = (bodies : List (List ℕ)) × (rest : List ℕ) × Reads input bodies rest × Answers market t bodies output
-
--- What stands where a run stops: some bytes were heard, and perhaps the piece behind them was not; to frames at their
--- front the answers were written, and nothing else.
-pub record Stopped (market : Market) (t : ℕ) (left left' written written' : Option (List ℕ)) : Type 0 where
-  pub heard : List ℕ
+-- What stands where a run stops: turns read some bytes, and perhaps the piece behind them was not heard; what they wrote was
+-- written, and nothing else.
+pub record Stopped (r : Reader) (market : Market) (t : ℕ) (left left' written written' : Option (List ℕ)) : Type 0 where
+  pub turns : List Turn
+  pub last : Course
   pub unheard : List ℕ
-  pub output : List ℕ
-  pub consumed : Consumes left left' (heard ++ unheard)
-  pub front : AnswersFront market t heard output
-  pub appended : Appends written written' output
+  pub leads : Leads r market t (connected r market t) turns last
+  pub consumed : Consumes left left' (read turns ++ unheard)
+  pub appended : Appends written written' last.written
 
 -- the fact, unless the output failed
 abbrev pub UnlessOutput : OnceFault → Type 0 → Type 0

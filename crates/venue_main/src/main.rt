@@ -6,10 +6,8 @@ mod check;
 mod command_line;
 mod failure;
 mod files;
-mod heard;
 mod market;
 mod once;
-mod outbox;
 
 pub use check::{CheckFault, check};
 use command_line::{Task, task_given};

@@ -1,6 +1,6 @@
 use Rattle.std.proofs.KnownBytes.{Appends-kept}
 use Rattle.venue_main.specs.Check.{counted}
-use Rattle.venue_main.proofs.Reading.{on_ok}
+use Rattle.venue_main.proofs.Outcomes.{on_ok}
 use Rattle.venue_main.proofs.check.write_counts.Goals as goal
 
 pub returns : goal.returns
