@@ -11,12 +11,13 @@ ghost use Rattle.fix_dictionary.specs.Messages.{entry_type, market_data_entry, m
 
 use crate::lists::{EntryTypes, MarketDataEntries};
 use crate::messages::{MarketDataEntry, MarketDataRequest, MarketDataSnapshot};
-use crate::places::{Standing, begins, part};
+use crate::places::{Part, Standing, begins, part};
 use crate::reading::{
     character, identifier, number, optional_amount, optional_identifier, optional_price,
 };
 use crate::values::{FixChar, Identifier};
 use fix_fields::Field;
+use smallvec::SmallVec;
 use std::alloc::{AllocError, Global};
 
 fn market_data_entry(alloc: Global, fields: &[Field]) -> Result<MarketDataEntry, AllocError>
@@ -65,13 +66,13 @@ fn sole<'a>(
     alloc: Global,
     placed: &[Standing<'a>],
     first: u32,
-) -> Result<Vec<Field<'a>>, AllocError>
+) -> Result<Part<'a>, AllocError>
     ensures { IfOk result (λ fields. entries fields.items ≡ sole first (places placed.now)) }
 {
     let begins = begins(alloc, placed, first, 0)?;
     match begins.as_slice() {
         [begin, ..] => part(alloc, placed, *begin),
-        [] => Ok(Vec::new(alloc)),
+        [] => Ok(SmallVec::new(alloc)),
     }
 }
 

@@ -29,7 +29,7 @@ pub use messages::{
     OrderCancelRequest, Party, Quote, QuoteCancel, QuoteRequest, QuoteRequestReject, QuoteResponse,
     QuoteStatusReport, Reject, ResendRequest, SequenceReset, TestRequest,
 };
-pub use print::{print_app, print_message};
+pub use print::{BodyRef, print_app, print_message, print_parts};
 pub use read::{printed_is_read, printed_is_short, read_app, read_message, spelled_or_faulty};
 pub use values::{
     Amount, FixChar, FixInt, HeartbeatInterval, Identifier, NewSequenceNumber, OtherKind, Price,

@@ -5,13 +5,15 @@ ghost use Rattle.fix_dictionary.specs.Places.{group_of, first_tag, is_count, ope
 
 use crate::table::Row;
 use fix_fields::Field;
+use smallvec::SmallVec;
 use std::alloc::{AllocError, Global};
 
 /// Where a field stands. Part 0 of a message is what is outside of its groups; each instance of a group is a part, numbered
 /// in the order in which they begin.
-#[derive(Clone, Copy)]
+#[derive(Clone, Copy, Default)]
 pub(crate) enum Stand {
     /// nowhere: its tag is not named
+    #[default]
     Aside,
     /// in this part
     Within(usize),
@@ -58,11 +60,20 @@ pub(crate) struct Membership {
 }
 
 /// A field, and where it stands.
-#[derive(Clone, Copy)]
+#[derive(Clone, Copy, Default)]
 pub(crate) struct Standing<'a> {
     pub field: Field<'a>,
     pub stand: Stand,
 }
+
+/// The fields of a message, with where they stand. Up to 64 take no memory.
+pub(crate) type Placed<'a> = SmallVec<Standing<'a>, 64>;
+
+/// The fields of a part. Up to 24 take no memory.
+pub(crate) type Part<'a> = SmallVec<Field<'a>, 24>;
+
+/// Parts, by their numbers. Up to 16 take no memory.
+pub(crate) type PartNumbers = SmallVec<usize, 16>;
 
 // The group that a table puts a tag in, 0 for none, if it names the tag.
 pub(crate) fn group_of(tag: u32, rows: &[Row]) -> Option<u32>
@@ -291,10 +302,10 @@ pub(crate) fn placed<'a>(
     header: &[Row],
     rows: &[Row],
     fields: &[Field<'a>],
-) -> Result<Vec<Standing<'a>>, AllocError>
+) -> Result<Placed<'a>, AllocError>
     ensures { IfOk result (λ all. places all.items ≡ placed header.now rows.now start (entries fields.now)) }
 {
-    let mut all = Vec::new(alloc);
+    let mut all = SmallVec::new(alloc);
     let mut state = State {
         begun: 0,
         outer: None,
@@ -325,10 +336,10 @@ pub(crate) fn part<'a>(
     alloc: Global,
     placed: &[Standing<'a>],
     place: usize,
-) -> Result<Vec<Field<'a>>, AllocError>
+) -> Result<Part<'a>, AllocError>
     ensures { IfOk result (λ fields. entries fields.items ≡ part place (places placed.now)) }
 {
-    let mut fields = Vec::new(alloc);
+    let mut fields = SmallVec::new(alloc);
     for one in placed {
         if is_in(place, one.stand) {
             fields.push(one.field)?;
@@ -343,10 +354,10 @@ pub(crate) fn begins(
     placed: &[Standing],
     first: u32,
     around: usize,
-) -> Result<Vec<usize>, AllocError>
+) -> Result<PartNumbers, AllocError>
     ensures { IfOk result (λ parts. parts.items ≡ begins first around (places placed.now)) }
 {
-    let mut parts = Vec::new(alloc);
+    let mut parts = SmallVec::new(alloc);
     for one in placed {
         if let Stand::Begins(part, other) = one.stand {
             if one.field.tag == first && other == around {

@@ -5,7 +5,7 @@ ghost use Rattle.fix_fields.specs.Forms.{price_text};
 ghost use Rattle.sef_moment.specs.Utc.{utc_text};
 ghost use Rattle.fix_dictionary.specs.Values.{IsText, IsFixInt, IsQuantity, IsPrice};
 ghost use Rattle.fix_dictionary.specs.Fits.{Given, IsGraphic, IsMoment, FitsHeader, FitsHeartbeat, FitsTestRequest, FitsResendRequest, FitsReject, FitsSequenceReset, FitsLogout, FitsLogon, FitsQuoteCancel, FitsQuoteResponse, FitsQuoteStatusReport, FitsNewOrderSingle, FitsOrderCancelRequest, FitsOrderCancelReplaceRequest, FitsExecutionReport, FitsOrderCancelReject, FitsMarketDataRequestReject, FitsBusinessMessageReject, FitsBody, FitsMessage};
-ghost use Rattle.fix_dictionary.specs.Printed.{printed, printed_option, slots};
+ghost use Rattle.fix_dictionary.specs.Printed.{lent, printed, printed_option, slots};
 ghost use Rattle.fix_dictionary.specs.Text.{with_slot, fields_of, slots_text, given, flag_text, side_text, app_kind, app_slots, admin_kind, admin_slots, body_kind, body_slots, message_slots, message_text, app_text, header_slots, heartbeat_slots, test_request_slots, resend_request_slots, reject_slots, sequence_reset_slots, logout_slots, logon_slots, quote_cancel_slots, quote_response_slots, quote_status_report_slots, new_order_single_slots, order_cancel_request_slots, order_cancel_replace_request_slots, execution_report_slots, order_cancel_reject_slots, market_data_request_reject_slots, business_message_reject_slots};
 
 use crate::cross_parts::print_new_order_cross;
@@ -558,41 +558,48 @@ fn append_admin(out: &mut Vec<u8>, message: &Admin) -> Result<(), AllocError>
     }
 }
 
-fn body_kind(body: &Body) -> &[u8]
-    ensures { result.now ≡ body_kind body.now }
+/// A message's body, lent.
+#[derive(Clone, Copy)]
+pub enum BodyRef<'a> {
+    Admin(&'a Admin),
+    App(&'a App),
+}
+
+fn body_kind(body: BodyRef) -> &[u8]
+    ensures { result.now ≡ body_kind (lent body) }
 {
     match body {
-        Body::Admin(message) => admin_kind(message),
-        Body::App(message) => app_kind(message),
+        BodyRef::Admin(message) => admin_kind(message),
+        BodyRef::App(message) => app_kind(message),
     }
 }
 
-fn append_body(out: &mut Vec<u8>, body: &Body) -> Result<(), AllocError>
-    ensures text { Appends out.old.items out.new.items (slots_text (body_slots body.now)) result }
-    ensures fits { FitsBody body.now }
+fn append_body(out: &mut Vec<u8>, body: BodyRef) -> Result<(), AllocError>
+    ensures text { Appends out.old.items out.new.items (slots_text (body_slots (lent body))) result }
+    ensures fits { FitsBody (lent body) }
 {
     match body {
-        Body::Admin(message) => append_admin(out, message),
-        Body::App(message) => append_app(out, message),
+        BodyRef::Admin(message) => append_admin(out, message),
+        BodyRef::App(message) => append_app(out, message),
     }
 }
 
 // Appends the header and what is behind it.
 #[tactic(auto, using(crate::proofs::TextLemmas::slots_text_append))]
-fn append_rest(out: &mut Vec<u8>, message: &Message) -> Result<(), AllocError>
-    ensures text { Appends out.old.items out.new.items (slots_text (header_slots message.now.header ++ body_slots message.now.body)) result }
-    ensures fits { OnOk result (FitsMessage message.now) }
+fn append_rest(out: &mut Vec<u8>, header: &Header, body: BodyRef) -> Result<(), AllocError>
+    ensures text { Appends out.old.items out.new.items (slots_text (header_slots header.now ++ body_slots (lent body))) result }
+    ensures fits { OnOk result (FitsMessage (record { header = header.now; body = lent body })) }
 {
-    print_header(out, &message.header)?;
-    append_body(out, &message.body)
+    print_header(out, header)?;
+    append_body(out, body)
 }
 
-fn append_message(out: &mut Vec<u8>, message: &Message) -> Result<(), AllocError>
-    ensures text { Appends out.old.items out.new.items (message_text message.now) result }
-    ensures fits { OnOk result (FitsMessage message.now) }
+fn append_message(out: &mut Vec<u8>, header: &Header, body: BodyRef) -> Result<(), AllocError>
+    ensures text { Appends out.old.items out.new.items (message_text (record { header = header.now; body = lent body })) result }
+    ensures fits { OnOk result (FitsMessage (record { header = header.now; body = lent body })) }
 {
-    append_bytes(out, 35, body_kind(&message.body))?;
-    append_rest(out, message)
+    append_bytes(out, 35, body_kind(body))?;
+    append_rest(out, header, body)
 }
 
 fn append_application(out: &mut Vec<u8>, message: &App) -> Result<(), AllocError>
@@ -615,15 +622,28 @@ fn settle(out: &mut Vec<u8>, start: usize, done: Result<(), AllocError>) -> Resu
     done
 }
 
+/// Appends the body of the frame of a message with this header and body. After an error nothing is appended.
+pub fn print_parts(header: &Header, body: BodyRef, out: &mut Vec<u8>) -> Result<(), AllocError>
+    ensures ok { OnOk result (out.new.items ≡ out.old.items ++ message_text (record { header = header.now; body = lent body })) }
+    ensures fits { OnOk result (FitsMessage (record { header = header.now; body = lent body })) }
+    ensures err { OnErr result (out.new.items ≡ out.old.items) }
+{
+    let start = out.len();
+    let done = append_message(out, header, body);
+    settle(out, start, done)
+}
+
 /// Appends the body of the message's frame. After an error nothing is appended.
 pub fn print_message(message: &Message, out: &mut Vec<u8>) -> Result<(), AllocError>
     ensures ok { OnOk result (out.new.items ≡ out.old.items ++ message_text message.now) }
     ensures fits { OnOk result (FitsMessage message.now) }
     ensures err { OnErr result (out.new.items ≡ out.old.items) }
 {
-    let start = out.len();
-    let done = append_message(out, message);
-    settle(out, start, done)
+    let body = match &message.body {
+        Body::Admin(body) => BodyRef::Admin(body),
+        Body::App(body) => BodyRef::App(body),
+    };
+    print_parts(&message.header, body, out)
 }
 
 /// Appends the text of an application message: its type and its own fields, without a header. After an error nothing is

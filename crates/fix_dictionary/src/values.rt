@@ -3,13 +3,14 @@ ghost use Rattle.std.specs.Prelude.{◌≡◌, ℕ, IfOk, IsTrue, bytes_eq};
 ghost use Rattle.fix_dictionary.specs.Kinds.{IsOtherKind};
 ghost use Rattle.fix_dictionary.specs.Values.{IsText, is_graphic, IsFixInt, IsSequenceNumber, IsNewSequenceNumber, IsInterval, IsQuantity, IsAmount, IsPrice};
 
+use smallvec::SmallVec;
 use std::alloc::{AllocError, Global};
 use std::marker::Model;
 
-/// An identifier: 1 to 64 bytes, each from 32 to 126.
+/// An identifier: 1 to 64 bytes, each from 32 to 126. Up to 40 lie in the value itself; a longer one takes memory.
 #[derive(Drop)]
 pub struct Identifier {
-    bytes: Vec<u8>,
+    bytes: SmallVec<u8, 40>,
 }
 
 impl Model for Identifier {
@@ -29,7 +30,7 @@ impl Identifier {
         requires { IsText 64 bytes.now }
         ensures { IfOk result (λ id. id ≡ bytes.now) }
     {
-        let bytes = Vec::from_slice(alloc, bytes)?;
+        let bytes = SmallVec::from_slice(alloc, bytes)?;
         Ok(Identifier { bytes })
     }
 
@@ -37,7 +38,7 @@ impl Identifier {
         ensures value { result.now ≡ self.now }
         ensures range { IsText 64 result.now }
     {
-        &self.bytes
+        self.bytes.as_slice()
     }
 
     /// Whether the other has the same bytes.
@@ -51,7 +52,7 @@ impl Identifier {
     pub fn copy(&self, alloc: Global) -> Result<Identifier, AllocError>
         ensures { IfOk result (λ copy. copy ≡ self.now) }
     {
-        Identifier::from_slice(alloc, &self.bytes)
+        Identifier::from_slice(alloc, self.bytes.as_slice())
     }
 }
 

@@ -1,19 +1,17 @@
 //! The messages that a session writes.
 
-ghost use Rattle.std.specs.Prelude.{◌≡◌, ◌≤◌, ◌++◌, IfOk, codes, decimal};
+ghost use Rattle.std.specs.Prelude.{◌≡◌, ◌≤◌, ◌++◌, IfOk, Some, true, codes, decimal};
 ghost use Rattle.std.specs.List.{list_all};
 ghost use Rattle.fix_dictionary.specs.Values.{is_text, is_printable, IsText};
-ghost use Rattle.resend_store.specs.Resent.{resent_by};
 ghost use Rattle.fix_session.specs.Sent as sent;
 
 use crate::comp_ids::CompIds;
 use crate::frame::{Content, Fault};
 use crate::plan::{LogoutText, Notice};
 use fix_dictionary::{
-    Admin, App, Body, FixInt, Header, Heartbeat, Identifier, Logon, Logout, Message,
-    NewSequenceNumber, Reject, ResendRequest, SequenceNumber, SequenceReset, TestRequest, Text,
+    Admin, FixInt, Header, Heartbeat, Identifier, Logon, Logout, NewSequenceNumber, Reject,
+    ResendRequest, SequenceNumber, SequenceReset, TestRequest, Text,
 };
-use resend_store::Resend;
 use sef_moment::Moment;
 use std::alloc::{AllocError, Global};
 
@@ -140,7 +138,8 @@ fn duplicate(first_sent: Option<Moment>) -> Option<bool>
     }
 }
 
-fn header(
+/// The header of a message that is sent at moment t, and first was at another, where it is sent again.
+pub(crate) fn header(
     alloc: Global,
     ids: &CompIds,
     number: SequenceNumber,
@@ -161,62 +160,12 @@ fn header(
     })
 }
 
-/// A session message, as first sent.
-pub(crate) fn admin_message(
-    alloc: Global,
-    ids: &CompIds,
-    number: SequenceNumber,
-    t: Moment,
-    admin: Admin,
-) -> Result<Message, AllocError>
-    ensures { IfOk result (λ m. m ≡ sent.admin_message ids.now number t admin) }
+/// The SequenceReset of a gap fill up to this number.
+pub(crate) fn gap_fill(new: NewSequenceNumber) -> Admin
+    ensures { result ≡ Admin.SequenceReset (record { gap_fill = Some true; new_number = new }) }
 {
-    Ok(Message {
-        header: header(alloc, ids, number, t, None)?,
-        body: Body::Admin(admin),
+    Admin::SequenceReset(SequenceReset {
+        gap_fill: Some(true),
+        new_number: new,
     })
-}
-
-/// An application message, as first sent.
-pub(crate) fn app_message(
-    alloc: Global,
-    ids: &CompIds,
-    number: SequenceNumber,
-    t: Moment,
-    app: &App,
-) -> Result<Message, AllocError>
-    ensures { IfOk result (λ m. m ≡ sent.app_message ids.now number t app.now) }
-{
-    Ok(Message {
-        header: header(alloc, ids, number, t, None)?,
-        body: Body::App(app.copy(alloc)?),
-    })
-}
-
-/// A message that is sent again: a repeat under its old number, with the moment at which it was first sent, or a gap fill.
-pub(crate) fn message_again(
-    alloc: Global,
-    ids: &CompIds,
-    t: Moment,
-    resend: &Resend,
-) -> Result<Message, AllocError>
-    ensures { IfOk result (λ m. m ≡ sent.message_again ids.now t (resent_by resend.now)) }
-{
-    match resend {
-        Resend::Repeat {
-            number,
-            app,
-            first_sent,
-        } => Ok(Message {
-            header: header(alloc, ids, *number, t, Some(*first_sent))?,
-            body: Body::App(app.copy(alloc)?),
-        }),
-        Resend::GapFill { number, new } => Ok(Message {
-            header: header(alloc, ids, *number, t, Some(t))?,
-            body: Body::Admin(Admin::SequenceReset(SequenceReset {
-                gap_fill: Some(true),
-                new_number: *new,
-            })),
-        }),
-    }
 }

@@ -12,8 +12,8 @@ use crate::line::{Line, TickAsk};
 use crate::plan::{Notice, Step, Why};
 use crate::table::LAST_NUMBER;
 use crate::unread::{forget, next_body, no_bytes, settle};
-use crate::wire::{app_alone, append_reserved, notice_alone};
-use crate::work::{Work, add_marks, join, make_room, prepare};
+use crate::wire::{Wire, write_app, write_notice};
+use crate::work::{Work, add_marks, join, prepare};
 use fix_dictionary::{App, Identifier, Item};
 use fix_frame::Cutter;
 use resend_store::Store;
@@ -21,7 +21,6 @@ use sef_moment::{Moment, later};
 use std::alloc::{AllocError, Global};
 use std::collections::VecDeque;
 use std::marker::Model;
-use std::mem;
 use thiserror::Error;
 
 /// Why an application message was not sent.
@@ -44,7 +43,7 @@ pub struct Session {
     cutter: Cutter,
     store: Store,
     ready: VecDeque<Item>,
-    wire: Vec<u8>,
+    wire: Wire,
 }
 
 impl Model for Session {
@@ -56,7 +55,7 @@ impl Model for Session {
     ghost Value = { Seen };
 
     ghost view = { λ a. record {
-      state = record { ids = a.ids; line = a.line; unread = a.cutter.unread; entries = a.store.entries; ready = a.ready.items; wire = a.wire.items };
+      state = record { ids = a.ids; line = a.line; unread = a.cutter.unread; entries = a.store.entries; ready = a.ready.items; wire = a.wire };
       spare = deque_capacity a.ready - deque_len a.ready;
     } };
 
@@ -77,7 +76,7 @@ impl Session {
             cutter: no_bytes(alloc),
             store: Store::new(alloc),
             ready: VecDeque::new(alloc),
-            wire: Vec::new(alloc),
+            wire: Wire::new(alloc),
         })
     }
 
@@ -157,7 +156,7 @@ impl Session {
         ensures taken { result.items ≡ self.old.state.wire }
         ensures left { self.new.state ≡ record self.old.state { wire = [] } }
     {
-        mem::replace(&mut self.wire, Vec::new(self.alloc))
+        self.wire.take(self.alloc)
     }
 
     /// Does what the next unread frame asks. A step that is refused leaves the frame unread.
@@ -175,6 +174,7 @@ impl Session {
             self.line.moment = t;
             return Ok(Step::Idle);
         };
+        let len = self.wire.len();
         let prepared = prepare(
             self.alloc,
             &self.ids,
@@ -189,11 +189,10 @@ impl Session {
             self.cutter.back();
             return Err(AllocError);
         };
-        let Work { plan, frames, item } = work;
-        self.line = self.line.after(t, &plan, &frames);
+        let Work { plan, item } = work;
+        self.line = self.line.after(t, &plan, self.wire.since(len));
         add_marks(&mut self.store, &plan.sends);
         join(&mut self.ready, item);
-        append_reserved(&mut self.wire, &frames);
         settle(&mut self.cutter);
         Ok(plan.answer)
     }
@@ -246,11 +245,9 @@ impl Session {
             self.drop_line(t);
             return Ok(Step::Dropped(Why::NumbersSpent));
         }
-        let frame = notice_alone(self.alloc, &self.ids, t, number, message)?;
-        let bytes = frame.len();
-        make_room(&mut self.store, &mut self.ready, &mut self.wire, bytes)?;
+        self.store.reserve(1)?;
+        write_notice(self.alloc, &self.ids, t, number, message, &mut self.wire)?;
         self.store.add_admin_reserved();
-        append_reserved(&mut self.wire, &frame);
         self.line.moment = t;
         self.line.sent_at = t;
         self.line.test_at = test_at;
@@ -286,10 +283,12 @@ impl Session {
             self.line.moment = t;
             return Ok(());
         }
-        let frame = app_alone(self.alloc, &self.ids, t, number, app)?;
-        self.wire.reserve(frame.len())?;
-        add_app(&mut self.store, number, app, t)?;
-        append_reserved(&mut self.wire, &frame);
+        let len = self.wire.len();
+        write_app(self.alloc, &self.ids, t, number, app, &mut self.wire)?;
+        if add_app(&mut self.store, number, app, t).is_err() {
+            self.wire.truncate(len);
+            return Err(AllocError);
+        }
         self.line.moment = t;
         self.line.sent_at = t;
         Ok(())

@@ -1,6 +1,8 @@
-//! Frames of messages.
+//! The frames that are queued for the counterparty.
 
-ghost use Rattle.std.specs.Prelude.{◌≡◌, ◌≤◌, ◌+◌, [], ◌++◌, OnOk, IfOk, length, vec_len, vec_capacity};
+ghost use Rattle.std.specs.Prelude.{◌≡◌, ◌≤◌, ◌+◌, [], ◌++◌, OnOk, OnErr, length, drop, take};
+ghost use Rattle.fix_fields.specs.Fields.{Appends};
+ghost use Rattle.fix_dictionary.specs.Printed.{lent};
 ghost use Rattle.fix_dictionary.specs.Values.{IsSequenceNumber};
 ghost use Rattle.resend_store.specs.Resent.{resent_by};
 ghost use Rattle.fix_session.specs.Sent as sent;
@@ -8,25 +10,88 @@ ghost use Rattle.fix_session.specs.Table.{count};
 
 use crate::comp_ids::CompIds;
 use crate::frame::Content;
-use crate::messages::{admin_message, admin_of, app_message, message_again};
+use crate::messages::{admin_of, gap_fill, header};
 use crate::plan::{Notice, Plan, Sends};
-use fix_dictionary::{App, Message, ResendRequest, SequenceNumber, print_message};
+use fix_dictionary::{App, BodyRef, Header, ResendRequest, SequenceNumber, print_parts};
 use fix_frame::write_frame;
 use resend_store::{Resend, Store};
 use sef_moment::Moment;
 use std::alloc::{AllocError, Global};
+use std::marker::Model;
+use std::mem;
 
-// Appends the frame of a message.
-#[tactic(auto, unfolding(crate::specs::Sent::framed))]
-fn append_frame(alloc: Global, message: &Message, out: &mut Vec<u8>) -> Result<(), AllocError>
-    ensures { OnOk result (out.new.items ≡ out.old.items ++ sent.framed message.now) }
-{
-    let mut text = Vec::new(alloc);
-    print_message(message, &mut text)?;
-    // A message is never too long to be written.
-    match write_frame(&text, out) {
-        Ok(()) => Ok(()),
-        Err(_) => Err(AllocError),
+/// The queued frames, seen as their bytes, and the text of the last one, whose memory the next one uses again.
+#[derive(Drop)]
+pub(crate) struct Wire {
+    frames: Vec<u8>,
+    text: Vec<u8>,
+}
+
+impl Model for Wire {
+    ghost use Rattle.std.specs.Prelude.{ℕ, List};
+
+    ghost Value = { List ℕ };
+
+    ghost view = { λ w. w.frames.items };
+}
+
+impl Wire {
+    pub(crate) fn new(alloc: Global) -> Wire
+        ensures { result ≡ [] }
+    {
+        Wire {
+            frames: Vec::new(alloc),
+            text: Vec::new(alloc),
+        }
+    }
+
+    pub(crate) fn len(&self) -> usize
+        ensures { result ≡ length self.now }
+    {
+        self.frames.len()
+    }
+
+    /// What was queued behind the first so many bytes.
+    pub(crate) fn since(&self, len: usize) -> &[u8]
+        requires { len ≤ length self.now }
+        ensures { result.now ≡ drop len self.now }
+    {
+        &self.frames[len..]
+    }
+
+    /// Drops all but the first so many bytes.
+    pub(crate) fn truncate(&mut self, len: usize)
+        ensures { self.new ≡ take len self.old }
+    {
+        self.frames.truncate(len);
+    }
+
+    pub(crate) fn clear(&mut self)
+        ensures { self.new ≡ [] }
+    {
+        self.frames.clear();
+    }
+
+    /// The queued frames, once.
+    pub(crate) fn take(&mut self, alloc: Global) -> Vec<u8>
+        ensures taken { result.items ≡ self.old }
+        ensures left { self.new ≡ [] }
+    {
+        mem::replace(&mut self.frames, Vec::new(alloc))
+    }
+
+    // Appends the frame of a message.
+    #[tactic(auto, unfolding(crate::specs::Sent::framed))]
+    fn append(&mut self, header: &Header, body: BodyRef) -> Result<(), AllocError>
+        ensures { Appends self.old self.new (sent.framed (record { header = header.now; body = lent body })) result }
+    {
+        self.text.clear();
+        print_parts(header, body, &mut self.text)?;
+        // A message is never too long to be written.
+        match write_frame(&self.text, &mut self.frames) {
+            Ok(()) => Ok(()),
+            Err(_) => Err(AllocError),
+        }
     }
 }
 
@@ -46,30 +111,42 @@ fn append_notice(
     on: &Occasion,
     number: u32,
     notice: Notice,
-    out: &mut Vec<u8>,
+    wire: &mut Wire,
 ) -> Result<(), AllocError>
     requires { IsSequenceNumber number }
-    ensures { OnOk result (out.new.items ≡ out.old.items ++ sent.notice_frame on.now.ids.now on.now.t on.now.kind.now on.now.content.now number notice) }
+    ensures { Appends wire.old wire.new (sent.notice_frame on.now.ids.now on.now.t on.now.kind.now on.now.content.now number notice) result }
 {
     let admin = admin_of(alloc, on.kind, on.content, notice)?;
-    let number = SequenceNumber::new(number);
-    let message = admin_message(alloc, on.ids, number, on.t, admin)?;
-    append_frame(alloc, &message, out)
+    let header = header(alloc, on.ids, SequenceNumber::new(number), on.t, None)?;
+    wire.append(&header, BodyRef::Admin(&admin))
 }
 
-// Appends the frame of a message that is sent again.
+// Appends the frame of a message that is sent again: a repeat under its old number, with the moment at which it was first
+// sent, or a gap fill.
 #[tactic(auto, unfolding(crate::specs::Sent::again_frame))]
 fn append_resend(
     alloc: Global,
     ids: &CompIds,
     t: Moment,
     resend: &Resend,
-    out: &mut Vec<u8>,
+    wire: &mut Wire,
 ) -> Result<(), AllocError>
-    ensures { OnOk result (out.new.items ≡ out.old.items ++ sent.again_frame ids.now t (resent_by resend.now)) }
+    ensures { Appends wire.old wire.new (sent.again_frame ids.now t (resent_by resend.now)) result }
 {
-    let message = message_again(alloc, ids, t, resend)?;
-    append_frame(alloc, &message, out)
+    match resend {
+        Resend::Repeat {
+            number,
+            app,
+            first_sent,
+        } => {
+            let header = header(alloc, ids, *number, t, Some(*first_sent))?;
+            wire.append(&header, BodyRef::App(app))
+        }
+        Resend::GapFill { number, new } => {
+            let header = header(alloc, ids, *number, t, Some(t))?;
+            wire.append(&header, BodyRef::Admin(&gap_fill(*new)))
+        }
+    }
 }
 
 // Appends what is sent for a request.
@@ -79,16 +156,16 @@ fn append_again(
     t: Moment,
     store: &Store,
     again: Option<ResendRequest>,
-    out: &mut Vec<u8>,
+    wire: &mut Wire,
 ) -> Result<(), AllocError>
-    ensures { OnOk result (out.new.items ≡ out.old.items ++ sent.asked_frames ids.now t store.now.entries again) }
+    ensures { Appends wire.old wire.new (sent.asked_frames ids.now t store.now.entries again) result }
 {
     let Some(asked) = again else {
         return Ok(());
     };
     let mut resends = store.resends(asked.begin(), asked.end().get());
     while let Some(resend) = resends.next() {
-        append_resend(alloc, ids, t, &resend, out)?;
+        append_resend(alloc, ids, t, &resend, wire)?;
     }
     Ok(())
 }
@@ -99,49 +176,79 @@ fn append_sends(
     on: &Occasion,
     number: u32,
     sends: Sends,
-    out: &mut Vec<u8>,
+    wire: &mut Wire,
 ) -> Result<(), AllocError>
     requires first { 1 ≤ number }
     requires last { number + count sends ≤ 1000000000 }
-    ensures { OnOk result (out.new.items ≡ out.old.items ++ sent.sends_frames on.now.ids.now on.now.t on.now.kind.now on.now.content.now number sends) }
+    ensures { Appends wire.old wire.new (sent.sends_frames on.now.ids.now on.now.t on.now.kind.now on.now.content.now number sends) result }
 {
     match sends {
         Sends::Nothing => Ok(()),
-        Sends::One { message } => append_notice(alloc, on, number, message, out),
+        Sends::One { message } => append_notice(alloc, on, number, message, wire),
         Sends::Two { first, second } => {
-            append_notice(alloc, on, number, first, out)?;
-            append_notice(alloc, on, number + 1, second, out)
+            append_notice(alloc, on, number, first, wire)?;
+            append_notice(alloc, on, number + 1, second, wire)
         }
     }
 }
 
-/// What a plan writes: what is asked for again, then the new messages under the next numbers.
+// Appends what a plan writes: what is asked for again, then the new messages under the next numbers.
 #[tactic(auto, unfolding(crate::specs::Sent::written))]
-pub(crate) fn written(
+fn append_plan(
     alloc: Global,
     on: &Occasion,
     store: &Store,
     plan: &Plan,
-) -> Result<Vec<u8>, AllocError>
+    wire: &mut Wire,
+) -> Result<(), AllocError>
     requires { length store.now.entries + count plan.now.sends ≤ 999999999 }
-    ensures { IfOk result (λ frames. frames.items ≡ sent.written on.now.ids.now store.now.entries on.now.t on.now.kind.now on.now.content.now plan.now) }
+    ensures { Appends wire.old wire.new (sent.written on.now.ids.now store.now.entries on.now.t on.now.kind.now on.now.content.now plan.now) result }
 {
-    let mut out = Vec::new(alloc);
-    append_again(alloc, on.ids, on.t, store, plan.again, &mut out)?;
-    append_sends(alloc, on, store.next_number(), plan.sends, &mut out)?;
-    Ok(out)
+    append_again(alloc, on.ids, on.t, store, plan.again, wire)?;
+    append_sends(alloc, on, store.next_number(), plan.sends, wire)
 }
 
-/// The frame of a notice, as first sent, that answers no frame.
-pub(crate) fn notice_alone(
+// Takes back what a refused call queued behind the first bytes.
+fn settle(wire: &mut Wire, len: usize, done: Result<(), AllocError>) -> Result<(), AllocError>
+    ensures result { result ≡ done }
+    ensures ok { OnOk done (wire.new ≡ wire.old) }
+    ensures err { OnErr done (wire.new ≡ take len wire.old) }
+{
+    if done.is_err() {
+        wire.truncate(len);
+    }
+    done
+}
+
+/// Queues what a plan writes, or nothing.
+pub(crate) fn write_plan(
+    alloc: Global,
+    on: &Occasion,
+    store: &Store,
+    plan: &Plan,
+    wire: &mut Wire,
+) -> Result<(), AllocError>
+    requires { length store.now.entries + count plan.now.sends ≤ 999999999 }
+    ensures ok { OnOk result (wire.new ≡ wire.old ++ sent.written on.now.ids.now store.now.entries on.now.t on.now.kind.now on.now.content.now plan.now) }
+    ensures err { OnErr result (wire.new ≡ wire.old) }
+{
+    let len = wire.len();
+    let done = append_plan(alloc, on, store, plan, wire);
+    settle(wire, len, done)
+}
+
+/// Queues the frame of a notice, as first sent, that answers no frame; or nothing.
+pub(crate) fn write_notice(
     alloc: Global,
     ids: &CompIds,
     t: Moment,
     number: u32,
     notice: Notice,
-) -> Result<Vec<u8>, AllocError>
+    wire: &mut Wire,
+) -> Result<(), AllocError>
     requires { IsSequenceNumber number }
-    ensures { IfOk result (λ frame. frame.items ≡ sent.notice_frame ids.now t [] Content.Heartbeat number notice) }
+    ensures ok { OnOk result (wire.new ≡ wire.old ++ sent.notice_frame ids.now t [] Content.Heartbeat number notice) }
+    ensures err { OnErr result (wire.new ≡ wire.old) }
 {
     let content = Content::Heartbeat;
     let on = Occasion {
@@ -150,32 +257,26 @@ pub(crate) fn notice_alone(
         kind: &[],
         content: &content,
     };
-    let mut out = Vec::new(alloc);
-    append_notice(alloc, &on, number, notice, &mut out)?;
-    Ok(out)
+    let len = wire.len();
+    let done = append_notice(alloc, &on, number, notice, wire);
+    settle(wire, len, done)
 }
 
-/// The frame of an application message, as first sent.
-pub(crate) fn app_alone(
+/// Queues the frame of an application message, as first sent, or nothing.
+pub(crate) fn write_app(
     alloc: Global,
     ids: &CompIds,
     t: Moment,
     number: u32,
     app: &App,
-) -> Result<Vec<u8>, AllocError>
+    wire: &mut Wire,
+) -> Result<(), AllocError>
     requires { IsSequenceNumber number }
-    ensures { IfOk result (λ frame. frame.items ≡ sent.framed (sent.app_message ids.now number t app.now)) }
+    ensures ok { OnOk result (wire.new ≡ wire.old ++ sent.framed (sent.app_message ids.now number t app.now)) }
+    ensures err { OnErr result (wire.new ≡ wire.old) }
 {
-    let message = app_message(alloc, ids, SequenceNumber::new(number), t, app)?;
-    let mut out = Vec::new(alloc);
-    append_frame(alloc, &message, &mut out)?;
-    Ok(out)
-}
-
-/// Appends bytes for which there is room.
-pub(crate) fn append_reserved(out: &mut Vec<u8>, bytes: &[u8])
-    requires { vec_len out.old + length bytes.now ≤ vec_capacity out.old }
-    ensures { out.new.items ≡ out.old.items ++ bytes.now }
-{
-    let _ = out.extend_from_slice(bytes);
+    let header = header(alloc, ids, SequenceNumber::new(number), t, None)?;
+    let len = wire.len();
+    let done = wire.append(&header, BodyRef::App(app));
+    settle(wire, len, done)
 }

@@ -1,6 +1,6 @@
-//! What one frame makes of a session, made before anything changes.
+//! What one frame makes of a session.
 
-ghost use Rattle.std.specs.Prelude.{◌≡◌, ◌<◌, ◌≤◌, ◌+◌, ◌++◌, length, IfOk, OnOk, option_to_list, vec_len, vec_capacity};
+ghost use Rattle.std.specs.Prelude.{◌≡◌, ◌<◌, ◌≤◌, ◌+◌, ◌++◌, length, IfOk, OnOk, OnErr, option_to_list};
 ghost use Rattle.std.specs.VecDeque.{deque_len, deque_capacity};
 ghost use Rattle.fix_session.specs.Body.{kind_in, frame_in};
 ghost use Rattle.fix_session.specs.Machine as machine;
@@ -13,19 +13,17 @@ use crate::frame::Content;
 use crate::line::Line;
 use crate::plan::{Plan, Sends, Step};
 use crate::reading::{kind_of, read_frame};
-use crate::wire::{Occasion, written};
+use crate::wire::{Occasion, Wire, write_plan};
 use fix_dictionary::Item;
 use resend_store::Store;
 use sef_moment::Moment;
 use std::alloc::{AllocError, Global};
 use std::collections::VecDeque;
 
-/// What one frame makes of a session.
+/// What one frame makes of a session, beside what it queues.
 #[derive(Drop)]
 pub(crate) struct Work {
     pub plan: Plan,
-    /// What is written.
-    pub frames: Vec<u8>,
     /// What becomes ready.
     pub item: Option<Item>,
 }
@@ -43,8 +41,8 @@ fn item_of(content: Content, answer: Step) -> Option<Item>
     }
 }
 
-// What is written for the body of a frame.
-fn written_for(
+// Queues what is written for the body of a frame, or nothing.
+fn write_for(
     alloc: Global,
     ids: &CompIds,
     store: &Store,
@@ -52,9 +50,11 @@ fn written_for(
     body: &[u8],
     content: &Content,
     plan: &Plan,
-) -> Result<Vec<u8>, AllocError>
+    wire: &mut Wire,
+) -> Result<(), AllocError>
     requires { length store.now.entries + count plan.now.sends ≤ 999999999 }
-    ensures { IfOk result (λ frames. frames.items ≡ sent.written ids.now store.now.entries t (kind_in body.now) content.now plan.now) }
+    ensures ok { OnOk result (wire.new ≡ wire.old ++ sent.written ids.now store.now.entries t (kind_in body.now) content.now plan.now) }
+    ensures err { OnErr result (wire.new ≡ wire.old) }
 {
     let on = Occasion {
         ids,
@@ -62,74 +62,67 @@ fn written_for(
         kind: kind_of(body),
         content,
     };
-    written(alloc, &on, store, plan)
+    write_plan(alloc, &on, store, plan, wire)
 }
 
-// What the body of a frame, heard at this moment, makes of a session.
+// What the body of a frame, heard at this moment, makes of a session, and what it writes is queued; or nothing.
 fn work_of(
     alloc: Global,
     ids: &CompIds,
     line: &Line,
     store: &Store,
+    wire: &mut Wire,
     t: Moment,
     body: &[u8],
 ) -> Result<Work, AllocError>
     ensures plan { (r : Reader) → IfOk result (λ work. work.plan ≡ machine.plan_in line.now store.now.entries (frame_in r ids.now body.now)) }
-    ensures frames { (r : Reader) → IfOk result (λ work. work.frames.items ≡ sent.written ids.now store.now.entries t (kind_in body.now) (frame_in r ids.now body.now).content work.plan) }
+    ensures wire { (r : Reader) → IfOk result (λ work. wire.new ≡ wire.old ++ sent.written ids.now store.now.entries t (kind_in body.now) (frame_in r ids.now body.now).content work.plan) }
     ensures item { (r : Reader) → IfOk result (λ work. option_to_list work.item ≡ machine.item_of (frame_in r ids.now body.now).content work.plan.answer) }
     ensures numbers { IfOk result (λ work. length store.now.entries + count work.plan.sends ≤ 999999999) }
+    ensures err { OnErr result (wire.new ≡ wire.old) }
 {
     let frame = read_frame(alloc, ids, body)?;
     let plan = line.affordable(store.next_number() - 1, &frame);
-    let frames = written_for(alloc, ids, store, t, body, &frame.content, &plan)?;
+    write_for(alloc, ids, store, t, body, &frame.content, &plan, wire)?;
     let item = item_of(frame.content, plan.answer);
-    Ok(Work { plan, frames, item })
+    Ok(Work { plan, item })
 }
 
-/// Makes room for what a frame adds, and adds nothing.
-pub(crate) fn make_room(
-    store: &mut Store,
-    ready: &mut VecDeque<Item>,
-    wire: &mut Vec<u8>,
-    bytes: usize,
-) -> Result<(), AllocError>
+// Makes room for the marks and the item that a frame adds, and adds nothing.
+fn make_room(store: &mut Store, ready: &mut VecDeque<Item>) -> Result<(), AllocError>
     ensures entries { store.new.entries ≡ store.old.entries }
     ensures ready { ready.new.items ≡ ready.old.items }
-    ensures wire { wire.new.items ≡ wire.old.items }
     ensures marks { OnOk result (2 ≤ store.new.room) }
     ensures items { OnOk result (deque_len ready.new < deque_capacity ready.new) }
-    ensures bytes { OnOk result (vec_len wire.new + bytes ≤ vec_capacity wire.new) }
 {
     store.reserve(2)?;
-    ready.reserve(1)?;
-    wire.reserve(bytes)
+    ready.reserve(1)
 }
 
-/// What the body of a frame, heard at this moment, makes of a session, and room for it. Nothing is added.
+/// What the body of a frame, heard at this moment, makes of a session. What it writes is queued, and for the rest there is
+/// room; or nothing is changed.
 pub(crate) fn prepare(
     alloc: Global,
     ids: &CompIds,
     line: &Line,
     store: &mut Store,
     ready: &mut VecDeque<Item>,
-    wire: &mut Vec<u8>,
+    wire: &mut Wire,
     t: Moment,
     body: &[u8],
 ) -> Result<Work, AllocError>
     ensures plan { (r : Reader) → IfOk result (λ work. work.plan ≡ machine.plan_in line.now store.old.entries (frame_in r ids.now body.now)) }
-    ensures frames { (r : Reader) → IfOk result (λ work. work.frames.items ≡ sent.written ids.now store.old.entries t (kind_in body.now) (frame_in r ids.now body.now).content work.plan) }
+    ensures wire { (r : Reader) → IfOk result (λ work. wire.new ≡ wire.old ++ sent.written ids.now store.old.entries t (kind_in body.now) (frame_in r ids.now body.now).content work.plan) }
     ensures item { (r : Reader) → IfOk result (λ work. option_to_list work.item ≡ machine.item_of (frame_in r ids.now body.now).content work.plan.answer) }
     ensures numbers { IfOk result (λ work. length store.old.entries + count work.plan.sends ≤ 999999999) }
     ensures entries { store.new.entries ≡ store.old.entries }
     ensures ready { ready.new.items ≡ ready.old.items }
-    ensures wire { wire.new.items ≡ wire.old.items }
+    ensures err { OnErr result (wire.new ≡ wire.old) }
     ensures marks { OnOk result (2 ≤ store.new.room) }
     ensures items { OnOk result (deque_len ready.new < deque_capacity ready.new) }
-    ensures bytes { IfOk result (λ work. vec_len wire.new + length work.frames.items ≤ vec_capacity wire.new) }
 {
-    let work = work_of(alloc, ids, line, store, t, body)?;
-    make_room(store, ready, wire, work.frames.len())?;
-    Ok(work)
+    make_room(store, ready)?;
+    work_of(alloc, ids, line, store, wire, t, body)
 }
 
 /// The marks of these messages.
