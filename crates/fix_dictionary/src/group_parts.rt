@@ -41,7 +41,7 @@ fn market_data_entries(
 {
     let begins = begins(alloc, placed, 269, 0)?;
     let mut list = Vec::new(alloc);
-    for begin in &begins {
+    for begin in begins.as_slice() {
         let fields = part(alloc, placed, *begin)?;
         list.push(market_data_entry(alloc, &fields)?)?;
     }
@@ -54,7 +54,7 @@ fn entry_types(alloc: Global, placed: &[Standing]) -> Result<Vec<FixChar>, Alloc
 {
     let begins = begins(alloc, placed, 269, 0)?;
     let mut list = Vec::new(alloc);
-    for begin in &begins {
+    for begin in begins.as_slice() {
         let fields = part(alloc, placed, *begin)?;
         list.push(character(&fields, 269))?;
     }

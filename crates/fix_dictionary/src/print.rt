@@ -566,7 +566,7 @@ pub enum BodyRef<'a> {
 }
 
 fn body_kind(body: BodyRef) -> &[u8]
-    ensures { result.now ≡ body_kind (lent body) }
+    ensures { result.now ≡ body_kind (lent body.entry) }
 {
     match body {
         BodyRef::Admin(message) => admin_kind(message),
@@ -575,8 +575,8 @@ fn body_kind(body: BodyRef) -> &[u8]
 }
 
 fn append_body(out: &mut Vec<u8>, body: BodyRef) -> Result<(), AllocError>
-    ensures text { Appends out.old.items out.new.items (slots_text (body_slots (lent body))) result }
-    ensures fits { FitsBody (lent body) }
+    ensures text { Appends out.old.items out.new.items (slots_text (body_slots (lent body.entry))) result }
+    ensures fits { FitsBody (lent body.entry) }
 {
     match body {
         BodyRef::Admin(message) => append_admin(out, message),
@@ -587,16 +587,16 @@ fn append_body(out: &mut Vec<u8>, body: BodyRef) -> Result<(), AllocError>
 // Appends the header and what is behind it.
 #[tactic(auto, using(crate::proofs::TextLemmas::slots_text_append))]
 fn append_rest(out: &mut Vec<u8>, header: &Header, body: BodyRef) -> Result<(), AllocError>
-    ensures text { Appends out.old.items out.new.items (slots_text (header_slots header.now ++ body_slots (lent body))) result }
-    ensures fits { OnOk result (FitsMessage (record { header = header.now; body = lent body })) }
+    ensures text { Appends out.old.items out.new.items (slots_text (header_slots header.now ++ body_slots (lent body.entry))) result }
+    ensures fits { OnOk result (FitsMessage (record { header = header.now; body = lent body.entry })) }
 {
     print_header(out, header)?;
     append_body(out, body)
 }
 
 fn append_message(out: &mut Vec<u8>, header: &Header, body: BodyRef) -> Result<(), AllocError>
-    ensures text { Appends out.old.items out.new.items (message_text (record { header = header.now; body = lent body })) result }
-    ensures fits { OnOk result (FitsMessage (record { header = header.now; body = lent body })) }
+    ensures text { Appends out.old.items out.new.items (message_text (record { header = header.now; body = lent body.entry })) result }
+    ensures fits { OnOk result (FitsMessage (record { header = header.now; body = lent body.entry })) }
 {
     append_bytes(out, 35, body_kind(body))?;
     append_rest(out, header, body)
@@ -624,8 +624,8 @@ fn settle(out: &mut Vec<u8>, start: usize, done: Result<(), AllocError>) -> Resu
 
 /// Appends the body of the frame of a message with this header and body. After an error nothing is appended.
 pub fn print_parts(header: &Header, body: BodyRef, out: &mut Vec<u8>) -> Result<(), AllocError>
-    ensures ok { OnOk result (out.new.items ≡ out.old.items ++ message_text (record { header = header.now; body = lent body })) }
-    ensures fits { OnOk result (FitsMessage (record { header = header.now; body = lent body })) }
+    ensures ok { OnOk result (out.new.items ≡ out.old.items ++ message_text (record { header = header.now; body = lent body.entry })) }
+    ensures fits { OnOk result (FitsMessage (record { header = header.now; body = lent body.entry })) }
     ensures err { OnErr result (out.new.items ≡ out.old.items) }
 {
     let start = out.len();

@@ -40,7 +40,7 @@ fn party_list(alloc: Global, placed: &[Standing], place: usize) -> Result<Vec<Pa
 {
     let begins = begins(alloc, placed, 448, place)?;
     let mut list = Vec::new(alloc);
-    for begin in &begins {
+    for begin in begins.as_slice() {
         let fields = part(alloc, placed, *begin)?;
         list.push(party(alloc, &fields)?)?;
     }

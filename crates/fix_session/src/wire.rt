@@ -83,7 +83,7 @@ impl Wire {
     // Appends the frame of a message.
     #[tactic(auto, unfolding(crate::specs::Sent::framed))]
     fn append(&mut self, header: &Header, body: BodyRef) -> Result<(), AllocError>
-        ensures { Appends self.old self.new (sent.framed (record { header = header.now; body = lent body })) result }
+        ensures { Appends self.old self.new (sent.framed (record { header = header.now; body = lent body.entry })) result }
     {
         self.text.clear();
         print_parts(header, body, &mut self.text)?;

@@ -79,6 +79,7 @@ fn work_of(
     ensures wire { (r : Reader) → IfOk result (λ work. wire.new ≡ wire.old ++ sent.written ids.now store.now.entries t (kind_in body.now) (frame_in r ids.now body.now).content work.plan) }
     ensures item { (r : Reader) → IfOk result (λ work. option_to_list work.item ≡ machine.item_of (frame_in r ids.now body.now).content work.plan.answer) }
     ensures numbers { IfOk result (λ work. length store.now.entries + count work.plan.sends ≤ 999999999) }
+    ensures longer { OnOk result (length wire.old ≤ length wire.new) }
     ensures err { OnErr result (wire.new ≡ wire.old) }
 {
     let frame = read_frame(alloc, ids, body)?;
@@ -117,6 +118,7 @@ pub(crate) fn prepare(
     ensures numbers { IfOk result (λ work. length store.old.entries + count work.plan.sends ≤ 999999999) }
     ensures entries { store.new.entries ≡ store.old.entries }
     ensures ready { ready.new.items ≡ ready.old.items }
+    ensures longer { OnOk result (length wire.old ≤ length wire.new) }
     ensures err { OnErr result (wire.new ≡ wire.old) }
     ensures marks { OnOk result (2 ≤ store.new.room) }
     ensures items { OnOk result (deque_len ready.new < deque_capacity ready.new) }

@@ -9,4 +9,4 @@ pub second_side-requires : goal.second_side-requires
 second_side-requires c = second_holds (places c.args.placed.now) c.requires
 
 pub cross_of-requires : goal.cross_of-requires
-cross_of-requires c = rw (c.deref.ensures.value, rw c.in_ok-fields.was at c.part.ensures) (cross_holds (places c.args.placed.now) c.requires)
+cross_of-requires c = rw (c.deref.ensures, rw c.in_ok-fields.was at c.part.ensures) (cross_holds (places c.args.placed.now) c.requires)

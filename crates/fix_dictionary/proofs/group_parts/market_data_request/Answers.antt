@@ -12,4 +12,4 @@ pub symbol-requires : goal.symbol-requires
 symbol-requires c = instrument_holds (places c.args.placed.now) c.requires
 
 pub request_of-requires : goal.request_of-requires
-request_of-requires c = rw (c.deref.ensures.value, rw c.in_ok-fields.was at c.part.ensures) (request_holds (places c.args.placed.now) c.requires)
+request_of-requires c = rw (c.deref.ensures, rw c.in_ok-fields.was at c.part.ensures) (request_holds (places c.args.placed.now) c.requires)

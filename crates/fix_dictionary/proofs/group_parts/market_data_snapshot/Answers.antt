@@ -9,4 +9,4 @@ pub from_vec-list-requires : goal.from_vec-list-requires
 from_vec-list-requires c = entries_number (places c.args.placed.now) c.requires _ (rw c.in_ok-market_data_entries.was at c.market_data_entries.ensures)
 
 pub snapshot_of-requires : goal.snapshot_of-requires
-snapshot_of-requires c = rw (c.deref.ensures.value, rw c.in_ok-fields.was at c.part.ensures) (snapshot_holds (places c.args.placed.now) c.requires)
+snapshot_of-requires c = rw (c.deref.ensures, rw c.in_ok-fields.was at c.part.ensures) (snapshot_holds (places c.args.placed.now) c.requires)

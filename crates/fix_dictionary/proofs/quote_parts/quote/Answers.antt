@@ -9,4 +9,4 @@ pub from_vec-list-requires : goal.from_vec-list-requires
 from_vec-list-requires c = quote_number (places c.args.placed.now) c.requires _ (rw c.in_ok-parties_of.was at c.parties_of.ensures)
 
 pub quote_of-requires : goal.quote_of-requires
-quote_of-requires c = rw (c.deref-2.ensures.value, rw c.in_ok-fields.was at c.part.ensures) (quote_holds (places c.args.placed.now) c.requires)
+quote_of-requires c = rw (c.deref-2.ensures, rw c.in_ok-fields.was at c.part.ensures) (quote_holds (places c.args.placed.now) c.requires)

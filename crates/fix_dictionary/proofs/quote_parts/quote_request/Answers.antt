@@ -12,4 +12,4 @@ pub from_vec-list-requires : goal.from_vec-list-requires
 from_vec-list-requires c = asked_number (places c.args.placed.now) c.requires _ (rw c.first_begin-place.ensures at (rw c.in_ok-parties_of.was at c.parties_of.ensures))
 
 pub asked-requires : goal.asked-requires
-asked-requires c = rw (c.deref-2.ensures.value, rw c.in_ok-fields.was at c.part.ensures, c.first_begin-place.ensures) (asked_holds (places c.args.placed.now) c.requires)
+asked-requires c = rw (c.deref-2.ensures, rw c.in_ok-fields.was at c.part.ensures, c.first_begin-place.ensures) (asked_holds (places c.args.placed.now) c.requires)

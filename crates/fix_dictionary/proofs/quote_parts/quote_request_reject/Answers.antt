@@ -6,4 +6,4 @@ pub symbol-requires : goal.symbol-requires
 symbol-requires c = reject_instrument (places c.args.placed.now) c.requires
 
 pub reject_of-requires : goal.reject_of-requires
-reject_of-requires c = rw (c.deref.ensures.value, rw c.in_ok-fields.was at c.part.ensures) (reject_holds (places c.args.placed.now) c.requires)
+reject_of-requires c = rw (c.deref.ensures, rw c.in_ok-fields.was at c.part.ensures) (reject_holds (places c.args.placed.now) c.requires)

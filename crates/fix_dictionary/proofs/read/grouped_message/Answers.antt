@@ -8,5 +8,5 @@ use Rattle.fix_dictionary.proofs.read.grouped_message.Goals as goal
 pub header-requires : goal.header-requires
 header-requires c =
     let rows = rows_of c.args.kind 0 in
-    rw (c.deref.ensures.value, rw c.in_ok-outside.was at c.part.ensures)
+    rw (c.deref.ensures, rw c.in_ok-outside.was at c.part.ensures)
     (outside_holds header_rows rows (places c.args.placed.now) c.requires.clean (own_first (header_rows ++ rows) header_rows rows (own_forms c.args.kind 0)))

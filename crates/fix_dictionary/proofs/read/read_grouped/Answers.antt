@@ -20,4 +20,4 @@ pub grouped_message-requires-clause-clean : goal.grouped_message-requires-clause
 grouped_message-requires-clause-clean c =
     clean_of (rows_of c.args.kind 0) c.header.result.now c.header-2.result.now c.rows_of.result.now c.rows_of-2.result.now (places c.deref-in-None.result.now) (places c.deref.result.now) (entries c.args.fields.now)
     c.header.ensures (c.rows_of.ensures.grouped c.requires) c.header-2.ensures (c.rows_of-2.ensures.grouped c.requires)
-    (ap places c.deref-in-None.ensures.value ∙ (rw c.in-Ok.is at c.placed.ensures)) (ap places (c.deref.ensures.value ∙ sym c.deref-in-None.ensures.value)) (sym c.placed_fault.ensures ∙ c.in-None.is)
+    (ap places c.deref-in-None.ensures ∙ (rw c.in-Ok.is at c.placed.ensures)) (ap places (c.deref.ensures ∙ sym c.deref-in-None.ensures)) (sym c.placed_fault.ensures ∙ c.in-None.is)
