@@ -10,6 +10,6 @@ invariant_of-self c = subst IsSettled (ap (λ (b : Buffered). b.unread) (sym c.i
 pub returns-in_ok-push-clause-ok : goal.returns-in_ok-push-clause-ok
 returns-in_ok-push-clause-ok c =
     λ r. rw (← c.self.view_is)
-    (pushed_is r (record { ids = c.self.inside.ids; line = c.self.inside.line; unread = c.self.inside.cutter.unread; entries = c.self.inside.store.entries; ready = c.self.inside.ready.items; wire = c.self.inside.wire.items })
+    (pushed_is r (record { ids = c.self.inside.ids; line = c.self.inside.line; unread = c.self.inside.cutter.unread; entries = c.self.inside.store.entries; ready = c.self.inside.ready.items; wire = c.self.inside.wire })
     c.args.piece.now c.settle.new.cutter.unread c.if-self.true
     (c.settle.ensures.unread r ∙ ap (λ (b : Buffered). settled r b.unread) c.in_ok-push.ensures.ok))
