@@ -208,8 +208,12 @@ fn append_plan(
     append_sends(alloc, on, store.next_number(), plan.sends, wire)
 }
 
-// Takes back what a refused call queued behind the first bytes.
-fn settle(wire: &mut Wire, len: usize, done: Result<(), AllocError>) -> Result<(), AllocError>
+// What was done, where what a refused call queued behind the first bytes is taken back.
+fn taken_back(
+    wire: &mut Wire,
+    len: usize,
+    done: Result<(), AllocError>,
+) -> Result<(), AllocError>
     ensures result { result ≡ done }
     ensures ok { OnOk done (wire.new ≡ wire.old) }
     ensures err { OnErr done (wire.new ≡ take len wire.old) }
@@ -234,7 +238,29 @@ pub(crate) fn write_plan(
 {
     let len = wire.len();
     let done = append_plan(alloc, on, store, plan, wire);
-    settle(wire, len, done)
+    taken_back(wire, len, done)
+}
+
+// Appends the frame of a notice, as first sent, that answers no frame.
+fn append_alone(
+    alloc: Global,
+    ids: &CompIds,
+    t: Moment,
+    number: u32,
+    notice: Notice,
+    wire: &mut Wire,
+) -> Result<(), AllocError>
+    requires { IsSequenceNumber number }
+    ensures { Appends wire.old wire.new (sent.notice_frame ids.now t [] Content.Heartbeat number notice) result }
+{
+    let content = Content::Heartbeat;
+    let on = Occasion {
+        ids,
+        t,
+        kind: &[],
+        content: &content,
+    };
+    append_notice(alloc, &on, number, notice, wire)
 }
 
 /// Queues the frame of a notice, as first sent, that answers no frame; or nothing.
@@ -250,16 +276,9 @@ pub(crate) fn write_notice(
     ensures ok { OnOk result (wire.new ≡ wire.old ++ sent.notice_frame ids.now t [] Content.Heartbeat number notice) }
     ensures err { OnErr result (wire.new ≡ wire.old) }
 {
-    let content = Content::Heartbeat;
-    let on = Occasion {
-        ids,
-        t,
-        kind: &[],
-        content: &content,
-    };
     let len = wire.len();
-    let done = append_notice(alloc, &on, number, notice, wire);
-    settle(wire, len, done)
+    let done = append_alone(alloc, ids, t, number, notice, wire);
+    taken_back(wire, len, done)
 }
 
 /// Queues the frame of an application message, as first sent, or nothing.
@@ -278,5 +297,5 @@ pub(crate) fn write_app(
     let header = header(alloc, ids, SequenceNumber::new(number), t, None)?;
     let len = wire.len();
     let done = wire.append(&header, BodyRef::App(app));
-    settle(wire, len, done)
+    taken_back(wire, len, done)
 }
