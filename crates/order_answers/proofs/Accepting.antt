@@ -14,7 +14,7 @@ use Rattle.venue_rules.specs.Market.{Market}
 use Rattle.venue_rules.specs.Facts.{History, next_order, next_trade, trades}
 use Rattle.venue_rules.specs.Answer.{Answer, numbered, reply}
 use Rattle.venue_rules.specs.Book.{Fill, fills, filled, filled_by}
-use Rattle.venue_rules.specs.Entering.{entering, entry_facts, fill_report, fill_reports, order_report, trade_of}
+use Rattle.venue_rules.specs.Entering.{entering, entry_facts, fill_report, fill_reports, trade_of}
 use Rattle.venue_rules.specs.Orders.{accepted}
 use Rattle.price_book.specs.declared.plan.FilledOrder.{FilledOrder}
 use Rattle.price_book.specs.Plan.{Plan}

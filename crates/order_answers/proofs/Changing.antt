@@ -1,4 +1,4 @@
-use Rattle.std.proofs.Common.{◌≡◌, refl, sym, ap, ◌∙◌, subst, ℕ, ◌<◌, ◌≤◌, All, Bool, true, false, cond, ◌&&◌, ◌==◌, nat_lt, List, [], ◌∷◌, ◌++◌, length, map, filter, find, Option, Some, None, option_map, not, bytes_eq, arith}
+use Rattle.std.proofs.Common.{◌≡◌, refl, sym, ap, ◌∙◌, subst, ℕ, ◌<◌, All, Bool, true, false, cond, ◌&&◌, ◌==◌, nat_lt, List, [], ◌∷◌, ◌++◌, length, map, filter, find, Option, Some, None, option_map, not, bytes_eq, arith}
 use Rattle.std.specs.List.{list_any}
 use Rattle.std.proofs.lemmas.Bool.Decides.{nat_tests}
 use Rattle.std.proofs.lemmas.List.Elements.{All-nil, All-cons, All-head, All-tail, All-filter}
@@ -11,24 +11,19 @@ use Rattle.venue_rules.specs.declared.facts.HeldSide.{HeldSide}
 use Rattle.venue_rules.specs.declared.refusals.ChangeRefusal.TheVariants.{UnknownOrder, DuplicateClOrdId}
 use Rattle.venue_rules.specs.declared.replies.Reply.{Reply}
 use Rattle.venue_rules.specs.Market.{Market}
-use Rattle.venue_rules.specs.Facts.{History, entries, held_sides, is_name, is_order_id_used, trades}
+use Rattle.venue_rules.specs.Facts.{History, entries, held_sides, is_name, is_order_id_used}
 use Rattle.venue_rules.specs.Answer.{Answer, Sender}
 use Rattle.venue_rules.specs.Book.{Resting, find_order, left, rests}
 use Rattle.venue_rules.specs.Changes.{Named, IsResting, IsHeld, IsUnknown, named, answer_cancel, answer_cancel_of, cancel_refused, cancelled, held_cancelled, standing}
 use Rattle.venue_rules.specs.Delay.{find_held, releases}
-use Rattle.price_book.specs.Contents.{Contents}
 use Rattle.price_book.specs.Plan.{Plan}
 use Rattle.price_book.specs.Plans.{cancel_plan}
-use Rattle.price_book.specs.Steps.{IsPlanOf, Nothing}
-use Rattle.cross_delay.specs.Contents.{Contents as Delay}
 use Rattle.cross_delay.specs.Plan.{Plan as DelayPlan}
 use Rattle.cross_delay.specs.Plans.{drop_plan}
-use Rattle.cross_delay.specs.Steps.{IsPlanOf as IsDelayPlan}
 use Rattle.order_answers.specs.declared.counts.Counts.{Counts}
-use Rattle.order_answers.specs.Made.{IsMade, are_listed}
+use Rattle.order_answers.specs.Made.{are_listed}
 use Rattle.order_answers.specs.Parts.{Parts, answer_of}
 use Rattle.order_answers.specs.Reads.{IsReadAlone, is_used}
-use Rattle.order_answers.proofs.Turning.{book-made}
 
 never : false ≡ true → ⊥
 never e = cc

@@ -1,17 +1,13 @@
-use Rattle.std.proofs.Common.{◌≡◌, refl, sym, ap, ◌∙◌, ℕ, ◌+◌, Bool, true, ◌||◌, List, filter, length}
+use Rattle.std.proofs.Common.{◌≡◌, refl, ap, ◌∙◌, ℕ, Bool, true, ◌||◌, List, filter}
 use Rattle.venue_rules.specs.declared.facts.Entry.{Entry}
 use Rattle.venue_rules.specs.declared.facts.Fact.{Fact}
 use Rattle.venue_rules.specs.declared.facts.Fact.TheVariants.{Entered, Removed}
-use Rattle.venue_rules.specs.declared.facts.OrderFact.{OrderFact}
 use Rattle.venue_rules.specs.declared.facts.Removal.{Removal}
-use Rattle.venue_rules.specs.Market.{Market}
-use Rattle.venue_rules.specs.Facts.{History, is_cross_id_used, is_order_id_used, next_order, next_trade, trades}
-use Rattle.venue_rules.specs.Book.{fills, find_order, is_side_full, picture, too_soon}
-use Rattle.venue_rules.specs.Delay.{due, find_held, held}
-use Rattle.price_book.specs.BookFacts.{book_facts, is_book_fact}
+use Rattle.venue_rules.specs.Facts.{History, is_order_id_used}
+use Rattle.price_book.specs.BookFacts.{is_book_fact}
 use Rattle.cross_delay.specs.DelayFacts.{delay_facts}
 use Rattle.order_answers.specs.declared.counts.Counts.{Counts}
-use Rattle.order_answers.specs.Reads.{IsRead, IsReadAlone, is_used}
+use Rattle.order_answers.specs.Reads.{IsRead, is_used}
 
 -- what is read off a history is what is read off its parts
 

@@ -1,5 +1,4 @@
-use Rattle.std.proofs.Common.{◌≡◌, refl, sym, ap, ◌∙◌, subst, ℕ, ◌+◌, ◌-◌, ◌<◌, ◌≤◌, ◌^◌, ℤ, All, true, false, ◌==◌, nat_lt, nat_le, is_none, List, [], ◌∷◌, ◌++◌, append-nil, map, length, take, Option, Some, None, is_some, option_map, MatchOption, slice_get, Bool, arith}
-use Rattle.std.specs.List.{sum_by}
+use Rattle.std.proofs.Common.{◌≡◌, refl, sym, ap, ◌∙◌, subst, ℕ, ◌+◌, ◌-◌, ◌<◌, ◌≤◌, ◌^◌, ℤ, All, true, false, nat_lt, nat_le, is_none, List, ◌∷◌, append-nil, map, length, Option, Some, None, is_some, option_map, MatchOption, slice_get, Bool, arith}
 use Rattle.std.proofs.lemmas.Bool.Decides.{nat_tests}
 use Rattle.fix_dictionary.specs.declared.messages.OrderCancelReplaceRequest.{OrderCancelReplaceRequest}
 use Rattle.venue_rules.specs.declared.facts.Fact.{Fact}
@@ -16,9 +15,10 @@ use Rattle.venue_rules.specs.Facts.{History, entries, is_order_id_used, next_ord
 use Rattle.venue_rules.specs.Answer.{Answer, Sender, numbered, reply}
 use Rattle.venue_rules.specs.Book.{Fill, Resting, filled, fills, find_order, too_soon}
 use Rattle.venue_rules.specs.Changes.{IsHeld, IsResting, answer_replace, answer_replace_of, replace_refused, replaced, replacement, standing}
-use Rattle.venue_rules.specs.Entering.{entering, entry_facts}
+use Rattle.venue_rules.specs.Entering.{entering}
 use Rattle.venue_rules.specs.Orders.{is_limit, price_or_zero}
-use Rattle.price_book.specs.declared.book.Refusal.TheVariants.{TooSoon, Full}
+use Rattle.price_book.specs.declared.book.Refusal.{Refusal as BookRefusal}
+use Rattle.price_book.specs.declared.book.Refusal.TheVariants.{TooSoon, Full, NoMemory}
 use Rattle.price_book.specs.declared.plan.FilledOrder.{FilledOrder}
 use Rattle.price_book.specs.Contents.{Contents}
 use Rattle.price_book.specs.Plan.{Plan}
@@ -27,7 +27,7 @@ use Rattle.price_book.specs.Steps.{IsPlanOf}
 use Rattle.price_book.specs.Views.{number_of}
 use Rattle.order_answers.specs.declared.replacing.ChangeCause.{ChangeCause}
 use Rattle.order_answers.specs.declared.replacing.ChangeCause.TheVariants.{Refused, PriceMissing}
-use Rattle.order_answers.specs.Changed.{IsNotReplaced, IsReplacing, MayReplace, change_turned_away}
+use Rattle.order_answers.specs.Changed.{IsBookRefusal, IsNotReplaced, IsReplacing, IsRoomLeft, IsTakingPlace, MayReplace, change_turned_away, replaced_parts}
 use Rattle.cross_delay.specs.Contents.{Contents as Delay}
 use Rattle.order_answers.specs.declared.counts.Counts.{Counts}
 use Rattle.order_answers.specs.Entered.{replaced_with, reports_from}
@@ -148,50 +148,44 @@ of-too_soon m h book delay s d t r may new soon = rw new (rw may.limit (rw may.p
 pub replace-turned : (m : Market) (h : History) (book delay : List Fact) (c : Counts) (s : Sender) (d : OrderCancelReplaceRequest) (t : ℕ) (r : Resting) (cause : ChangeCause) → IsReadAlone h book delay c → find_order book s.who d.original_id ≡ Some r → IsNotReplaced m book delay s.who d r cause → answer_replace m h s d t ≡ change_turned_away s d (standing r) cause
 replace-turned m h book delay c s d t r cause x found away = away.answers h s.number s.kind t (x.order s.who d.original_id ∙ found) (x.used s.who d.order_id)
 
-pub book_too_soon : (m : Market) (h : History) (book delay : List Fact) (c : Counts) (s : Sender) (d : OrderCancelReplaceRequest) (t : ℕ) (r : Resting) (price : ℤ) (n : ℕ) → IsReadAlone h book delay c → find_order book s.who d.original_id ≡ Some r → MayReplace m book delay s.who d r → d.price ≡ Some price → MatchOption (find_order book s.who d.original_id) ⊥ (λ q. IsReplaceRefused m book (replacing q d.order_id d.quantity price) t (TooSoon n)) → answer_replace m h s d t ≡ replace_refused s d (Some (standing r)) change.LinkedOrderTooRecent
+book_too_soon : (m : Market) (h : History) (book delay : List Fact) (c : Counts) (s : Sender) (d : OrderCancelReplaceRequest) (t : ℕ) (r : Resting) (price : ℤ) (n : ℕ) → IsReadAlone h book delay c → find_order book s.who d.original_id ≡ Some r → MayReplace m book delay s.who d r → d.price ≡ Some price → MatchOption (find_order book s.who d.original_id) ⊥ (λ q. IsReplaceRefused m book (replacing q d.order_id d.quantity price) t (TooSoon n)) → answer_replace m h s d t ≡ replace_refused s d (Some (standing r)) change.LinkedOrderTooRecent
 book_too_soon m h book delay c s d t r price n x found may priced refused =
     let P : Option Resting → Type 0 = λ y. MatchOption y ⊥ (λ q. IsReplaceRefused m book (replacing q d.order_id d.quantity price) t (TooSoon n)) in
     let k : option_map number_of (too_soon m book (replacing r d.order_id d.quantity price) t) ≡ Some n = subst P found refused in
     replace-of m h s d t r (x.order s.who d.original_id ∙ found) ∙ of-too_soon m h book delay s d t r may (x.used s.who d.order_id ∙ may.new) (has_fill (too_soon m h.facts (replacement d r) t) n (ap (option_map number_of) (x.soon m (replacement d r) t) ∙ ap (λ o. option_map number_of (too_soon m book o t)) (sym (replacing-is d r price priced)) ∙ k))
 
-pub never_full : (m : Market) (facts : List Fact) (who : ℕ) (d : OrderCancelReplaceRequest) (t : ℕ) (r : Resting) (price : ℤ) → find_order facts who d.original_id ≡ Some r → MatchOption (find_order facts who d.original_id) ⊥ (λ q. IsReplaceRefused m facts (replacing q d.order_id d.quantity price) t Full) → ⊥
+never_full : (m : Market) (facts : List Fact) (who : ℕ) (d : OrderCancelReplaceRequest) (t : ℕ) (r : Resting) (price : ℤ) → find_order facts who d.original_id ≡ Some r → MatchOption (find_order facts who d.original_id) ⊥ (λ q. IsReplaceRefused m facts (replacing q d.order_id d.quantity price) t Full) → ⊥
 never_full m facts who d t r price found refused =
     let P : Option Resting → Type 0 = λ x. MatchOption x ⊥ (λ q. IsReplaceRefused m facts (replacing q d.order_id d.quantity price) t Full) in
     subst P found refused
 
 -- the order that enters
 
-pub planned-of : (m : Market) (facts : List Fact) (who : ℕ) (d : OrderCancelReplaceRequest) (t : ℕ) (r : Resting) (price : ℤ) (plan : Plan) → find_order facts who d.original_id ≡ Some r → MatchOption (find_order facts who d.original_id) ⊥ (IsReplacePlanned m facts who d.order_id d.quantity price t plan) → IsReplacePlanned m facts who d.order_id d.quantity price t plan r
+planned-of : (m : Market) (facts : List Fact) (who : ℕ) (d : OrderCancelReplaceRequest) (t : ℕ) (r : Resting) (price : ℤ) (plan : Plan) → find_order facts who d.original_id ≡ Some r → MatchOption (find_order facts who d.original_id) ⊥ (IsReplacePlanned m facts who d.order_id d.quantity price t plan) → IsReplacePlanned m facts who d.order_id d.quantity price t plan r
 planned-of m facts who d t r price plan found planned =
     let P : Option Resting → Type 0 = λ x. MatchOption x ⊥ (IsReplacePlanned m facts who d.order_id d.quantity price t plan) in
     subst P found planned
 
+-- the book's plan is of the order that is found, which may be replaced
+pub replacing-by : (m : Market) (facts delay : List Fact) (who : ℕ) (d : OrderCancelReplaceRequest) (t : ℕ) (r : Resting) (price : ℤ) (plan : Plan) → find_order facts who d.original_id ≡ Some r → MayReplace m facts delay who d r → d.price ≡ Some price → MatchOption (find_order facts who d.original_id) ⊥ (IsReplacePlanned m facts who d.order_id d.quantity price t plan) → IsReplacing m facts delay who d t plan
+replacing-by m facts delay who d t r price plan found may priced planned = record { named = r; price = price; found = found; may = may; priced = priced; planned = planned-of m facts who d t r price plan found planned }
+
 replace_plan-is : (m : Market) (facts delay : List Fact) (who : ℕ) (d : OrderCancelReplaceRequest) (t : ℕ) (plan : Plan) (x : IsReplacing m facts delay who d t plan) → plan ≡ replace_plan facts x.named who (replacement d x.named) t
 replace_plan-is m facts delay who d t plan x = x.planned.plan ∙ ap (λ o. replace_plan facts x.named who o t) (replacing-is d x.named x.price x.priced)
 
-pub entered-is : (m : Market) (facts delay : List Fact) (who : ℕ) (d : OrderCancelReplaceRequest) (t : ℕ) (plan : Plan) (x : IsReplacing m facts delay who d t plan) → slice_get (entries plan.facts) 0 ≡ Some (entering facts (replacement d x.named) (filled x.named) t)
+entered-is : (m : Market) (facts delay : List Fact) (who : ℕ) (d : OrderCancelReplaceRequest) (t : ℕ) (plan : Plan) (x : IsReplacing m facts delay who d t plan) → slice_get (entries plan.facts) 0 ≡ Some (entering facts (replacement d x.named) (filled x.named) t)
 entered-is m facts delay who d t plan x = ap (λ p. slice_get (entries p.facts) 0) (replace_plan-is m facts delay who d t plan x)
-
-pub entry-is : (m : Market) (facts delay : List Fact) (who : ℕ) (d : OrderCancelReplaceRequest) (t : ℕ) (plan : Plan) (x : IsReplacing m facts delay who d t plan) (e : Entry) → Some e ≡ slice_get (entries plan.facts) 0 → e ≡ entering facts (replacement d x.named) (filled x.named) t
-entry-is m facts delay who d t plan x e h = let k : Some e ≡ Some (entering facts (replacement d x.named) (filled x.named) t) = h ∙ entered-is m facts delay who d t plan x in cc
-
-pub entry-instrument : (m : Market) (facts delay : List Fact) (who : ℕ) (d : OrderCancelReplaceRequest) (t : ℕ) (plan : Plan) (x : IsReplacing m facts delay who d t plan) (e : Entry) → are_listed (length m.instruments) facts ≡ true → Some e ≡ slice_get (entries plan.facts) 0 → e.order.instrument < length m.instruments
-entry-instrument m facts delay who d t plan x e listed h =
-    let P : Entry → Type 0 = λ y. y.order.instrument < length m.instruments in
-    subst P (sym (entry-is m facts delay who d t plan x e h)) (order-listed facts (length m.instruments) who d.original_id x.named listed x.found)
-
-pub entry-within : (m : Market) (facts delay : List Fact) (who : ℕ) (d : OrderCancelReplaceRequest) (t : ℕ) (plan : Plan) (x : IsReplacing m facts delay who d t plan) (e : Entry) → Some e ≡ slice_get (entries plan.facts) 0 → (k : ℕ) → sum_by (λ (f : FilledOrder). f.quantity) (take k plan.fills) ≤ e.order.quantity
-entry-within m facts delay who d t plan x e h k =
-    let P : Entry → Type 0 = λ y. sum_by (λ (f : FilledOrder). f.quantity) (take k plan.fills) ≤ y.order.quantity in
-    subst P (sym (entry-is m facts delay who d t plan x e h)) (x.planned.within k)
 
 rest_of : (a b : ℕ) → nat_le a b ≡ false → a ≤ 10 ^ 15 → b + (a - b) ≤ 10 ^ 15
 rest_of a b h k = grind (arith, nat_tests)
 
-pub entry-whole : (m : Market) (facts delay : List Fact) (who : ℕ) (d : OrderCancelReplaceRequest) (t : ℕ) (plan : Plan) (x : IsReplacing m facts delay who d t plan) (e : Entry) → d.quantity ≤ 10 ^ 15 → Some e ≡ slice_get (entries plan.facts) 0 → e.filled_before + e.order.quantity ≤ 10 ^ 15
-entry-whole m facts delay who d t plan x e most h =
-    let P : Entry → Type 0 = λ y. y.filled_before + y.order.quantity ≤ 10 ^ 15 in
-    subst P (sym (entry-is m facts delay who d t plan x e h)) (rest_of d.quantity (filled x.named) x.may.more most)
+-- the order that enters takes another's place
+pub taking-place : (m : Market) (facts delay : List Fact) (who : ℕ) (d : OrderCancelReplaceRequest) (t : ℕ) (plan : Plan) (x : IsReplacing m facts delay who d t plan) → are_listed (length m.instruments) facts ≡ true → d.quantity ≤ 10 ^ 15 → MatchOption (slice_get (entries plan.facts) 0) ⊥ (IsTakingPlace (length m.instruments) plan.fills)
+taking-place m facts delay who d t plan x listed most =
+    let P : Option Entry → Type 0 = λ y. MatchOption y ⊥ (IsTakingPlace (length m.instruments) plan.fills) in
+    let e : Entry = entering facts (replacement d x.named) (filled x.named) t in
+    let takes : IsTakingPlace (length m.instruments) plan.fills e = record { listed = order-listed facts (length m.instruments) who d.original_id x.named listed x.found; within = x.planned.within; whole = rest_of d.quantity (filled x.named) x.may.more most } in
+    subst P (sym (entered-is m facts delay who d t plan x)) takes
 
 -- the whole answer
 
@@ -222,26 +216,27 @@ replaced-read m h book delay c s d r t x =
     ∙ ap (λ n. replaced_with m s.who d.original_id r.entry.number e (fills book o) n h.reports) x.trade_number
     ∙ ap (λ n. replaced_with m s.who d.original_id r.entry.number e (fills book o) (c.trades + 1) n) x.reports
 
-pub replaced-is : (m : Market) (h : History) (book delay : List Fact) (c : Counts) (s : Sender) (d : OrderCancelReplaceRequest) (t : ℕ) (plan : Plan) (x : IsReplacing m book delay s.who d t plan) (symbol : List ℕ) (e : Entry) (replies : List Reply) (a : Parts)
-    → IsReadAlone h book delay c → symbol ≡ symbol_of m.instruments e.order.instrument → Some e ≡ slice_get (entries plan.facts) 0
-    → replies ≡ numbered c.reports (replaced_reports s.who d.original_id symbol e (c.trades + 1) plan.fills) → a ≡ record { delay_first = false; delay = []; book = plan.facts; replies = replies }
-    → answer_of a ≡ answer_replace m h s d t
-replaced-is m h book delay c s d t plan x symbol e replies a alone named entered made is =
+-- what is told of the plan, by the order that enters
+told-of : (m : Market) (facts delay : List Fact) (c : Counts) (who : ℕ) (d : OrderCancelReplaceRequest) (t : ℕ) (plan : Plan) (x : IsReplacing m facts delay who d t plan) (a : Parts) → MatchOption (slice_get (entries plan.facts) 0) ⊥ (λ e. a ≡ replaced_parts m.instruments c who d.original_id plan e) → a ≡ replaced_parts m.instruments c who d.original_id plan (entering facts (replacement d x.named) (filled x.named) t)
+told-of m facts delay c who d t plan x a told =
+    let P : Option Entry → Type 0 = λ y. MatchOption y ⊥ (λ e. a ≡ replaced_parts m.instruments c who d.original_id plan e) in
+    subst P (entered-is m facts delay who d t plan x) told
+
+pub replaced-told : (m : Market) (h : History) (book delay : List Fact) (c : Counts) (s : Sender) (d : OrderCancelReplaceRequest) (t : ℕ) (plan : Plan) (x : IsReplacing m book delay s.who d t plan) (a : Parts) → IsReadAlone h book delay c → MatchOption (slice_get (entries plan.facts) 0) ⊥ (λ e. a ≡ replaced_parts m.instruments c s.who d.original_id plan e) → answer_of a ≡ answer_replace m h s d t
+replaced-told m h book delay c s d t plan x a alone told =
     let r : Resting = x.named in
     let o : OrderFact = replacement d r in
-    let new : Entry = entering book o (filled r) t in
+    let e : Entry = entering book o (filled r) t in
+    let symbol : List ℕ = symbol_of m.instruments e.order.instrument in
     let planned : plan ≡ replace_plan book r s.who o t = replace_plan-is m book delay s.who d t plan x in
-    let same : e ≡ new = entry-is m book delay s.who d t plan x e entered in
     let here : All (λ (g : FilledOrder). g.instrument ≡ r.entry.order.instrument) (map printed (fills book o)) = subst (λ (p : Plan). All (λ (g : FilledOrder). g.instrument ≡ r.entry.order.instrument) p.fills) planned x.planned.here in
-    let own : symbol ≡ symbol_of m.instruments r.entry.order.instrument = named ∙ ap (λ (y : Entry). symbol_of m.instruments y.order.instrument) same in
-    let answer : Answer = replaced_with m s.who d.original_id r.entry.number new (fills book o) (c.trades + 1) c.reports in
+    let answer : Answer = replaced_with m s.who d.original_id r.entry.number e (fills book o) (c.trades + 1) c.reports in
+    let replies : List Reply = (replaced_parts m.instruments c s.who d.original_id plan e).replies in
     let all : replies ≡ answer.replies =
-    made
-    ∙ ap (λ (p : Plan). numbered c.reports (replaced_reports s.who d.original_id symbol e (c.trades + 1) p.fills)) planned
-    ∙ ap (λ (y : Entry). numbered c.reports (replaced_reports s.who d.original_id symbol y (c.trades + 1) (map printed (fills book o)))) same
-    ∙ replaced-plan m s.who d.original_id r.entry.number new (fills book o) (c.trades + 1) c.reports symbol own here in
+    ap (λ (p : Plan). numbered c.reports (replaced_reports s.who d.original_id symbol e (c.trades + 1) p.fills)) planned
+    ∙ replaced-plan m s.who d.original_id r.entry.number e (fills book o) (c.trades + 1) c.reports symbol refl here in
     let free : too_soon m h.facts o t ≡ None = alone.soon m o t ∙ ap (λ (y : OrderFact). too_soon m book y t) (sym (replacing-is d r x.price x.priced)) ∙ x.planned.free in
-    ap answer_of is
+    ap answer_of (told-of m book delay c s.who d t plan x a told)
     ∙ ap (λ (fs : List Fact). let y : Answer = record { facts = fs; replies = replies } in y) (append-nil plan.facts)
     ∙ ap (λ (p : Plan). let y : Answer = record { facts = p.facts; replies = replies } in y) planned
     ∙ ap (λ (fs : List Fact). let y : Answer = record { facts = fs; replies = replies } in y) (replaced-facts m book r s.who d.original_id o t (c.trades + 1) c.reports)
@@ -251,15 +246,28 @@ replaced-is m h book delay c s d t plan x symbol e replies a alone named entered
 
 -- what enters is planned, in a listed instrument
 
-pub replace-made : (m : Market) (facts delay : List Fact) (who : ℕ) (d : OrderCancelReplaceRequest) (t : ℕ) (plan : Plan) (x : IsReplacing m facts delay who d t plan) (book : Contents) (held : Delay) (replies : List Reply) (a : Parts) → are_listed (length m.instruments) facts ≡ true → IsPlanOf book plan.facts → a ≡ record { delay_first = false; delay = []; book = plan.facts; replies = replies } → IsMade (length m.instruments) book held a
-replace-made m facts delay who d t plan x book held replies a listed made is =
+pub told-made : (m : Market) (facts delay : List Fact) (c : Counts) (who : ℕ) (d : OrderCancelReplaceRequest) (t : ℕ) (plan : Plan) (x : IsReplacing m facts delay who d t plan) (book : Contents) (held : Delay) (a : Parts) → are_listed (length m.instruments) facts ≡ true → IsPlanOf book plan.facts → MatchOption (slice_get (entries plan.facts) 0) ⊥ (λ e. a ≡ replaced_parts m.instruments c who d.original_id plan e) → IsMade (length m.instruments) book held a
+told-made m facts delay c who d t plan x book held a listed made told =
     let P : Parts → Type 0 = λ p. IsMade (length m.instruments) book held p in
     let o : OrderFact = replacement d x.named in
-    let here : are_listed (length m.instruments) plan.facts ≡ true = ap (λ (p : Plan). are_listed (length m.instruments) p.facts) (replace_plan-is m facts delay who d t plan x) ∙ entry-listed (length m.instruments) (entering facts o (filled x.named) t) (fills facts o) (order-listed facts (length m.instruments) who d.original_id x.named listed x.found) in
-    subst P (sym is) (book-made (length m.instruments) book held (record { delay_first = false; delay = []; book = plan.facts; replies = replies }) made here refl)
+    let e : Entry = entering facts o (filled x.named) t in
+    let here : are_listed (length m.instruments) plan.facts ≡ true = ap (λ (p : Plan). are_listed (length m.instruments) p.facts) (replace_plan-is m facts delay who d t plan x) ∙ entry-listed (length m.instruments) e (fills facts o) (order-listed facts (length m.instruments) who d.original_id x.named listed x.found) in
+    subst P (sym (told-of m facts delay c who d t plan x a told)) (book-made (length m.instruments) book held (replaced_parts m.instruments c who d.original_id plan e) made here refl)
 
 pub replace-trades : (m : Market) (facts delay : List Fact) (who : ℕ) (d : OrderCancelReplaceRequest) (t : ℕ) (plan : Plan) (x : IsReplacing m facts delay who d t plan) → length (trades plan.facts) ≡ length plan.fills
 replace-trades m facts delay who d t plan x =
     let o : OrderFact = replacement d x.named in
     let is : plan ≡ replace_plan facts x.named who o t = replace_plan-is m facts delay who d t plan x in
     ap (λ (p : Plan). length (trades p.facts)) is ∙ trades-entered (entering facts o (filled x.named) t) (fills facts o) ∙ sym (ap (λ (p : Plan). length p.fills) is)
+
+-- what the book refuses
+
+pub room-left : (m : Market) (facts : List Fact) (who : ℕ) (d : OrderCancelReplaceRequest) (t : ℕ) (r : Resting) (price : ℤ) (refusal : BookRefusal) → find_order facts who d.original_id ≡ Some r → MatchOption (find_order facts who d.original_id) ⊥ (λ q. IsReplaceRefused m facts (replacing q d.order_id d.quantity price) t refusal) → IsRoomLeft refusal
+room-left m facts who d t r price (TooSoon n) found refused = tt
+room-left m facts who d t r price Full found refused = absurd (never_full m facts who d t r price found refused)
+room-left m facts who d t r price NoMemory found refused = tt
+
+pub book-refused : (m : Market) (h : History) (book delay : List Fact) (c : Counts) (s : Sender) (d : OrderCancelReplaceRequest) (t : ℕ) (r : Resting) (price : ℤ) (refusal : BookRefusal) (a : Answer) → IsReadAlone h book delay c → find_order book s.who d.original_id ≡ Some r → MayReplace m book delay s.who d r → d.price ≡ Some price → MatchOption (find_order book s.who d.original_id) ⊥ (λ q. IsReplaceRefused m book (replacing q d.order_id d.quantity price) t refusal) → IsBookRefusal s d (standing r) refusal a → a ≡ answer_replace m h s d t
+book-refused m h book delay c s d t r price (TooSoon n) a x found may priced refused is = is ∙ sym (book_too_soon m h book delay c s d t r price n x found may priced refused)
+book-refused m h book delay c s d t r price Full a x found may priced refused is = absurd is
+book-refused m h book delay c s d t r price NoMemory a x found may priced refused is = absurd is

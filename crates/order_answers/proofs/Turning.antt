@@ -5,7 +5,7 @@ use Rattle.venue_rules.specs.declared.refusals.OrderRefusal.TheVariants as order
 use Rattle.venue_rules.specs.Market.{Market}
 use Rattle.venue_rules.specs.Facts.{History, is_order_id_used}
 use Rattle.venue_rules.specs.Answer.{Answer, Sender}
-use Rattle.venue_rules.specs.Book.{too_soon, is_side_full, Fill, fills}
+use Rattle.venue_rules.specs.Book.{too_soon, is_side_full, Fill}
 use Rattle.venue_rules.specs.Orders.{accepted, answer_order, is_limit, is_unsupported_life, order_asked, price_or_zero, refused}
 use Rattle.instruments.specs.Listing.{instrument_of, is_off_tick, is_unknown_instrument, least_of}
 use Rattle.venue_rules.specs.declared.refusals.OrderRefusal.{OrderRefusal}
@@ -23,7 +23,7 @@ use Rattle.order_answers.specs.declared.orders.Cause.TheVariants.{Refused, Price
 use Rattle.std.proofs.lemmas.Bool.Decides.{nat_tests}
 use Rattle.venue_rules.specs.declared.facts.Fact.TheVariants.{Traded}
 use Rattle.venue_rules.specs.declared.facts.Entry.{Entry}
-use Rattle.venue_rules.specs.Entering.{entering, entry_facts, trade_of}
+use Rattle.venue_rules.specs.Entering.{entry_facts, trade_of}
 use Rattle.order_answers.specs.declared.counts.Counts.{Counts}
 use Rattle.order_answers.specs.Made.{IsMade, are_listed}
 use Rattle.order_answers.specs.Parts.{Parts, answer_of, book_answer_of}

@@ -1,5 +1,6 @@
 //! A cancel (OrderCancelRequest, F) of a resting order or of a held side, and the refusal of any change of one.
 ghost use Rattle.std.specs.Prelude.{◌≡◌, ◌<◌, ◌+◌, ◌^◌, ℕ, List, [], ◌∷◌, true, length, IfOk, Some, None, option_map};
+ghost use Rattle.participants.specs.ParticipantFile.{ParticipantFile};
 ghost use Rattle.venue_rules.specs.declared.facts.Fact.{Fact as FactValue};
 ghost use Rattle.venue_rules.specs.Book.{find_order};
 ghost use Rattle.venue_rules.specs.Facts.{History};
@@ -127,7 +128,6 @@ fn drop_reply(
 /// The answer to a cancel that names no resting order: of a held side, or of what is not there.
 fn plan_drop(
     alloc: Global,
-    participants: &Participants,
     instruments: &Instruments,
     book: &PriceBook,
     held: &mut Held,
@@ -139,7 +139,7 @@ fn plan_drop(
     requires delay_listed { are_listed (length instruments.now) held.old.facts ≡ true }
     requires unknown { find_order book.now.facts taken.now.from request.now.original_id ≡ None }
     ensures delay_kept { held.new.facts ≡ held.old.facts }
-    ensures planned { IfOk result (λ a. (h : History) → IsRead h book.now.facts held.old.facts counts → answer_of a ≡ answer_cancel (market participants.now instruments.now) h (sender taken.now) request.now) }
+    ensures planned { IfOk result (λ a. (participants : ParticipantFile) (h : History) → IsRead h book.now.facts held.old.facts counts → answer_of a ≡ answer_cancel (market participants instruments.now) h (sender taken.now) request.now) }
     ensures made { IfOk result (λ a. IsMade (length instruments.now) book.now held.new a) }
 {
     parts_are_read_alone();
@@ -181,30 +181,15 @@ pub fn plan_cancel(
     parts_are_read_alone();
     let (who, id, original) = (taken.from, &request.order_id, &request.original_id);
     let Some(order) = book.order(who, original) else {
-        return plan_drop(
-            alloc,
-            participants,
-            instruments,
-            book,
-            held,
-            counts,
-            taken,
-            request,
-        );
+        return plan_drop(alloc, instruments, book, held, counts, taken, request);
     };
     if is_used(book, held, who, id) {
         let named = Some(standing(order));
         let cause = ChangeRefusal::DuplicateClOrdId;
         return change_refused(alloc, taken, named, ChangeKind::Cancel, id, original, cause);
     }
-    let reply = cancel_reply(
-        alloc,
-        instruments,
-        taken,
-        request,
-        order,
-        counts.reports + 1,
-    )?;
+    let report = counts.reports + 1;
+    let reply = cancel_reply(alloc, instruments, taken, request, order, report)?;
     let replies = vec![in alloc; reply]?;
     let plan = book.plan_cancel(who, original, id)?;
     let nothing = HoldPlan::nothing(alloc);

@@ -1,10 +1,12 @@
 //! A replacement (OrderCancelReplaceRequest, G) of a resting order; a held side is not replaced.
-ghost use Rattle.std.specs.Prelude.{◌≡◌, ◌≤◌, ◌<◌, ◌^◌, [], true, length, Some, None, IfOk, IfErr};
+ghost use Rattle.std.specs.Prelude.{◌≡◌, ◌≤◌, ◌<◌, ◌^◌, ℕ, [], true, length, slice_get, Some, None, MatchOption, IfOk, IfErr};
 ghost use Rattle.venue_rules.specs.Book.{find_order};
-ghost use Rattle.venue_rules.specs.Facts.{History};
+ghost use Rattle.venue_rules.specs.Facts.{History, entries, trades};
+ghost use Rattle.venue_rules.specs.Market.{Market};
 ghost use Rattle.venue_rules.specs.Changes.{answer_replace, replace_refused};
 ghost use Rattle.price_book.specs.Views.{seen};
-ghost use Rattle.order_answers.specs.Changed.{IsNotReplaced, MayReplace, change_turned_away};
+ghost use Rattle.order_answers.specs.declared.counts.Counts.{Counts as CountsValue};
+ghost use Rattle.order_answers.specs.Changed.{IsBookRefusal, IsNotReplaced, IsRoomLeft, IsTakingPlace, MayReplace, change_turned_away, replaced_parts};
 ghost use Rattle.order_answers.specs.Made.{IsMade, are_listed};
 ghost use Rattle.order_answers.specs.Market.{market, sender};
 ghost use Rattle.order_answers.specs.Parts.{answer_of};
@@ -23,7 +25,7 @@ use cross_delay::{Held, HoldPlan};
 use fix_dictionary::{OrderCancelReplaceRequest, Price};
 use instruments::Instruments;
 use participants::Participants;
-use price_book::{PriceBook, Refusal, Resting};
+use price_book::{FillPlan, PriceBook, Refusal, Resting};
 use sef_moment::Moment;
 use std::alloc::{AllocError, Global};
 use venue_rules::{BusinessRefusal, ChangeKind, ChangeRefusal, Standing, Taken, Who};
@@ -110,17 +112,13 @@ fn turned_away(
 /// The answer to a replacement that names no resting order: of a held side, or of what is not there. It is always refused.
 fn none_replaced(
     alloc: Global,
-    participants: &Participants,
-    instruments: &Instruments,
     book: &PriceBook,
     held: &Held,
-    counts: Counts,
     taken: &Taken,
     request: &OrderCancelReplaceRequest,
-    moment: Moment,
 ) -> Result<OrderAnswer, AllocError>
     requires unknown { find_order book.now.facts taken.now.from request.now.original_id ≡ None }
-    ensures planned { IfOk result (λ a. (h : History) → IsRead h book.now.facts held.now.facts counts → answer_of a ≡ answer_replace (market participants.now instruments.now) h (sender taken.now) request.now moment) }
+    ensures planned { IfOk result (λ a. (m : Market) (h : History) (counts : CountsValue) (t : ℕ) → IsRead h book.now.facts held.now.facts counts → answer_of a ≡ answer_replace m h (sender taken.now) request.now t) }
     ensures quiet { IfOk result (λ a. (a.book ≡ []) × (a.delay ≡ [])) }
 {
     parts_are_read_alone();
@@ -132,6 +130,52 @@ fn none_replaced(
         return refused(alloc, taken, request, None, ChangeRefusal::DuplicateClOrdId);
     }
     refused(alloc, taken, request, None, ChangeRefusal::HeldSide)
+}
+
+/// The answer to a replacement that the book refuses. It has room for what takes an order's place, so what it refuses comes too soon.
+fn refused_by_book(
+    alloc: Global,
+    taken: &Taken,
+    request: &OrderCancelReplaceRequest,
+    named: Standing,
+    refusal: Refusal,
+) -> Result<OrderAnswer, AllocError>
+    requires { IsRoomLeft refusal }
+    ensures answer { IfOk result (λ a. IsBookRefusal (sender taken.now) request.now named refusal (answer_of a)) }
+    ensures quiet { IfOk result (λ a. (a.book ≡ []) × (a.delay ≡ [])) }
+{
+    match refusal {
+        Refusal::TooSoon(_) => {
+            let cause = ChangeRefusal::LinkedOrderTooRecent;
+            refused(alloc, taken, request, Some(named), cause)
+        }
+        Refusal::Full => unreachable!(),
+        Refusal::NoMemory => Err(AllocError),
+    }
+}
+
+/// The answer to a replacement that the book takes: what it plans, and the reports of the order that enters by it.
+fn replaced(
+    alloc: Global,
+    instruments: &Instruments,
+    counts: Counts,
+    taken: &Taken,
+    request: &OrderCancelReplaceRequest,
+    plan: FillPlan,
+) -> Result<OrderAnswer, AllocError>
+    requires number { AreCounts counts }
+    requires few { length plan.fills ≤ 200 }
+    requires trades { length (trades plan.facts) ≤ 200 }
+    requires enters { MatchOption (slice_get (entries plan.facts) 0) ⊥ (IsTakingPlace (length instruments.now) plan.fills) }
+    ensures { IfOk result (λ a. MatchOption (slice_get (entries plan.facts) 0) ⊥ (λ e. a ≡ replaced_parts instruments.now counts taken.now.from request.now.original_id plan e)) }
+{
+    let entry = plan.entered().unwrap();
+    let symbol = symbol_of(alloc, instruments, entry.order.instrument)?;
+    let (trade, reports) = (counts.trades + 1, counts.reports);
+    let (to, original, fills) = (taken.from, &request.original_id, plan.fills());
+    let replies = replaced_replies(alloc, to, original, &symbol, entry, fills, trade, reports)?;
+    let nothing = HoldPlan::nothing(alloc);
+    Ok(OrderAnswer::of(false, nothing, plan, replies))
 }
 
 /// The answer to a replacement; makes room for what it adds to the book.
@@ -155,50 +199,24 @@ pub fn plan_replace(
     parts_are_read_alone();
     let (who, id, original) = (taken.from, &request.order_id, &request.original_id);
     let Some(order) = book.order(who, original) else {
-        return none_replaced(
-            alloc,
-            participants,
-            instruments,
-            book,
-            held,
-            counts,
-            taken,
-            request,
-            moment,
-        );
+        return none_replaced(alloc, book, held, taken, request);
     };
     let named = standing(order);
     let price = match new_price(participants, instruments, book, held, who, request, order) {
         Ok(price) => price,
         Err(cause) => return turned_away(alloc, taken, request, named, cause),
     };
-    let quantity = request.quantity;
     match book.plan_replace(
         participants,
         instruments,
         who,
         original,
         id,
-        quantity,
+        request.quantity,
         price,
         moment,
     ) {
-        Ok(plan) => {
-            let entry = plan.entered().unwrap();
-            let symbol = symbol_of(alloc, instruments, entry.order.instrument)?;
-            let (trade, reports) = (counts.trades + 1, counts.reports);
-            let fills = plan.fills();
-            let replies = replaced_replies(
-                alloc, who, original, &symbol, entry, fills, trade, reports,
-            )?;
-            let nothing = HoldPlan::nothing(alloc);
-            Ok(OrderAnswer::of(false, nothing, plan, replies))
-        }
-        Err(Refusal::TooSoon(_)) => {
-            let cause = ChangeRefusal::LinkedOrderTooRecent;
-            refused(alloc, taken, request, Some(named), cause)
-        }
-        Err(Refusal::Full) => unreachable!(),
-        Err(Refusal::NoMemory) => Err(AllocError),
+        Ok(plan) => replaced(alloc, instruments, counts, taken, request, plan),
+        Err(refusal) => refused_by_book(alloc, taken, request, named, refusal),
     }
 }

@@ -1,4 +1,4 @@
-use Rattle.std.proofs.Common.{◌≡◌, refl, sym, ap, ◌∙◌, subst, ℕ, ◌<◌, Bool, true, false, not, ◌==◌, ◌&&◌, ◌||◌, nat_lt, List, [], ◌∷◌, find, length, bytes_eq, Option, Some, None, IsSome, is_some, MatchOption, arith, rules}
+use Rattle.std.proofs.Common.{◌≡◌, refl, sym, ap, ◌∙◌, subst, ℕ, ◌<◌, Bool, true, false, not, ◌==◌, ◌||◌, nat_lt, List, [], ◌∷◌, find, length, bytes_eq, Option, Some, None, IsSome, is_some, MatchOption, arith}
 use Rattle.std.specs.List.{list_all, list_any}
 use Rattle.std.proofs.lemmas.Bool.Decides.{nat_tests}
 use Rattle.fix_dictionary.specs.declared.messages.Quote.{Quote}
@@ -7,7 +7,6 @@ use Rattle.venue_rules.specs.declared.facts.Fact.{Fact}
 use Rattle.venue_rules.specs.declared.facts.Fact.TheVariants.{Entered, Traded, Removed, Held, Unheld, Asked, Quoted, Withdrawn, Closed}
 use Rattle.venue_rules.specs.declared.facts.Room.{Room}
 use Rattle.venue_rules.specs.declared.facts.RoomQuote.{RoomQuote}
-use Rattle.venue_rules.specs.declared.refusals.QuoteRefusal.{QuoteRefusal}
 use Rattle.venue_rules.specs.declared.refusals.QuoteRefusal.TheVariants as quote
 use Rattle.venue_rules.specs.Market.{Market}
 use Rattle.venue_rules.specs.Facts.{is_quote_id_used, rooms}

@@ -1,4 +1,4 @@
-use Rattle.std.proofs.Common.{◌≡◌, refl, sym, ap, ◌∙◌, subst, ℕ, Bool, true, false, List, [], ◌∷◌, ◌++◌, append-nil, Option, Some, None, MatchOption, is_some, option_map}
+use Rattle.std.proofs.Common.{◌≡◌, refl, sym, ap, ◌∙◌, subst, ℕ, Bool, true, false, List, [], ◌∷◌, ◌++◌, Option, Some, None, MatchOption, is_some, option_map}
 use Rattle.fix_dictionary.specs.declared.messages.Quote.{Quote}
 use Rattle.participants.specs.ParticipantFile.{ParticipantFile}
 use Rattle.instruments.specs.declared.instruments.Instrument.{Instrument}
@@ -9,7 +9,6 @@ use Rattle.venue_rules.specs.declared.facts.Room.{Room}
 use Rattle.venue_rules.specs.declared.facts.RoomQuote.{RoomQuote}
 use Rattle.venue_rules.specs.declared.refusals.QuoteRefusal.{QuoteRefusal}
 use Rattle.venue_rules.specs.declared.replies.QuoteState.TheVariants as state
-use Rattle.venue_rules.specs.declared.replies.PictureEntry.{PictureEntry}
 use Rattle.venue_rules.specs.declared.replies.Reply.{Reply}
 use Rattle.venue_rules.specs.Market.{Market}
 use Rattle.venue_rules.specs.Facts.{History}

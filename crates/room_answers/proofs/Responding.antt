@@ -1,4 +1,4 @@
-use Rattle.std.proofs.Common.{◌≡◌, refl, sym, ap, ◌∙◌, subst, ℕ, ◌+◌, ◌*◌, ◌<◌, ◌==◌, true, List, [], ◌∷◌, length, find, Option, Some, None, IsSome, MatchOption, option_map, Result, Ok, Err, IfOk}
+use Rattle.std.proofs.Common.{◌≡◌, refl, sym, ap, ◌∙◌, subst, ℕ, ◌+◌, ◌*◌, ◌<◌, ◌==◌, true, List, length, Option, Some, None, IsSome, MatchOption, option_map, Result, Ok, Err, IfOk}
 use Rattle.fix_dictionary.specs.declared.messages.QuoteResponse.{QuoteResponse}
 use Rattle.instruments.specs.declared.instruments.Instrument.{Instrument}
 use Rattle.venue_rules.specs.declared.facts.Fact.{Fact}

@@ -1,10 +1,12 @@
-use Rattle.std.specs.Prelude.{◌≡◌, ℕ, ◌+◌, List, [], ◌∷◌, Option, Some, None, MatchOption}
+use Rattle.std.specs.Prelude.{◌≡◌, ℕ, ◌+◌, Bool, true, false, List, [], ◌∷◌, Option, Some, None, MatchOption}
 use Rattle.fix_dictionary.specs.declared.messages.QuoteResponse.{QuoteResponse}
 use Rattle.instruments.specs.declared.instruments.Instrument.{Instrument}
 use Rattle.instruments.specs.Listing.{symbol_of}
 use Rattle.venue_rules.specs.declared.facts.Fact.{Fact}
 use Rattle.venue_rules.specs.declared.facts.Room.{Room}
 use Rattle.venue_rules.specs.declared.facts.RoomQuote.{RoomQuote}
+use Rattle.venue_rules.specs.declared.refusals.ResponseRefusal.TheVariants as refusal
+use Rattle.venue_rules.specs.declared.replies.QuoteState.{QuoteState}
 use Rattle.venue_rules.specs.declared.replies.QuoteState.TheVariants as state
 use Rattle.venue_rules.specs.declared.replies.Reply.{Reply}
 use Rattle.venue_rules.specs.Answer.{Sender}
@@ -12,6 +14,8 @@ use Rattle.venue_rules.specs.Responses.{response_status}
 use Rattle.venue_rules.specs.Rooms.{find_quote}
 use Rattle.rfq_room.specs.Named.{quote_room}
 use Rattle.rfq_room.specs.declared.decision.Hit.{Hit}
+use Rattle.rfq_room.specs.declared.refusal.ResponseCause.{ResponseCause}
+use Rattle.rfq_room.specs.declared.refusal.ResponseCause.TheVariants as response
 use Rattle.room_answers.specs.Sent.{other_side, to_maker, traded_report}
 
 -- a pass is told to the sender and to the maker
@@ -40,3 +44,27 @@ IsResponseTold instruments facts reports traded s d hit replies =
 abbrev pub hits : Option Hit → ℕ
 hits None = 0
 hits (Some hit) = 1
+
+-- what a status says of a refused answer; nothing where the message is not processed
+abbrev pub refused_state : ResponseCause → Option QuoteState
+refused_state response.Unsupported = Some (state.ResponseRefused refusal.UnsupportedResponse)
+refused_state response.UnknownQuote = Some state.NotFound
+refused_state response.NotYours = Some (state.ResponseRefused refusal.NotYours)
+refused_state response.Over = Some state.NotFound
+refused_state response.Withdrawn = Some state.Withdrawn
+refused_state response.Expired = Some state.Expired
+refused_state response.OtherSide = Some (state.ResponseRefused refusal.Side)
+refused_state response.SideMissing = None
+refused_state response.NoPrice = Some (state.ResponseRefused refusal.InvalidPrice)
+
+-- an answer refused for this cause is to a quote in a room of the sender's own
+abbrev pub is_own_room : ResponseCause → Bool
+is_own_room response.Unsupported = false
+is_own_room response.UnknownQuote = false
+is_own_room response.NotYours = false
+is_own_room response.Over = true
+is_own_room response.Withdrawn = true
+is_own_room response.Expired = true
+is_own_room response.OtherSide = true
+is_own_room response.SideMissing = true
+is_own_room response.NoPrice = true

@@ -13,7 +13,7 @@ ghost use Rattle.rfq_room.specs.Steps.{IsPlanOf};
 ghost use Rattle.rfq_room.specs.Told.{response_refused};
 ghost use Rattle.room_answers.specs.Counting.{trades_in};
 ghost use Rattle.room_answers.specs.Known.{are_known};
-ghost use Rattle.room_answers.specs.Responded.{IsResponseTold, hit_told, hits, pass_told, response_replies};
+ghost use Rattle.room_answers.specs.Responded.{IsResponseTold, hit_told, hits, is_own_room, pass_told, refused_state, response_replies};
 ghost use Rattle.room_answers.specs.Senders.{market, sent_by};
 ghost use Rattle.room_answers.specs.Sent.{other_side, symbol_in, traded_report};
 
@@ -85,6 +85,40 @@ fn told(
     Ok(RoomAnswer::of(RoomPlan::nothing(alloc), replies, 0, 0))
 }
 
+// What a status says of a refused answer; nothing where the message is not processed.
+fn refused_state(cause: ResponseCause) -> Option<QuoteState>
+    ensures { result ≡ refused_state cause }
+{
+    match cause {
+        ResponseCause::SideMissing => None,
+        ResponseCause::Unsupported => {
+            Some(QuoteState::ResponseRefused(ResponseRefusal::UnsupportedResponse))
+        }
+        ResponseCause::UnknownQuote => Some(QuoteState::NotFound),
+        ResponseCause::NotYours => Some(QuoteState::ResponseRefused(ResponseRefusal::NotYours)),
+        ResponseCause::Over => Some(QuoteState::NotFound),
+        ResponseCause::Withdrawn => Some(QuoteState::Withdrawn),
+        ResponseCause::Expired => Some(QuoteState::Expired),
+        ResponseCause::OtherSide => Some(QuoteState::ResponseRefused(ResponseRefusal::Side)),
+        ResponseCause::NoPrice => Some(QuoteState::ResponseRefused(ResponseRefusal::InvalidPrice)),
+    }
+}
+
+// Whether a refusal for this cause comes after the room is known to be the sender's own.
+fn is_own_room(cause: ResponseCause) -> bool
+    ensures { result ≡ is_own_room cause }
+{
+    match cause {
+        ResponseCause::Unsupported | ResponseCause::UnknownQuote | ResponseCause::NotYours => false,
+        ResponseCause::Over
+        | ResponseCause::Withdrawn
+        | ResponseCause::Expired
+        | ResponseCause::OtherSide
+        | ResponseCause::SideMissing
+        | ResponseCause::NoPrice => true,
+    }
+}
+
 // An answer refused: the room is named from where it is known to be the sender's own.
 fn refused_in(
     alloc: Global,
@@ -98,43 +132,13 @@ fn refused_in(
     ensures quiet { IfOk result (λ a. a.facts ≡ []) }
     ensures told { IfOk result (λ a. (participants : ParticipantFile) → a ≡ response_refused (market participants instruments.now) (sent_by sender (codes "AJ")) response.now (option_map (λ r. r.now) room.entry) cause) }
 {
-    match cause {
-        ResponseCause::SideMissing => {
-            unprocessed(alloc, sender, b"AJ", BusinessRefusal::SideMissing)
-        }
-        ResponseCause::Unsupported => {
-            let state = QuoteState::ResponseRefused(ResponseRefusal::UnsupportedResponse);
-            told(alloc, instruments, sender, response, None, state)
-        }
-        ResponseCause::UnknownQuote => {
-            let state = QuoteState::NotFound;
-            told(alloc, instruments, sender, response, None, state)
-        }
-        ResponseCause::NotYours => {
-            let state = QuoteState::ResponseRefused(ResponseRefusal::NotYours);
-            told(alloc, instruments, sender, response, None, state)
-        }
-        ResponseCause::Over => {
-            let state = QuoteState::NotFound;
-            told(alloc, instruments, sender, response, room, state)
-        }
-        ResponseCause::Withdrawn => {
-            let state = QuoteState::Withdrawn;
-            told(alloc, instruments, sender, response, room, state)
-        }
-        ResponseCause::Expired => {
-            let state = QuoteState::Expired;
-            told(alloc, instruments, sender, response, room, state)
-        }
-        ResponseCause::OtherSide => {
-            let state = QuoteState::ResponseRefused(ResponseRefusal::Side);
-            told(alloc, instruments, sender, response, room, state)
-        }
-        ResponseCause::NoPrice => {
-            let state = QuoteState::ResponseRefused(ResponseRefusal::InvalidPrice);
-            told(alloc, instruments, sender, response, room, state)
-        }
+    let Some(state) = refused_state(cause) else {
+        return unprocessed(alloc, sender, b"AJ", BusinessRefusal::SideMissing);
+    };
+    if is_own_room(cause) {
+        return told(alloc, instruments, sender, response, room, state);
     }
+    told(alloc, instruments, sender, response, None, state)
 }
 
 // Two replies.

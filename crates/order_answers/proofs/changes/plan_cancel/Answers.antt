@@ -1,4 +1,4 @@
-use Rattle.std.proofs.Common.{◌≡◌, ◌∙◌, ap, sym, length, Some, None, option_map, refl, ◌+◌, false}
+use Rattle.std.proofs.Common.{◌≡◌, ◌∙◌, ap, sym, length, Some, option_map, refl, ◌+◌, false}
 use Rattle.std.proofs.lemmas.Result.{IfOk-weaker}
 use Rattle.venue_rules.specs.Book.{Resting, find_order}
 use Rattle.price_book.specs.Views.{seen}
@@ -10,6 +10,10 @@ use Rattle.order_answers.specs.Parts.{Parts}
 use Rattle.order_answers.specs.Market.{market, sender}
 use Rattle.order_answers.proofs.Changing.{cancel-again, cancel-planned, order-listed}
 use Rattle.order_answers.proofs.changes.plan_cancel.Goals as goal
+
+pub returns-in_default-clause-planned : goal.returns-in_default-clause-planned
+returns-in_default-clause-planned c =
+    IfOk-weaker c.plan_drop.result _ _ (λ a e. λ h x. e c.args.participants.now h x) c.plan_drop.ensures.planned
 
 pub returns-then-is_used-clause-planned : goal.returns-then-is_used-clause-planned
 returns-then-is_used-clause-planned c =

@@ -1,4 +1,4 @@
-use Rattle.std.proofs.Common.{◌≡◌, ◌∙◌, ap, sym, length, option_map, ◌+◌, ◌≤◌, subst, arith}
+use Rattle.std.proofs.Common.{◌≡◌, ◌∙◌, ap, sym, length, option_map, ◌+◌, arith}
 use Rattle.std.specs.List.{slice_get}
 use Rattle.venue_rules.specs.Answer.{Answer, numbered}
 use Rattle.venue_rules.specs.Book.{fills}

@@ -1,6 +1,6 @@
-use Rattle.std.proofs.Common.{◌≡◌, ◌∙◌, ap, sym, subst, codes, bytes_eq, length, option_map, Some, None}
+use Rattle.std.proofs.Common.{◌≡◌, ◌∙◌, ap, sym, subst, codes, length, Some}
 use Rattle.std.proofs.lemmas.Result.{IfOk-weaker}
-use Rattle.venue_rules.specs.Answer.{Answer, Sender}
+use Rattle.venue_rules.specs.Answer.{Sender}
 use Rattle.venue_rules.specs.Market.{Market}
 use Rattle.venue_rules.specs.Rooms.{find_room}
 use Rattle.rfq_room.specs.Causes.{quote_cause}

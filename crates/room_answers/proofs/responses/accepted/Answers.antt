@@ -1,4 +1,4 @@
-use Rattle.std.proofs.Common.{◌≡◌, ◌∙◌, ap, sym, codes, length, option_map, Some}
+use Rattle.std.proofs.Common.{◌∙◌, ap, sym, codes, length, option_map}
 use Rattle.std.proofs.lemmas.Result.{IfOk-weaker}
 use Rattle.venue_rules.specs.Rooms.{find_quote}
 use Rattle.rfq_room.specs.Named.{quote_room}

@@ -1,7 +1,6 @@
 use Rattle.std.proofs.Common.{◌≡◌, refl, ◌∙◌, ap, sym, subst, codes, length, IsSome, Some}
 use Rattle.std.proofs.lemmas.Result.{IfOk-weaker}
 use Rattle.venue_rules.specs.Answer.{Sender}
-use Rattle.venue_rules.specs.Market.{Market}
 use Rattle.venue_rules.specs.Rooms.{find_quote}
 use Rattle.rfq_room.specs.Causes.{decide}
 use Rattle.rfq_room.specs.Kept.{are_listed}
