@@ -62,11 +62,7 @@ fn entry_types(alloc: Global, placed: &[Standing]) -> Result<Vec<FixChar>, Alloc
 }
 
 // The fields of the only instance of a group outside of groups.
-fn sole<'a>(
-    alloc: Global,
-    placed: &[Standing<'a>],
-    first: u32,
-) -> Result<Part<'a>, AllocError>
+fn sole<'a>(alloc: Global, placed: &[Standing<'a>], first: u32) -> Result<Part<'a>, AllocError>
     ensures { IfOk result (λ fields. entries fields.items ≡ sole first (places placed.now)) }
 {
     let begins = begins(alloc, placed, first, 0)?;

@@ -35,6 +35,3 @@ pub use values::{
     Amount, FixChar, FixInt, HeartbeatInterval, Identifier, NewSequenceNumber, OtherKind, Price,
     Quantity, SequenceNumber, Side, Text,
 };
-
-#[cfg(test)]
-mod tests;

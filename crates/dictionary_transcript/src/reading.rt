@@ -1,0 +1,102 @@
+//! Bodies as the dictionary reads and prints them.
+
+use anyhow::{Result, ensure};
+use fix_dictionary::{App, DictFault, Message, print_app, print_message, read_app, read_message};
+use fix_fields::{FieldFault, Fields, split};
+use std::alloc::{AllocError, Global};
+
+/// How a body is read.
+#[derive(Clone, Copy)]
+pub enum Form {
+    /// A message with its header.
+    Message,
+    /// An application message without a header, of which a copy is printed.
+    App,
+}
+
+/// What the dictionary answers to a body.
+#[derive(Drop)]
+pub enum Answer {
+    /// What it is printed as, set in.
+    Printed(Vec<u8>),
+    Fault(DictFault),
+    /// It is no list of fields.
+    NoFields,
+}
+
+// What a body is read as.
+#[derive(Drop)]
+enum Reading {
+    Message(Message),
+    App(App),
+}
+
+fn split_again(alloc: Global, body: &[u8]) -> Result<Fields<'_>, FieldFault> {
+    match split(alloc, body) {
+        Err(FieldFault::NoMemory) => split(alloc, body),
+        first => first,
+    }
+}
+
+fn read(alloc: Global, form: Form, fields: &Fields) -> Result<Reading, DictFault> {
+    Ok(match form {
+        Form::Message => Reading::Message(read_message(alloc, fields)?),
+        Form::App => Reading::App(read_app(alloc, fields)?),
+    })
+}
+
+fn read_again(alloc: Global, form: Form, fields: &Fields) -> Result<Reading, DictFault> {
+    match read(alloc, form, fields) {
+        Err(DictFault::NoMemory) => read(alloc, form, fields),
+        first => first,
+    }
+}
+
+// An application message is copied, once more where a growth was refused.
+fn copied(alloc: Global, reading: Reading) -> Result<Reading, AllocError> {
+    let Reading::App(app) = &reading else {
+        return Ok(reading);
+    };
+    let copy = match app.copy(alloc) {
+        Ok(copy) => copy,
+        Err(AllocError) => app.copy(alloc)?,
+    };
+    Ok(Reading::App(copy))
+}
+
+fn print(reading: &Reading, text: &mut Vec<u8>) -> Result<(), AllocError> {
+    match reading {
+        Reading::Message(message) => print_message(message, text),
+        Reading::App(app) => print_app(app, text),
+    }
+}
+
+// What is printed behind two spaces. A print to which a growth is refused appends nothing, and is made once more.
+fn printed(alloc: Global, reading: &Reading) -> Result<Vec<u8>> {
+    let mut text = match Vec::from_slice(alloc, b"  ") {
+        Ok(text) => text,
+        Err(AllocError) => Vec::from_slice(alloc, b"  ")?,
+    };
+    if print(reading, &mut text).is_err() {
+        ensure!(
+            text.as_slice() == b"  ".as_slice(),
+            "a refused print changed its vector"
+        );
+        print(reading, &mut text)?;
+    }
+    Ok(text)
+}
+
+/// What the dictionary answers to a body. Each call to which a growth is refused is made once more.
+pub fn answer_to(alloc: Global, form: Form, body: &[u8]) -> Result<Answer> {
+    let fields = match split_again(alloc, body) {
+        Ok(fields) => fields,
+        Err(FieldFault::NoMemory) => return Err(AllocError.into()),
+        Err(_) => return Ok(Answer::NoFields),
+    };
+    let reading = match read_again(alloc, form, &fields) {
+        Ok(reading) => copied(alloc, reading)?,
+        Err(fault) => return Ok(Answer::Fault(fault)),
+    };
+    Ok(Answer::Printed(printed(alloc, &reading)?))
+}
