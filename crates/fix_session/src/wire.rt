@@ -209,11 +209,7 @@ fn append_plan(
 }
 
 // What was done, where what a refused call queued behind the first bytes is taken back.
-fn taken_back(
-    wire: &mut Wire,
-    len: usize,
-    done: Result<(), AllocError>,
-) -> Result<(), AllocError>
+fn taken_back(wire: &mut Wire, len: usize, done: Result<(), AllocError>) -> Result<(), AllocError>
     ensures result { result ≡ done }
     ensures ok { OnOk done (wire.new ≡ wire.old) }
     ensures err { OnErr done (wire.new ≡ take len wire.old) }
