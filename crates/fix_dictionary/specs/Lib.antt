@@ -5,6 +5,7 @@ pub mod GroupFaults
 pub mod GroupHolding
 pub mod Holding
 pub mod Kinds
+pub mod Lent
 pub mod Messages
 pub mod Places
 pub mod Printed

@@ -1,5 +1,6 @@
 //! One struct per message type, its fields in printed order.
 ghost use Rattle.std.specs.Prelude.{◌≡◌};
+ghost use Rattle.fix_dictionary.specs.Lent.{lent_header};
 ghost use Rattle.fix_dictionary.specs.Values.{IsResend};
 
 use crate::lists::{EntryTypes, MarketDataEntries, Parties};
@@ -29,6 +30,48 @@ pub struct Header {
     pub original_sending_time: Option<Moment>,
     /// 1128
     pub application_version: Option<Identifier>,
+}
+
+/// A header that is lent.
+#[derive(Clone, Copy)]
+pub struct HeaderRef<'a> {
+    /// 49
+    pub sender: &'a Identifier,
+    /// 56
+    pub target: &'a Identifier,
+    /// 34
+    pub number: SequenceNumber,
+    /// 52
+    pub sending_time: Moment,
+    /// 43
+    pub possible_duplicate: Option<bool>,
+    /// 97
+    pub possible_resend: Option<bool>,
+    /// 122
+    pub original_sending_time: Option<Moment>,
+    /// 1128
+    pub application_version: Option<&'a Identifier>,
+}
+
+impl Header {
+    /// The header, lent.
+    pub fn lent(&self) -> HeaderRef<'_>
+        ensures { lent_header result ≡ self.now }
+    {
+        HeaderRef {
+            sender: &self.sender,
+            target: &self.target,
+            number: self.number,
+            sending_time: self.sending_time,
+            possible_duplicate: self.possible_duplicate,
+            possible_resend: self.possible_resend,
+            original_sending_time: self.original_sending_time,
+            application_version: match &self.application_version {
+                Some(version) => Some(version),
+                None => None,
+            },
+        }
+    }
 }
 
 /// Message type `0`.
@@ -463,6 +506,13 @@ pub enum Admin {
 pub enum Body {
     Admin(Admin),
     App(App),
+}
+
+/// A body that is lent.
+#[derive(Clone, Copy)]
+pub enum BodyRef<'a> {
+    Admin(&'a Admin),
+    App(&'a App),
 }
 
 /// A message.

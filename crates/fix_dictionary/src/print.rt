@@ -1,17 +1,18 @@
 //! Prints messages.
-ghost use Rattle.std.specs.Prelude.{◌≡◌, ℕ, ◌≤◌, ◌++◌, ◌∷◌, [], decimal, OnOk, OnErr, MatchOption, None, Some, take, length};
+ghost use Rattle.std.specs.Prelude.{◌≡◌, ℕ, ◌≤◌, ◌++◌, ◌∷◌, [], decimal, OnOk, OnErr, MatchOption, None, Some, option_map, take, length};
 ghost use Rattle.fix_fields.specs.Fields.{Appends, IsTag, field_text, fields_text};
 ghost use Rattle.fix_fields.specs.Forms.{price_text};
 ghost use Rattle.sef_moment.specs.Utc.{utc_text};
 ghost use Rattle.fix_dictionary.specs.Values.{IsText, IsFixInt, IsQuantity, IsPrice};
 ghost use Rattle.fix_dictionary.specs.Fits.{Given, IsGraphic, IsMoment, FitsHeader, FitsHeartbeat, FitsTestRequest, FitsResendRequest, FitsReject, FitsSequenceReset, FitsLogout, FitsLogon, FitsQuoteCancel, FitsQuoteResponse, FitsQuoteStatusReport, FitsNewOrderSingle, FitsOrderCancelRequest, FitsOrderCancelReplaceRequest, FitsExecutionReport, FitsOrderCancelReject, FitsMarketDataRequestReject, FitsBusinessMessageReject, FitsBody, FitsMessage};
-ghost use Rattle.fix_dictionary.specs.Printed.{lent, printed, printed_option, slots};
+ghost use Rattle.fix_dictionary.specs.Lent.{lent_body, lent_header};
+ghost use Rattle.fix_dictionary.specs.Printed.{printed, printed_option, slots};
 ghost use Rattle.fix_dictionary.specs.Text.{with_slot, fields_of, slots_text, given, flag_text, side_text, app_kind, app_slots, admin_kind, admin_slots, body_kind, body_slots, message_slots, message_text, app_text, header_slots, heartbeat_slots, test_request_slots, resend_request_slots, reject_slots, sequence_reset_slots, logout_slots, logon_slots, quote_cancel_slots, quote_response_slots, quote_status_report_slots, new_order_single_slots, order_cancel_request_slots, order_cancel_replace_request_slots, execution_report_slots, order_cancel_reject_slots, market_data_request_reject_slots, business_message_reject_slots};
 
 use crate::cross_parts::print_new_order_cross;
 use crate::group_print::{print_market_data_request, print_market_data_snapshot};
 use crate::messages::{
-    Admin, App, Body, BusinessMessageReject, ExecutionReport, Header, Heartbeat, Logon, Logout,
+    Admin, App, Body, BodyRef, BusinessMessageReject, ExecutionReport, HeaderRef, Heartbeat, Logon, Logout,
     MarketDataRequestReject, Message, NewOrderSingle, OrderCancelReject, OrderCancelReplaceRequest,
     OrderCancelRequest, QuoteCancel, QuoteResponse, QuoteStatusReport, Reject, ResendRequest,
     SequenceReset, TestRequest,
@@ -91,6 +92,16 @@ pub(crate) fn printed_side<'a>(side: Side) -> Printed<'a>
 pub(crate) fn printed_identifier<'a>(v: &'a Option<Identifier>) -> Option<Printed<'a>>
     ensures value { printed_option result ≡ v.now }
     ensures fits { Given (IsText 64) v.now }
+{
+    match v {
+        Some(x) => Some(Printed::Bytes(x.as_slice())),
+        None => None,
+    }
+}
+
+fn printed_lent<'a>(v: Option<&'a Identifier>) -> Option<Printed<'a>>
+    ensures value { printed_option result ≡ option_map (λ x. x.now) v.entry }
+    ensures fits { Given (IsText 64) (option_map (λ x. x.now) v.entry) }
 {
     match v {
         Some(x) => Some(Printed::Bytes(x.as_slice())),
@@ -188,9 +199,9 @@ fn printed_flag<'a>(v: Option<bool>) -> Option<Printed<'a>>
     }
 }
 
-fn print_header(out: &mut Vec<u8>, m: &Header) -> Result<(), AllocError>
-    ensures text { Appends out.old.items out.new.items (slots_text (header_slots m.now)) result }
-    ensures fits { FitsHeader m.now }
+fn print_header(out: &mut Vec<u8>, m: &HeaderRef) -> Result<(), AllocError>
+    ensures text { Appends out.old.items out.new.items (slots_text (header_slots (lent_header m.now))) result }
+    ensures fits { FitsHeader (lent_header m.now) }
 {
     append_slots(
         out,
@@ -202,7 +213,7 @@ fn print_header(out: &mut Vec<u8>, m: &Header) -> Result<(), AllocError>
             slot!(43, printed_flag(m.possible_duplicate)),
             slot!(97, printed_flag(m.possible_resend)),
             slot!(122, printed_moment(m.original_sending_time)),
-            slot!(1128, printed_identifier(&m.application_version)),
+            slot!(1128, printed_lent(m.application_version)),
         ],
     )
 }
@@ -558,15 +569,8 @@ fn append_admin(out: &mut Vec<u8>, message: &Admin) -> Result<(), AllocError>
     }
 }
 
-/// A message's body, lent.
-#[derive(Clone, Copy)]
-pub enum BodyRef<'a> {
-    Admin(&'a Admin),
-    App(&'a App),
-}
-
 fn body_kind(body: BodyRef) -> &[u8]
-    ensures { result.now ≡ body_kind (lent body.entry) }
+    ensures { result.now ≡ body_kind (lent_body body.entry) }
 {
     match body {
         BodyRef::Admin(message) => admin_kind(message),
@@ -575,8 +579,8 @@ fn body_kind(body: BodyRef) -> &[u8]
 }
 
 fn append_body(out: &mut Vec<u8>, body: BodyRef) -> Result<(), AllocError>
-    ensures text { Appends out.old.items out.new.items (slots_text (body_slots (lent body.entry))) result }
-    ensures fits { FitsBody (lent body.entry) }
+    ensures text { Appends out.old.items out.new.items (slots_text (body_slots (lent_body body.entry))) result }
+    ensures fits { FitsBody (lent_body body.entry) }
 {
     match body {
         BodyRef::Admin(message) => append_admin(out, message),
@@ -586,17 +590,17 @@ fn append_body(out: &mut Vec<u8>, body: BodyRef) -> Result<(), AllocError>
 
 // Appends the header and what is behind it.
 #[tactic(auto, using(crate::proofs::TextLemmas::slots_text_append))]
-fn append_rest(out: &mut Vec<u8>, header: &Header, body: BodyRef) -> Result<(), AllocError>
-    ensures text { Appends out.old.items out.new.items (slots_text (header_slots header.now ++ body_slots (lent body.entry))) result }
-    ensures fits { OnOk result (FitsMessage (record { header = header.now; body = lent body.entry })) }
+fn append_rest(out: &mut Vec<u8>, header: &HeaderRef, body: BodyRef) -> Result<(), AllocError>
+    ensures text { Appends out.old.items out.new.items (slots_text (header_slots (lent_header header.now) ++ body_slots (lent_body body.entry))) result }
+    ensures fits { OnOk result (FitsMessage (record { header = lent_header header.now; body = lent_body body.entry })) }
 {
     print_header(out, header)?;
     append_body(out, body)
 }
 
-fn append_message(out: &mut Vec<u8>, header: &Header, body: BodyRef) -> Result<(), AllocError>
-    ensures text { Appends out.old.items out.new.items (message_text (record { header = header.now; body = lent body.entry })) result }
-    ensures fits { OnOk result (FitsMessage (record { header = header.now; body = lent body.entry })) }
+fn append_message(out: &mut Vec<u8>, header: &HeaderRef, body: BodyRef) -> Result<(), AllocError>
+    ensures text { Appends out.old.items out.new.items (message_text (record { header = lent_header header.now; body = lent_body body.entry })) result }
+    ensures fits { OnOk result (FitsMessage (record { header = lent_header header.now; body = lent_body body.entry })) }
 {
     append_bytes(out, 35, body_kind(body))?;
     append_rest(out, header, body)
@@ -623,9 +627,9 @@ fn settle(out: &mut Vec<u8>, start: usize, done: Result<(), AllocError>) -> Resu
 }
 
 /// Appends the body of the frame of a message with this header and body. After an error nothing is appended.
-pub fn print_parts(header: &Header, body: BodyRef, out: &mut Vec<u8>) -> Result<(), AllocError>
-    ensures ok { OnOk result (out.new.items ≡ out.old.items ++ message_text (record { header = header.now; body = lent body.entry })) }
-    ensures fits { OnOk result (FitsMessage (record { header = header.now; body = lent body.entry })) }
+pub fn print_parts(header: &HeaderRef, body: BodyRef, out: &mut Vec<u8>) -> Result<(), AllocError>
+    ensures ok { OnOk result (out.new.items ≡ out.old.items ++ message_text (record { header = lent_header header.now; body = lent_body body.entry })) }
+    ensures fits { OnOk result (FitsMessage (record { header = lent_header header.now; body = lent_body body.entry })) }
     ensures err { OnErr result (out.new.items ≡ out.old.items) }
 {
     let start = out.len();
@@ -643,7 +647,7 @@ pub fn print_message(message: &Message, out: &mut Vec<u8>) -> Result<(), AllocEr
         Body::Admin(body) => BodyRef::Admin(body),
         Body::App(body) => BodyRef::App(body),
     };
-    print_parts(&message.header, body, out)
+    print_parts(&message.header.lent(), body, out)
 }
 
 /// Appends the text of an application message: its type and its own fields, without a header. After an error nothing is

@@ -100,6 +100,22 @@ fn body_in(
     })
 }
 
+// What is behind the header of a message without groups.
+fn flat_body(
+    alloc: Global,
+    kind: MessageType,
+    begin: u32,
+    fields: &[Field],
+) -> Result<Body, AllocError>
+    requires holds { Holds (header_rows ++ rows_of kind begin) (entries fields.now) }
+    requires flat { is_grouped kind ≡ false }
+    requires kind { kind ≡ type_in (entries fields.now) }
+    requires begin { begin ≡ begin_in (entries fields.now) }
+    ensures { IfOk result (λ b. b ≡ body_in kind (entries fields.now)) }
+{
+    body_in(alloc, kind, begin, fields)
+}
+
 fn message_in(
     alloc: Global,
     kind: MessageType,
@@ -114,7 +130,7 @@ fn message_in(
 {
     Ok(Message {
         header: parts::header(alloc, fields)?,
-        body: body_in(alloc, kind, begin, fields)?,
+        body: flat_body(alloc, kind, begin, fields)?,
     })
 }
 
@@ -185,6 +201,22 @@ fn read_grouped(alloc: Global, kind: MessageType, fields: &[Field]) -> Result<Me
     }
 }
 
+fn read_grouped_body(alloc: Global, kind: MessageType, fields: &[Field]) -> Result<Body, DictFault>
+    requires { is_grouped kind ≡ true }
+    ensures { MatchResult result (λ b. (fault_as_type kind (entries fields.now) ≡ None) × (b ≡ body_in kind (entries fields.now))) (IsFault (fault_as_type kind (entries fields.now))) }
+{
+    let Ok(placed) = placed(alloc, header(), rows_of(kind), fields) else {
+        return Err(DictFault::NoMemory);
+    };
+    match placed_fault(header(), rows_of(kind), &placed, fields) {
+        Some(found) => Err(found),
+        None => match grouped_body(alloc, kind, fields, &placed) {
+            Ok(body) => Ok(body),
+            Err(_) => Err(DictFault::NoMemory),
+        },
+    }
+}
+
 // The first fault, by the header's table and that of the type.
 fn fault_in(kind: MessageType, begin: u32, fields: &[Field]) -> Option<DictFault>
     ensures { result ≡ first_fault (header_rows ++ rows_of kind begin) (entries fields.now) }
@@ -210,6 +242,30 @@ fn read_fields(alloc: Global, fields: &[Field]) -> Result<Message, DictFault>
             Err(_) => Err(DictFault::NoMemory),
         },
     }
+}
+
+fn read_body_in(alloc: Global, fields: &[Field]) -> Result<Body, DictFault>
+    ensures { MatchResult result (λ b. (fault_in (entries fields.now) ≡ None) × (b ≡ (message_in (entries fields.now)).body)) (IsFault (fault_in (entries fields.now))) }
+{
+    let kind = type_of(bytes_at(fields, 35));
+    if is_grouped(kind) {
+        return read_grouped_body(alloc, kind, fields);
+    }
+    let begin = begin_in(fields);
+    match fault_in(kind, begin, fields) {
+        Some(fault) => Err(fault),
+        None => match flat_body(alloc, kind, begin, fields) {
+            Ok(body) => Ok(body),
+            Err(_) => Err(DictFault::NoMemory),
+        },
+    }
+}
+
+/// What the message that the fields of a body spell says behind its header, or their first fault; of the header nothing is kept.
+pub fn read_body(alloc: Global, fields: &Fields) -> Result<Body, DictFault>
+    ensures { MatchResult result (λ b. (fault_in fields.now ≡ None) × (b ≡ (message_in fields.now).body)) (IsFault (fault_in fields.now)) }
+{
+    read_body_in(alloc, fields.as_slice())
 }
 
 /// The message that the fields of a body spell, or their first fault.
@@ -248,12 +304,11 @@ fn with_header<'a>(alloc: Global, fields: &[Field<'a>]) -> Result<Vec<Field<'a>>
     Ok(all)
 }
 
-// The application message that a message is.
-fn application(message: Message) -> App
-    requires { IsApp message.body }
-    ensures { message.body ≡ Body.App result }
+// The application message that a body is.
+fn application(body: Body) -> App
+    requires { IsApp body }
+    ensures { body ≡ Body.App result }
 {
-    let Message { header: _, body } = message;
     match body {
         Body::App(app) => app,
         Body::Admin(_) => unreachable!(),
@@ -271,8 +326,8 @@ pub fn read_app(alloc: Global, fields: &Fields) -> Result<App, DictFault>
     let Ok(all) = with_header(alloc, fields.as_slice()) else {
         return Err(DictFault::NoMemory);
     };
-    match read_fields(alloc, &all) {
-        Ok(message) => Ok(application(message)),
+    match read_body_in(alloc, &all) {
+        Ok(body) => Ok(application(body)),
         Err(fault) => Err(fault),
     }
 }

@@ -3,14 +3,13 @@ ghost use Rattle.std.specs.Prelude.{◌≡◌, ℕ, IfOk, IsTrue, bytes_eq};
 ghost use Rattle.fix_dictionary.specs.Kinds.{IsOtherKind};
 ghost use Rattle.fix_dictionary.specs.Values.{IsText, is_graphic, IsFixInt, IsSequenceNumber, IsNewSequenceNumber, IsInterval, IsQuantity, IsAmount, IsPrice};
 
-use smallvec::SmallVec;
 use std::alloc::{AllocError, Global};
 use std::marker::Model;
 
-/// An identifier: 1 to 64 bytes, each from 32 to 126. Up to 40 lie in the value itself; a longer one takes memory.
+/// An identifier: 1 to 64 bytes, each from 32 to 126.
 #[derive(Drop)]
 pub struct Identifier {
-    bytes: SmallVec<u8, 40>,
+    bytes: Vec<u8>,
 }
 
 impl Model for Identifier {
@@ -30,7 +29,7 @@ impl Identifier {
         requires { IsText 64 bytes.now }
         ensures { IfOk result (λ id. id ≡ bytes.now) }
     {
-        let bytes = SmallVec::from_slice(alloc, bytes)?;
+        let bytes = Vec::from_slice(alloc, bytes)?;
         Ok(Identifier { bytes })
     }
 
@@ -38,7 +37,7 @@ impl Identifier {
         ensures value { result.now ≡ self.now }
         ensures range { IsText 64 result.now }
     {
-        self.bytes.as_slice()
+        &self.bytes
     }
 
     /// Whether the other has the same bytes.
@@ -52,7 +51,7 @@ impl Identifier {
     pub fn copy(&self, alloc: Global) -> Result<Identifier, AllocError>
         ensures { IfOk result (λ copy. copy ≡ self.now) }
     {
-        Identifier::from_slice(alloc, self.bytes.as_slice())
+        Identifier::from_slice(alloc, &self.bytes)
     }
 }
 

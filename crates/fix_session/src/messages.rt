@@ -2,6 +2,7 @@
 
 ghost use Rattle.std.specs.Prelude.{◌≡◌, ◌≤◌, ◌++◌, IfOk, Some, true, codes, decimal};
 ghost use Rattle.std.specs.List.{list_all};
+ghost use Rattle.fix_dictionary.specs.Lent.{lent_header};
 ghost use Rattle.fix_dictionary.specs.Values.{is_text, is_printable, IsText};
 ghost use Rattle.fix_session.specs.Sent as sent;
 
@@ -9,7 +10,7 @@ use crate::comp_ids::CompIds;
 use crate::frame::{Content, Fault};
 use crate::plan::{LogoutText, Notice};
 use fix_dictionary::{
-    Admin, FixInt, Header, Heartbeat, Identifier, Logon, Logout, NewSequenceNumber, Reject,
+    Admin, FixInt, HeaderRef, Heartbeat, Identifier, Logon, Logout, NewSequenceNumber, Reject,
     ResendRequest, SequenceNumber, SequenceReset, TestRequest, Text,
 };
 use sef_moment::Moment;
@@ -140,24 +141,23 @@ fn duplicate(first_sent: Option<Moment>) -> Option<bool>
 
 /// The header of a message that is sent at moment t, and first was at another, where it is sent again.
 pub(crate) fn header(
-    alloc: Global,
     ids: &CompIds,
     number: SequenceNumber,
     t: Moment,
     first_sent: Option<Moment>,
-) -> Result<Header, AllocError>
-    ensures { IfOk result (λ header. header ≡ sent.header_of ids.now number t first_sent) }
+) -> HeaderRef<'_>
+    ensures { lent_header result ≡ sent.header_of ids.now number t first_sent }
 {
-    Ok(Header {
-        sender: ids.own.copy(alloc)?,
-        target: ids.peer.copy(alloc)?,
+    HeaderRef {
+        sender: &ids.own,
+        target: &ids.peer,
         number,
         sending_time: t,
         possible_duplicate: duplicate(first_sent),
         possible_resend: None,
         original_sending_time: first_sent,
         application_version: None,
-    })
+    }
 }
 
 /// The SequenceReset of a gap fill up to this number.

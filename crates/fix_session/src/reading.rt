@@ -7,7 +7,7 @@ ghost use Rattle.fix_session.specs.Reader.{Reader};
 use crate::comp_ids::CompIds;
 use crate::frame::{Content, Fault, FaultyKind, Frame};
 use crate::pieces::first_value;
-use fix_dictionary::{Admin, Body, DictFault, FixInt, Message, SequenceNumber, read_message};
+use fix_dictionary::{Admin, Body, DictFault, FixInt, SequenceNumber, TestRequest, read_body};
 use fix_fields::{FieldFault, Fields, one_fault, one_list, read_integer, split};
 use std::alloc::{AllocError, Global};
 
@@ -113,15 +113,16 @@ fn is_yes(flag: Option<bool>) -> bool
     matches!(flag, Some(true))
 }
 
-fn admin_content(alloc: Global, m: &Admin) -> Result<Content, AllocError>
-    ensures { IfOk result (λ said. said ≡ body_specs.content_of (Body.Admin m.now)) }
+fn admin_content(m: Admin) -> Content
+    ensures { result ≡ body_specs.content_of (Body.Admin m) }
 {
-    Ok(match m {
+    match m {
         Admin::Heartbeat(_) => Content::Heartbeat,
-        Admin::TestRequest(m) => Content::TestRequest {
-            id: m.test_id.copy(alloc)?,
-        },
-        Admin::ResendRequest(asked) => Content::ResendRequest { asked: *asked },
+        Admin::TestRequest(m) => {
+            let TestRequest { test_id } = m;
+            Content::TestRequest { id: test_id }
+        }
+        Admin::ResendRequest(asked) => Content::ResendRequest { asked },
         Admin::Reject(_) => Content::Reject,
         Admin::SequenceReset(m) => Content::SequenceReset {
             gap_fill: is_yes(m.gap_fill),
@@ -132,26 +133,26 @@ fn admin_content(alloc: Global, m: &Admin) -> Result<Content, AllocError>
             heartbeat: m.heartbeat_interval,
             reset: m.reset,
         },
-    })
-}
-
-fn content_of(alloc: Global, body: Body) -> Result<Content, AllocError>
-    ensures { IfOk result (λ said. said ≡ body_specs.content_of body) }
-{
-    match body {
-        Body::App(app) => Ok(Content::Application { app }),
-        Body::Admin(m) => admin_content(alloc, &m),
     }
 }
 
-// The message that fields spell, or why they spell none.
+fn content_of(body: Body) -> Content
+    ensures { result ≡ body_specs.content_of body }
+{
+    match body {
+        Body::App(app) => Content::Application { app },
+        Body::Admin(m) => admin_content(m),
+    }
+}
+
+// What the message that fields spell says, or why they spell none.
 #[tactic(auto, unfolding(crate::specs::Body::fault_of, crate::specs::Body::message_of))]
-fn spelled(alloc: Global, fields: &Fields) -> Result<Message, DictFault>
+fn spelled(alloc: Global, fields: &Fields) -> Result<Body, DictFault>
     ensures { MatchResult result
-        (λ m. (body_specs.fault_of fields.now ≡ None) × (m ≡ body_specs.message_of fields.now))
+        (λ b. (body_specs.fault_of fields.now ≡ None) × (b ≡ (body_specs.message_of fields.now).body))
         (λ fault. fault ≡ DictFault.NoMemory ⊎ (body_specs.fault_of fields.now ≡ Some fault)) }
 {
-    read_message(alloc, fields)
+    read_body(alloc, fields)
 }
 
 // What fields say, or their fault.
@@ -163,10 +164,7 @@ fn content_of_fields(
     ensures { IfOk result (λ said. said ≡ body_specs.spelled kind (body_specs.fault_of fields.now) (body_specs.message_of fields.now).body) }
 {
     match spelled(alloc, fields) {
-        Ok(message) => {
-            let Message { header: _, body } = message;
-            content_of(alloc, body)
-        }
+        Ok(body) => Ok(content_of(body)),
         Err(found) => match dictionary_fault(found) {
             Some(fault) => Ok(Content::Faulty { kind, fault }),
             None => Err(AllocError),

@@ -284,7 +284,7 @@ impl Session {
             return Ok(());
         }
         let len = self.wire.len();
-        write_app(self.alloc, &self.ids, t, number, app, &mut self.wire)?;
+        write_app(&self.ids, t, number, app, &mut self.wire)?;
         if add_app(&mut self.store, number, app, t).is_err() {
             self.wire.truncate(len);
             return Err(AllocError);

@@ -2,7 +2,7 @@
 
 ghost use Rattle.std.specs.Prelude.{◌≡◌, ◌≤◌, ◌+◌, [], ◌++◌, OnOk, OnErr, length, drop, take};
 ghost use Rattle.fix_fields.specs.Fields.{Appends};
-ghost use Rattle.fix_dictionary.specs.Printed.{lent};
+ghost use Rattle.fix_dictionary.specs.Lent.{lent_body, lent_header};
 ghost use Rattle.fix_dictionary.specs.Values.{IsSequenceNumber};
 ghost use Rattle.resend_store.specs.Resent.{resent_by};
 ghost use Rattle.fix_session.specs.Sent as sent;
@@ -12,7 +12,7 @@ use crate::comp_ids::CompIds;
 use crate::frame::Content;
 use crate::messages::{admin_of, gap_fill, header};
 use crate::plan::{Notice, Plan, Sends};
-use fix_dictionary::{App, BodyRef, Header, ResendRequest, SequenceNumber, print_parts};
+use fix_dictionary::{App, BodyRef, HeaderRef, ResendRequest, SequenceNumber, print_parts};
 use fix_frame::write_frame;
 use resend_store::{Resend, Store};
 use sef_moment::Moment;
@@ -82,8 +82,8 @@ impl Wire {
 
     // Appends the frame of a message.
     #[tactic(auto, unfolding(crate::specs::Sent::framed))]
-    fn append(&mut self, header: &Header, body: BodyRef) -> Result<(), AllocError>
-        ensures { Appends self.old self.new (sent.framed (record { header = header.now; body = lent body.entry })) result }
+    fn append(&mut self, header: &HeaderRef, body: BodyRef) -> Result<(), AllocError>
+        ensures { Appends self.old self.new (sent.framed (record { header = lent_header header.now; body = lent_body body.entry })) result }
     {
         self.text.clear();
         print_parts(header, body, &mut self.text)?;
@@ -117,7 +117,7 @@ fn append_notice(
     ensures { Appends wire.old wire.new (sent.notice_frame on.now.ids.now on.now.t on.now.kind.now on.now.content.now number notice) result }
 {
     let admin = admin_of(alloc, on.kind, on.content, notice)?;
-    let header = header(alloc, on.ids, SequenceNumber::new(number), on.t, None)?;
+    let header = header(on.ids, SequenceNumber::new(number), on.t, None);
     wire.append(&header, BodyRef::Admin(&admin))
 }
 
@@ -125,7 +125,6 @@ fn append_notice(
 // sent, or a gap fill.
 #[tactic(auto, unfolding(crate::specs::Sent::again_frame))]
 fn append_resend(
-    alloc: Global,
     ids: &CompIds,
     t: Moment,
     resend: &Resend,
@@ -139,11 +138,11 @@ fn append_resend(
             app,
             first_sent,
         } => {
-            let header = header(alloc, ids, *number, t, Some(*first_sent))?;
+            let header = header(ids, *number, t, Some(*first_sent));
             wire.append(&header, BodyRef::App(app))
         }
         Resend::GapFill { number, new } => {
-            let header = header(alloc, ids, *number, t, Some(t))?;
+            let header = header(ids, *number, t, Some(t));
             wire.append(&header, BodyRef::Admin(&gap_fill(*new)))
         }
     }
@@ -151,7 +150,6 @@ fn append_resend(
 
 // Appends what is sent for a request.
 fn append_again(
-    alloc: Global,
     ids: &CompIds,
     t: Moment,
     store: &Store,
@@ -165,7 +163,7 @@ fn append_again(
     };
     let mut resends = store.resends(asked.begin(), asked.end().get());
     while let Some(resend) = resends.next() {
-        append_resend(alloc, ids, t, &resend, wire)?;
+        append_resend(ids, t, &resend, wire)?;
     }
     Ok(())
 }
@@ -204,7 +202,7 @@ fn append_plan(
     requires { length store.now.entries + count plan.now.sends ≤ 999999999 }
     ensures { Appends wire.old wire.new (sent.written on.now.ids.now store.now.entries on.now.t on.now.kind.now on.now.content.now plan.now) result }
 {
-    append_again(alloc, on.ids, on.t, store, plan.again, wire)?;
+    append_again(on.ids, on.t, store, plan.again, wire)?;
     append_sends(alloc, on, store.next_number(), plan.sends, wire)
 }
 
@@ -279,7 +277,6 @@ pub(crate) fn write_notice(
 
 /// Queues the frame of an application message, as first sent, or nothing.
 pub(crate) fn write_app(
-    alloc: Global,
     ids: &CompIds,
     t: Moment,
     number: u32,
@@ -290,7 +287,7 @@ pub(crate) fn write_app(
     ensures ok { OnOk result (wire.new ≡ wire.old ++ sent.framed (sent.app_message ids.now number t app.now)) }
     ensures err { OnErr result (wire.new ≡ wire.old) }
 {
-    let header = header(alloc, ids, SequenceNumber::new(number), t, None)?;
+    let header = header(ids, SequenceNumber::new(number), t, None);
     let len = wire.len();
     let done = wire.append(&header, BodyRef::App(app));
     taken_back(wire, len, done)
