@@ -123,15 +123,29 @@ so_far_more t s0 v0 left0 held0 s s1 s2 v v1 left left' held held' so_far answer
       (λ d last. goes_on_read r m t d more.piece s1 s2 v1 first held' (more.heard r) last.1 last.0));
 }
 
--- at the end of the input
+-- at the end of the input all of it is consumed
+abbrev pub IsReadOut : Option (List ℕ) → Option (List ℕ) → Type 0
+IsReadOut left left' = IfSome left (λ input. Consumes left left' input × IsAtEnd left')
+
+consumed_to_end : (t : ℕ) (s0 : State) (v0 : Venue) (left0 held0 : Option (List ℕ)) (s s1 s2 : State) (v : Venue) (left left' held : Option (List ℕ))
+    → (so_far : IsSoFar t s0 v0 left0 held0 s v left held) → IsEnd s1 s2 left left' → Consumes left0 left' so_far.heard
+consumed_to_end t s0 v0 left0 held0 s s1 s2 v left left' held so_far end =
+    subst (Consumes left0 left') (append-nil so_far.heard) (Consumes-trans left0 left left' so_far.heard [] so_far.consumed end.consumed)
+
+pub so_far_read_out : (t : ℕ) (s0 : State) (v0 : Venue) (left0 held0 : Option (List ℕ)) (s s1 s2 : State) (v : Venue) (left left' held : Option (List ℕ))
+    → IsSoFar t s0 v0 left0 held0 s v left held → IsEnd s1 s2 left left' → IsReadOut left0 left'
+so_far_read_out t s0 v0 left0 held0 s s1 s2 v left left' held so_far end =
+    let consumed = consumed_to_end t s0 v0 left0 held0 s s1 s2 v left left' held so_far end in
+    Consumes-whole left0 left' so_far.heard (λ input. Consumes left0 left' input × IsAtEnd left') consumed end.ends (consumed, end.ends)
+
+-- and answered
 pub so_far_ended : (t : ℕ) (s0 : State) (v0 : Venue) (left0 held0 : Option (List ℕ)) (s s1 s2 : State) (v v1 : Venue) (left left' held mid held' : Option (List ℕ))
     → IsSoFar t s0 v0 left0 held0 s v left held → Answers t s v held s1 v1 mid → IsEnd s1 s2 left left' → Keeps mid held'
     → (r : Reader) (m : Market) (first : Option (List ℕ)) (a : Course) → Stands m t a s0 v0 first held0
     → IfSome left0 (λ input. Goes r m t a input (λ b. Stands m t b s2 v1 first held' × IsHeardOut r s2))
 so_far_ended t s0 v0 left0 held0 s s1 s2 v v1 left left' held mid held' so_far answers end kept r m first a stands =
     let P : State → Course → Type 0 = λ x b. Stands m t b x v1 first held' × IsHeardOut r x in
-    let all : so_far.heard ++ [] ≡ so_far.heard = append-nil so_far.heard in
-    let consumed : Consumes left0 left' so_far.heard = subst (Consumes left0 left') all (Consumes-trans left0 left left' so_far.heard [] so_far.consumed end.consumed) in
+    let consumed = consumed_to_end t s0 v0 left0 held0 s s1 s2 v left left' held so_far end in
     let goes : Goes r m t a so_far.heard (P s1) =
     goes-still r m t a so_far.heard (λ b. Stands m t b s v first held) (P s1) (so_far.goes r m first a stands)
     (λ b stands.
@@ -141,14 +155,15 @@ so_far_ended t s0 v0 left0 held0 s s1 s2 v v1 left left' held mid held' so_far a
 
 -- where a run stops behind what was heard
 pub so_far_halts : (t : ℕ) (s0 : State) (v0 : Venue) (left0 held0 : Option (List ℕ)) (s : State) (v : Venue) (left left' held held' : Option (List ℕ)) (unheard : List ℕ)
-    → IsSoFar t s0 v0 left0 held0 s v left held → Consumes left left' unheard
+    → IsSoFar t s0 v0 left0 held0 s v left held → Consumes left left' unheard → length unheard ≤ 4096
     → (r : Reader) (m : Market) (first : Option (List ℕ))
     → ((b : Course) → Stands m t b s v first held → Goes r m t b [] (λ d. Appends first held' d.written))
     → (a : Course) → Stands m t a s0 v0 first held0 → Halts r m t a left0 left' first held'
-so_far_halts t s0 v0 left0 held0 s v left left' held held' unheard so_far consumed r m first goes a stands = record {
+so_far_halts t s0 v0 left0 held0 s v left left' held held' unheard so_far consumed short r m first goes a stands = record {
   heard = so_far.heard;
   unheard = unheard;
   consumed = Consumes-trans left0 left left' so_far.heard unheard so_far.consumed consumed;
+  short = short;
   goes = goes-still r m t a so_far.heard (λ b. Stands m t b s v first held) (λ d. Appends first held' d.written) (so_far.goes r m first a stands) goes;
 }
 
@@ -191,6 +206,7 @@ stopped_at r m t left left' written written' h = record {
   unheard = h.unheard;
   leads = h.goes.leads;
   consumed = subst (λ (l : List ℕ). Consumes left left' (l ++ h.unheard)) (sym h.goes.reads) h.consumed;
+  short = h.short;
   appended = h.goes.comes;
 }
 
@@ -205,5 +221,6 @@ stopped_at_once r m t left written =
       heard = [];
       unheard = [];
       consumed = Consumes-nil left;
+      short = omega arith;
       goes = goes-nil r m t (connected r m t) (λ b. Appends written written b.written) (written_none r m t written);
     })

@@ -1,5 +1,5 @@
 -- The program at a point of its run.
-use Rattle.std.specs.Prelude.{◌≡◌, ◌<◌, ◌≤◌, ℕ, List, [], ◌∷◌, ◌++◌, Option, Bool, true, false}
+use Rattle.std.specs.Prelude.{◌≡◌, ◌<◌, ◌≤◌, ℕ, List, [], ◌∷◌, ◌++◌, Option, Bool, true, false, length}
 use Rattle.std.specs.Io.KnownBytes.{Appends, Consumes, IsAtEnd}
 use Rattle.fix_dictionary.specs.declared.messages.App.{App}
 use Rattle.fix_dictionary.specs.declared.messages.Item.{Item}
@@ -17,7 +17,7 @@ use Rattle.venue_core.specs.Taking.{Stands as VenueStands}
 use Rattle.venue_main.specs.Answering.{taken, told}
 use Rattle.venue_main.specs.Turns.{Course, IsAnswered, Leads, Turn, read, sends}
 
--- what is unread and what is ready stays, and the line does
+-- what is unread and what is ready stays as it is, and the line up or down
 pub record IsSame (s s' : State) : Type 0 where
   pub up : s'.line.up ≡ s.line.up
   pub unread : s'.unread ≡ s.unread
@@ -77,11 +77,12 @@ abbrev pub IsRead : State → State → Option (List ℕ) → Option (List ℕ) 
 IsRead s s' left left' true = IsMore s s' left left'
 IsRead s s' left left' false = IsEnd s s' left left'
 
--- some bytes were read, and turns heard the first of them
+-- some bytes were read, and turns heard them but for the last piece
 pub record Halts (r : Reader) (market : Market) (t : ℕ) (a : Course) (left left' first held : Option (List ℕ)) : Type 0 where
   pub heard : List ℕ
   pub unheard : List ℕ
   pub consumed : Consumes left left' (heard ++ unheard)
+  pub short : length unheard ≤ 4096
   pub goes : Goes r market t a heard (λ b. Appends first held b.written)
 
 -- turns that read what was read lead from one point of the program to another

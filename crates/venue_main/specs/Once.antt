@@ -1,5 +1,5 @@
 -- What a run over one stream writes.
-use Rattle.std.specs.Prelude.{◌≡◌, ℕ, List, ◌++◌, Option}
+use Rattle.std.specs.Prelude.{◌≡◌, ◌≤◌, ℕ, List, ◌++◌, Option, length}
 use Rattle.std.specs.Io.KnownBytes.{Appends, Consumes}
 use Rattle.fix_session.specs.Chain.{accepted}
 use Rattle.fix_session.specs.Reader.{Reader}
@@ -28,14 +28,15 @@ pub record AnswersStream (r : Reader) (market : Market) (t : ℕ) (input output 
   pub owes : apps last.session.session.entries ≡ owed market 0 (taken t last.session.taken)
   pub written : last.written ≡ output
 
--- What stands where a run stops: turns read some bytes, and perhaps the piece behind them was not heard; what they wrote was
--- written, and nothing else.
+-- What stands where a run stops: turns read some bytes, and the piece behind them, if there is one, was not heard; what they
+-- wrote was written, and nothing else.
 pub record Stopped (r : Reader) (market : Market) (t : ℕ) (left left' written written' : Option (List ℕ)) : Type 0 where
   pub turns : List Turn
   pub last : Course
   pub unheard : List ℕ
   pub leads : Leads r market t (connected r market t) turns last
   pub consumed : Consumes left left' (read turns ++ unheard)
+  pub short : length unheard ≤ 4096
   pub appended : Appends written written' last.written
 
 -- the fact, unless the output failed

@@ -1,7 +1,7 @@
 //! One participant's stream, answered to its end.
 
 ghost use Rattle.std.specs.Prelude.{◌≡◌, ◌≤◌, ◌+◌, ℕ, List, Option, IfOk, IfSome, IfErr, OnOk, length};
-ghost use Rattle.std.specs.Io.KnownBytes.{Appends, Consumes, Keeps};
+ghost use Rattle.std.specs.Io.KnownBytes.{Appends, Consumes, IsAtEnd, Keeps};
 ghost use Rattle.fix_session.specs.Reader.{Reader};
 ghost use Rattle.fix_session.specs.State.{fresh};
 ghost use Rattle.venue_rules.specs.Market.{Market};
@@ -65,6 +65,7 @@ pub fn once<R: Read, W: Write>(
     ensures answered { OnOk result ((r : Reader) → IfSome (R.remaining reader.old) (λ input. (output : List ℕ)
         × AnswersStream r (record { participants = participants; instruments = instruments }) at input output
         × Appends (W.contents writer.old) (W.contents writer.new) output)) }
+    ensures ended { OnOk result (IfSome (R.remaining reader.old) (λ input. Consumes (R.remaining reader.old) (R.remaining reader.new) input × IsAtEnd (R.remaining reader.new))) }
     ensures stopped { IfErr result (λ fault. UnlessOutput fault ((r : Reader) → Stopped r
         (record { participants = participants; instruments = instruments }) at (R.remaining reader.old) (R.remaining reader.new)
         (W.contents writer.old) (W.contents writer.new))) }
@@ -88,6 +89,7 @@ fn answer_stream<R: Read, W: Write>(
     requires { venue.old.items + (length session.old.state.ready + length session.old.state.unread) ≡ 0 }
     ensures answered { OnOk result ((r : Reader) (market : Market) (first : Option (List ℕ)) (a : Course) → Stands market at a session.old.state venue.old first (W.contents writer.old)
         → IfSome (R.remaining reader.old) (λ input. Goes r market at a input (λ b. Stands market at b session.new.state venue.new first (W.contents writer.new) × IsHeardOut r session.new.state))) }
+    ensures ended { OnOk result (IfSome (R.remaining reader.old) (λ input. Consumes (R.remaining reader.old) (R.remaining reader.new) input × IsAtEnd (R.remaining reader.new))) }
     ensures stopped { IfErr result (λ fault. UnlessOutput fault ((r : Reader) (market : Market) (first : Option (List ℕ)) (a : Course) → Stands market at a session.old.state venue.old first (W.contents writer.old)
         → Halts r market at a (R.remaining reader.old) (R.remaining reader.new) first (W.contents writer.new))) }
 {
@@ -105,7 +107,7 @@ fn answer_stream<R: Read, W: Write>(
 fn read_piece<R: Read>(reader: &mut R, session: &mut Session) -> Result<bool, OnceFault>
     ensures read { IfOk result (λ more. IsRead session.old.state session.new.state (R.remaining reader.old) (R.remaining reader.new) more) }
     ensures few { OnOk result (length session.new.state.ready + length session.new.state.unread ≤ length session.old.state.ready + (length session.old.state.unread + 4096)) }
-    ensures lost { IfErr result (λ _. (piece : List ℕ) × Consumes (R.remaining reader.old) (R.remaining reader.new) piece) }
+    ensures lost { IfErr result (λ _. (piece : List ℕ) × Consumes (R.remaining reader.old) (R.remaining reader.new) piece × (length piece ≤ 4096)) }
 {
     one_reader();
     let mut piece = [0; PIECE];

@@ -12,6 +12,12 @@ use venue_rules::{fixture_instruments, fixture_participants};
 
 const TIME: &str = "20250303-14:30:00";
 
+/// The delay between linked orders where they need not wait, in milliseconds.
+const AT_ONCE: u64 = 0;
+
+/// The usual delay, in milliseconds.
+const USUAL_DELAY: u64 = 15_000;
+
 /// A Logon, and what it is answered.
 const LOGON: &str =
     "8=FIXT.1.1|9=66|35=A|49=ALPHA|56=SEF|34=1|52=20250303-14:30:00|98=0|108=30|1137=9|10=000|";
@@ -153,14 +159,14 @@ fn time() -> Result<Moment, &'static str> {
     read_utc(TIME.as_bytes()).ok().ok_or("TIME is a UTC text")
 }
 
-/// What `once` comes to on the small market in which linked orders need not wait.
+/// What `once` comes to on the small market of these instruments.
 fn run_once<R: Read, W: Write>(
     alloc: Global,
+    instruments: Instruments,
     reader: &mut R,
     writer: &mut W,
 ) -> Result<Result<(), OnceFault>, Fail> {
     let participants = fixture_participants(alloc)?;
-    let instruments = fixture_instruments(alloc, 0)?;
     Ok(once(alloc, reader, writer, participants, instruments, time()?))
 }
 
@@ -227,7 +233,8 @@ fn answers_streams(rt: HostRuntime) -> Result<(), Fail> {
         let input = bytes_of(alloc, input)?;
         let expected = bytes_of(alloc, output)?;
         let mut written = Vec::new(alloc);
-        let ended = run_once(alloc, &mut input.as_slice(), &mut written)?;
+        let instruments = fixture_instruments(alloc, AT_ONCE)?;
+        let ended = run_once(alloc, instruments, &mut input.as_slice(), &mut written)?;
         assert_eq!(rt; ended, Ok(()));
         assert_eq!(rt; written.as_slice(), expected.as_slice());
     }
@@ -291,14 +298,35 @@ fn reads_in_any_pieces_until_a_read_fails(rt: HostRuntime) -> Result<(), Fail> {
             fails,
         };
         let mut written = Vec::new(alloc);
-        let ended = run_once(alloc, &mut reader, &mut written)?;
+        let instruments = fixture_instruments(alloc, USUAL_DELAY)?;
+        let ended = run_once(alloc, instruments, &mut reader, &mut written)?;
         assert_eq!(rt; ended, end);
         assert_eq!(rt; written.as_slice(), expected.as_slice());
     }
     Ok(())
 }
 
-/// Takes so many bytes, and then no more.
+#[test]
+fn the_rest_is_read_once_the_line_is_down(rt: HostRuntime) -> Result<(), Fail> {
+    let alloc = rt.alloc();
+    let input = bytes_of(alloc, &[LOGON, BUY, BUY, SELL])?;
+    let expected = bytes_of(alloc, &[LOGGED_ON, BOUGHT, TOO_LOW])?;
+    for (fails, end) in [(false, Ok(())), (true, Err(OnceFault::Input))] {
+        let mut reader = ByteByByte {
+            left: input.as_slice(),
+            fails,
+        };
+        let mut written = Vec::new(alloc);
+        let instruments = fixture_instruments(alloc, AT_ONCE)?;
+        let ended = run_once(alloc, instruments, &mut reader, &mut written)?;
+        assert_eq!(rt; ended, end);
+        assert!(rt; reader.left.is_empty());
+        assert_eq!(rt; written.as_slice(), expected.as_slice());
+    }
+    Ok(())
+}
+
+/// Takes so many bytes, and then no more: nothing of a write that is longer than the room left.
 #[derive(Drop)]
 pub(crate) struct Full {
     pub(crate) room: usize,
@@ -322,10 +350,12 @@ impl Write for Full {
 fn stops_where_a_write_fails(rt: HostRuntime) -> Result<(), Fail> {
     let alloc = rt.alloc();
     let input = bytes_of(alloc, &[LOGON, BUY])?;
-    for room in [0, 200] {
+    for (room, left) in [(0, 0), (200, 107)] {
         let mut writer = Full { room };
-        let ended = run_once(alloc, &mut input.as_slice(), &mut writer)?;
+        let instruments = fixture_instruments(alloc, AT_ONCE)?;
+        let ended = run_once(alloc, instruments, &mut input.as_slice(), &mut writer)?;
         assert_eq!(rt; ended, Err(OnceFault::Output), "with room for {room} bytes");
+        assert_eq!(rt; writer.room, left);
     }
     Ok(())
 }

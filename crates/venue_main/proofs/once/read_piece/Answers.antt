@@ -27,8 +27,11 @@ returns-then-count-eq0-clause-read g c = record {
 pub returns-in-Err-clause-lost : goal.returns-in-Err-clause-lost
 returns-in-Err-clause-lost g c =
     let left = g.R.Read.remaining c.args.reader.now in
-    ([], Consumes-kept left left (g.R.Read.remaining c.read.new.self) [] (Consumes-nil left) c.in-Err.ensures.bytes)
+    ([], Consumes-kept left left (g.R.Read.remaining c.read.new.self) [] (Consumes-nil left) c.in-Err.ensures.bytes, omega arith)
 
 pub returns-in_err-push_bytes-clause-lost : goal.returns-in_err-push_bytes-clause-lost
 returns-in_err-push_bytes-clause-lost g c =
-    if_err c.from_residual.result (λ _. (piece : List ℕ) × Consumes (g.R.Read.remaining c.args.reader.now) (g.R.Read.remaining c.read.new.self) piece) (λ _. (take c.in-Ok.count c.read.new.buf, c.in-Ok.ensures.bytes.0))
+    let bound = c.in-Ok.ensures.bound in
+    let piece = take c.in-Ok.count c.read.new.buf in
+    if_err c.from_residual.result (λ _. (piece : List ℕ) × Consumes (g.R.Read.remaining c.args.reader.now) (g.R.Read.remaining c.read.new.self) piece × (length piece ≤ 4096))
+    (λ _. (piece, c.in-Ok.ensures.bytes.0, omega (arith, bound.0, bound.1, c.read.auto.buf, length-take c.in-Ok.count c.read.new.buf)))
