@@ -129,16 +129,6 @@ pub(crate) fn admin_of(
     })
 }
 
-// 43=Y where a message is sent again.
-fn duplicate(first_sent: Option<Moment>) -> Option<bool>
-    ensures { result ≡ sent.duplicate first_sent }
-{
-    match first_sent {
-        Some(_) => Some(true),
-        None => None,
-    }
-}
-
 /// The header of a message that is sent at moment t, and first was at another, where it is sent again.
 pub(crate) fn header(
     ids: &CompIds,
@@ -148,12 +138,17 @@ pub(crate) fn header(
 ) -> HeaderRef<'_>
     ensures { lent_header result ≡ sent.header_of ids.now number t first_sent }
 {
+    // 43=Y where the message is sent again.
+    let possible_duplicate = match first_sent {
+        Some(_) => Some(true),
+        None => None,
+    };
     HeaderRef {
         sender: &ids.own,
         target: &ids.peer,
         number,
         sending_time: t,
-        possible_duplicate: duplicate(first_sent),
+        possible_duplicate,
         possible_resend: None,
         original_sending_time: first_sent,
         application_version: None,
