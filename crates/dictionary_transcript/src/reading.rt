@@ -52,51 +52,46 @@ fn read_again(alloc: Global, form: Form, fields: &Fields) -> Result<Reading, Dic
     }
 }
 
-// An application message is copied, once more where a growth was refused.
-fn copied(alloc: Global, reading: Reading) -> Result<Reading, AllocError> {
-    let Reading::App(app) = &reading else {
-        return Ok(reading);
-    };
-    let copy = match app.copy(alloc) {
-        Ok(copy) => copy,
-        Err(AllocError) => app.copy(alloc)?,
-    };
-    Ok(Reading::App(copy))
+fn print_copy(alloc: Global, app: &App, text: &mut Vec<u8>) -> Result<(), AllocError> {
+    let copy = app.copy(alloc)?;
+    print_app(&copy, text)
 }
 
-fn print(reading: &Reading, text: &mut Vec<u8>) -> Result<(), AllocError> {
+fn print(alloc: Global, reading: &Reading, text: &mut Vec<u8>) -> Result<(), AllocError> {
     match reading {
         Reading::Message(message) => print_message(message, text),
-        Reading::App(app) => print_app(app, text),
+        Reading::App(app) => print_copy(alloc, app, text),
     }
 }
 
 // What is printed behind two spaces. A print to which a growth is refused appends nothing, and is made once more.
-fn printed(alloc: Global, reading: &Reading) -> Result<Vec<u8>> {
+fn printed(alloc: Global, reading: &Reading) -> Result<Answer> {
     let mut text = match Vec::from_slice(alloc, b"  ") {
         Ok(text) => text,
         Err(AllocError) => Vec::from_slice(alloc, b"  ")?,
     };
-    if print(reading, &mut text).is_err() {
+    if print(alloc, reading, &mut text).is_err() {
         ensure!(
             text.as_slice() == b"  ".as_slice(),
             "a refused print changed its vector"
         );
-        print(reading, &mut text)?;
+        print(alloc, reading, &mut text)?;
     }
-    Ok(text)
+    Ok(Answer::Printed(text))
+}
+
+fn answer_to_fields(alloc: Global, form: Form, fields: &Fields) -> Result<Answer> {
+    match read_again(alloc, form, fields) {
+        Ok(reading) => printed(alloc, &reading),
+        Err(fault) => Ok(Answer::Fault(fault)),
+    }
 }
 
 /// What the dictionary answers to a body. Each call to which a growth is refused is made once more.
 pub fn answer_to(alloc: Global, form: Form, body: &[u8]) -> Result<Answer> {
-    let fields = match split_again(alloc, body) {
-        Ok(fields) => fields,
-        Err(FieldFault::NoMemory) => return Err(AllocError.into()),
-        Err(_) => return Ok(Answer::NoFields),
-    };
-    let reading = match read_again(alloc, form, &fields) {
-        Ok(reading) => copied(alloc, reading)?,
-        Err(fault) => return Ok(Answer::Fault(fault)),
-    };
-    Ok(Answer::Printed(printed(alloc, &reading)?))
+    match split_again(alloc, body) {
+        Ok(fields) => answer_to_fields(alloc, form, &fields),
+        Err(FieldFault::NoMemory) => Err(AllocError.into()),
+        Err(_) => Ok(Answer::NoFields),
+    }
 }
