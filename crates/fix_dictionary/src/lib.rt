@@ -23,14 +23,17 @@ mod values;
 pub use faults::DictFault;
 pub use lists::{EntryTypes, MarketDataEntries, Parties};
 pub use messages::{
-    Admin, App, Body, BodyRef, BusinessMessageReject, CrossSide, ExecutionReport, Header, HeaderRef, Heartbeat, Item,
-    Logon, Logout, MarketDataEntry, MarketDataRequest, MarketDataRequestReject, MarketDataSnapshot,
-    Message, NewOrderCross, NewOrderSingle, OrderCancelReject, OrderCancelReplaceRequest,
-    OrderCancelRequest, Party, Quote, QuoteCancel, QuoteRequest, QuoteRequestReject, QuoteResponse,
-    QuoteStatusReport, Reject, ResendRequest, SequenceReset, TestRequest,
+    Admin, App, Body, BodyRef, BusinessMessageReject, CrossSide, ExecutionReport, Header,
+    HeaderRef, Heartbeat, Item, Logon, Logout, MarketDataEntry, MarketDataRequest,
+    MarketDataRequestReject, MarketDataSnapshot, Message, NewOrderCross, NewOrderSingle,
+    OrderCancelReject, OrderCancelReplaceRequest, OrderCancelRequest, Party, Quote, QuoteCancel,
+    QuoteRequest, QuoteRequestReject, QuoteResponse, QuoteStatusReport, Reject, ResendRequest,
+    SequenceReset, TestRequest,
 };
 pub use print::{print_app, print_message, print_parts};
-pub use read::{printed_is_read, printed_is_short, read_app, read_body, read_message, spelled_or_faulty};
+pub use read::{
+    printed_is_read, printed_is_short, read_app, read_body, read_message, spelled_or_faulty,
+};
 pub use values::{
     Amount, FixChar, FixInt, HeartbeatInterval, Identifier, NewSequenceNumber, OtherKind, Price,
     Quantity, SequenceNumber, Side, Text,

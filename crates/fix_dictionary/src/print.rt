@@ -12,10 +12,10 @@ ghost use Rattle.fix_dictionary.specs.Text.{with_slot, fields_of, slots_text, gi
 use crate::cross_parts::print_new_order_cross;
 use crate::group_print::{print_market_data_request, print_market_data_snapshot};
 use crate::messages::{
-    Admin, App, Body, BodyRef, BusinessMessageReject, ExecutionReport, HeaderRef, Heartbeat, Logon, Logout,
-    MarketDataRequestReject, Message, NewOrderSingle, OrderCancelReject, OrderCancelReplaceRequest,
-    OrderCancelRequest, QuoteCancel, QuoteResponse, QuoteStatusReport, Reject, ResendRequest,
-    SequenceReset, TestRequest,
+    Admin, App, Body, BodyRef, BusinessMessageReject, ExecutionReport, HeaderRef, Heartbeat, Logon,
+    Logout, MarketDataRequestReject, Message, NewOrderSingle, OrderCancelReject,
+    OrderCancelReplaceRequest, OrderCancelRequest, QuoteCancel, QuoteResponse, QuoteStatusReport,
+    Reject, ResendRequest, SequenceReset, TestRequest,
 };
 use crate::quote_print::{print_quote, print_quote_request, print_quote_request_reject};
 use crate::values::{FixChar, FixInt, Identifier, Price, Quantity, Side, Text};
