@@ -44,8 +44,8 @@ pub fn plan_cross(
         Ok(terms) => terms,
         Err(cause) => return turned_away(alloc, taken, cross, reports, cause),
     };
-    let first = side_order(alloc, who, first_side(cross), &terms)?;
-    let second = held_side(alloc, instruments, who, cross, &terms, moment)?;
+    let first = side_order(who, first_side(cross), &terms);
+    let second = held_side(instruments, who, cross, &terms, moment);
     let entered = match enter(
         alloc,
         participants,

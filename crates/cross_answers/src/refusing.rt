@@ -13,27 +13,26 @@ use venue_rules::{BusinessRefusal, CrossRefusal, CrossRefused, OrderReport, Repl
 
 // The report that refuses a side.
 fn side_refused(
-    alloc: Global,
     taken: &Taken,
     cross: &NewOrderCross,
     side: &CrossSide,
     report: u64,
     cause: CrossRefusal,
-) -> Result<Reply, AllocError>
-    ensures { IfOk result (λ r. r ≡ side_refused (sender taken.now) cross.now cause side.now report) }
+) -> Reply
+    ensures { result ≡ side_refused (sender taken.now) cross.now cause side.now report }
 {
     let order = OrderReport {
         report,
         order: None,
-        symbol: cross.symbol.copy(alloc)?,
+        symbol: cross.symbol,
         side: side.side,
         left: Amount::new(0),
         filled: Amount::new(0),
-        id: side.order_id.copy(alloc)?,
+        id: side.order_id,
     };
     let what = What::CrossRefused(CrossRefused { order, cause });
     let to = taken.from;
-    Ok(Reply { to, what })
+    Reply { to, what }
 }
 
 /// A cross is refused by two reports, one for each side in the message's order.
@@ -49,8 +48,8 @@ pub(crate) fn refused(
     ensures quiet { IfOk result IsQuiet }
 {
     let report = reports + 1;
-    let first = side_refused(alloc, taken, cross, &cross.first, report, cause)?;
-    let second = side_refused(alloc, taken, cross, &cross.second, report + 1, cause)?;
+    let first = side_refused(taken, cross, &cross.first, report, cause);
+    let second = side_refused(taken, cross, &cross.second, report + 1, cause);
     let replies = vec![in alloc; first, second]?;
     Ok(OrderAnswer::of_replies(alloc, replies))
 }

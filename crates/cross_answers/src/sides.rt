@@ -1,5 +1,5 @@
 //! The two sides of a cross: the one that enters first, and the one that is held.
-ghost use Rattle.std.specs.Prelude.{◌≡◌, ◌+◌, ◌<◌, length, IfOk};
+ghost use Rattle.std.specs.Prelude.{◌≡◌, ◌+◌, ◌<◌, length};
 ghost use Rattle.instruments.specs.Listing.{delay_of};
 ghost use Rattle.venue_rules.specs.Book.{is_side};
 ghost use Rattle.venue_rules.specs.Crosses.{first_side, is_first, second_side};
@@ -9,7 +9,6 @@ use crate::terms::Terms;
 use fix_dictionary::{CrossSide, NewOrderCross, Side};
 use instruments::Instruments;
 use sef_moment::Moment;
-use std::alloc::{AllocError, Global};
 use venue_rules::{HeldSide, Life, OrderFact, Who};
 
 /// Whether two sides are the same.
@@ -56,24 +55,19 @@ fn second_side(cross: &NewOrderCross) -> &CrossSide
 }
 
 /// A side of a cross as a day order.
-pub(crate) fn side_order(
-    alloc: Global,
-    who: Who,
-    side: &CrossSide,
-    terms: &Terms,
-) -> Result<OrderFact, AllocError>
-    ensures { IfOk result (λ o. o ≡ cross_order terms.now who side.now) }
+pub(crate) fn side_order(who: Who, side: &CrossSide, terms: &Terms) -> OrderFact
+    ensures { result ≡ cross_order terms.now who side.now }
 {
-    Ok(OrderFact {
+    OrderFact {
         who,
-        id: side.order_id.copy(alloc)?,
+        id: side.order_id,
         link: None,
         instrument: terms.instrument,
         side: side.side,
         quantity: side.quantity,
         price: terms.price,
         life: Life::Day,
-    })
+    }
 }
 
 // The moment in milliseconds at which a side of a cross of this moment falls due, which may lie past the last moment.
@@ -86,18 +80,17 @@ fn due_after(instruments: &Instruments, instrument: u32, moment: Moment) -> u64
 
 /// The side of a cross that is held for the delay.
 pub(crate) fn held_side(
-    alloc: Global,
     instruments: &Instruments,
     who: Who,
     cross: &NewOrderCross,
     terms: &Terms,
     moment: Moment,
-) -> Result<HeldSide, AllocError>
+) -> HeldSide
     requires { terms.now.instrument < length instruments.now }
-    ensures { IfOk result (λ k. k ≡ record { order = cross_order terms.now who (second_side cross.now); cross = cross.now.cross_id; due = moment + delay_of instruments.now terms.now.instrument }) }
+    ensures { result ≡ record { order = cross_order terms.now who (second_side cross.now); cross = cross.now.cross_id; due = moment + delay_of instruments.now terms.now.instrument } }
 {
     let due = due_after(instruments, terms.instrument, moment);
-    let order = side_order(alloc, who, second_side(cross), terms)?;
-    let cross = cross.cross_id.copy(alloc)?;
-    Ok(HeldSide { order, cross, due })
+    let order = side_order(who, second_side(cross), terms);
+    let cross = cross.cross_id;
+    HeldSide { order, cross, due }
 }

@@ -37,11 +37,11 @@ fn refused(
     let order = OrderReport {
         report: reports + 1,
         order: None,
-        symbol: symbol_of(alloc, instruments, side.order.instrument)?,
+        symbol: symbol_of(instruments, side.order.instrument),
         side: side.order.side,
         left: Amount::new(0),
         filled: Amount::new(0),
-        id: side.order.id.copy(alloc)?,
+        id: side.order.id,
     };
     let what = What::OrderRefused(OrderRefused { order, cause });
     let to = side.order.who;
@@ -132,7 +132,7 @@ pub fn plan_due(
     let Some(side) = held.due(moment) else {
         return Ok(OrderAnswer::of_replies(alloc, Vec::new(alloc)));
     };
-    let (who, id) = (side.order.who, side.order.id.copy(alloc)?);
+    let (who, id) = (side.order.who, side.order.id);
     let entered = fallen(alloc, participants, instruments, book, counts, side, moment)?;
     let plan = held.plan_drop(who, &id, None)?;
     Ok(entered.with_delay(true, plan))

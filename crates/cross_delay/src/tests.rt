@@ -6,7 +6,7 @@ use super::*;
 use fix_dictionary::{Identifier, Price, Quantity, Side};
 use participants::Who;
 use sef_moment::Moment;
-use std::alloc::{AllocError, Global};
+use std::alloc::Global;
 use std::test::*;
 use venue_rules::{HeldSide, Life, OrderFact};
 
@@ -14,12 +14,12 @@ use venue_rules::{HeldSide, Life, OrderFact};
 const T: u64 = 1_741_012_200_000;
 
 /// ALPHA's sale of 10 at 2.5 of the cross c1, held until it falls due.
-fn sale(alloc: Global, id: &[u8], due: u64) -> Result<HeldSide, AllocError>
+fn sale(id: &[u8], due: u64) -> HeldSide
     requires { IsText 64 id.now }
 {
     let order = OrderFact {
         who: Who::of(0),
-        id: Identifier::from_slice(alloc, id)?,
+        id: Identifier::from_slice(id),
         link: None,
         instrument: 0,
         side: Side::Sell,
@@ -27,8 +27,8 @@ fn sale(alloc: Global, id: &[u8], due: u64) -> Result<HeldSide, AllocError>
         price: Price::new(2_500_000),
         life: Life::Day,
     };
-    let cross = Identifier::from_slice(alloc, b"c1")?;
-    Ok(HeldSide { order, cross, due })
+    let cross = Identifier::from_slice(b"c1");
+    HeldSide { order, cross, due }
 }
 
 /// Whether the identifier of a side was used.
@@ -53,18 +53,18 @@ fn hold(held: &mut Held, side: HeldSide) -> bool {
 }
 
 /// ALPHA's side x2, due after 15,001 milliseconds, and then x3, due after 15,000.
-fn two(alloc: Global) -> Result<Held, AllocError> {
+fn two(alloc: Global) -> Held {
     let mut held = Held::new(alloc);
-    hold(&mut held, sale(alloc, b"x2", T + 15_001)?);
-    hold(&mut held, sale(alloc, b"x3", T + 15_000)?);
-    Ok(held)
+    hold(&mut held, sale(b"x2", T + 15_001));
+    hold(&mut held, sale(b"x3", T + 15_000));
+    held
 }
 
 #[test]
 fn the_least_moment_is_due_first(rt: HostRuntime) -> Result<(), Fail> {
     let alloc = rt.alloc();
     let t = Moment::of_ms(T).ok_or("no moment")?;
-    let held = two(alloc)?;
+    let held = two(alloc);
     assert!(rt; held.due(t.plus(14_999)).is_none());
     let first = held.due(t.plus(15_001)).ok_or("none is due")?;
     assert_eq!(rt; first.due, T + 15_000);
@@ -74,9 +74,9 @@ fn the_least_moment_is_due_first(rt: HostRuntime) -> Result<(), Fail> {
 #[test]
 fn identifiers_stay_used(rt: HostRuntime) -> Result<(), Fail> {
     let alloc = rt.alloc();
-    let held = two(alloc)?;
-    let side = Identifier::from_slice(alloc, b"x2")?;
-    let cross = Identifier::from_slice(alloc, b"c1")?;
+    let held = two(alloc);
+    let side = Identifier::from_slice(b"x2");
+    let cross = Identifier::from_slice(b"c1");
     assert!(rt; held.used(Who::of(0), &side));
     assert!(rt; held.crossed(Who::of(0), &cross));
     assert!(rt; !held.crossed(Who::of(1), &cross));
@@ -87,8 +87,8 @@ fn identifiers_stay_used(rt: HostRuntime) -> Result<(), Fail> {
 #[test]
 fn a_cancelled_side_is_gone(rt: HostRuntime) -> Result<(), Fail> {
     let alloc = rt.alloc();
-    let mut held = two(alloc)?;
-    let side = Identifier::from_slice(alloc, b"x2")?;
+    let mut held = two(alloc);
+    let side = Identifier::from_slice(b"x2");
     if held.holds(Who::of(0), &side) {
         let plan = held.plan_drop(Who::of(0), &side, None)?;
         held.apply(plan);

@@ -1,14 +1,16 @@
 -- What is printed as a value is a value, and short.
-use Rattle.std.proofs.Common.{◌≡◌, ◌≢◌, ℕ, suc, ◌+◌, ◌/◌, ◌%◌, ◌^◌, ◌≤◌, ◌<◌, true, false, Bool, List, [], ◌∷◌, ◌++◌, refl, arith, rules, cond, ◌==◌, ◌&&◌, nat_le, nat_lt, length, length-append, decimal, ℤ, pos, negsuc}
+use Rattle.std.proofs.Common.{◌≡◌, ◌≢◌, ℕ, suc, ◌+◌, ◌/◌, ◌%◌, ◌^◌, ◌≤◌, ◌<◌, true, false, Bool, List, [], ◌∷◌, ◌++◌, refl, arith, rules, cond, ◌==◌, ◌&&◌, nat_le, nat_lt, length, length-append, decimal, ℤ, pos, negsuc, take, drop, replicate, ◌-◌}
 use Rattle.std.specs.List.{list_all}
 use Rattle.std.proofs.lemmas.Bool.Decides.{nat_tests}
 use Rattle.std.proofs.lemmas.Fmt.{length-decimal-le}
+use Rattle.std.proofs.lemmas.List.{drop-replicate}
+use Rattle.std.proofs.Math.Seq.{take-append_seam}
 use Rattle.sef_moment.specs.Utc.{utc_text}
 use Rattle.fix_fields.specs.Cut.{Lacks}
 use Rattle.fix_fields.specs.Fields.{IsValue}
 use Rattle.fix_fields.specs.Forms.{six_digits, without_trailing_zeros, is_empty, millionths_text, price_text}
 use Rattle.fix_fields.proofs.PrintLemmas.{IsValue-decimal, IsValue-utc_text}
-use Rattle.fix_dictionary.specs.Values.{IsText, is_printable, is_graphic, IsPrice}
+use Rattle.fix_dictionary.specs.Values.{IsText, in_room, is_printable, is_graphic, IsPrice}
 
 -- a value of at most so many bytes
 pub record IsShort (longest : ℕ) (bytes : List ℕ) : Type 0 where
@@ -116,3 +118,9 @@ short_price (negsuc n) h =
       value = record { some = omega arith; one_piece = ((λ e. absurd (omega (arith, e))), magnitude.value.one_piece) };
       short = omega (arith, magnitude.short);
     }
+
+pub room_behind : (bytes : List ℕ) → bytes ++ drop (length bytes) (replicate 64 0) ≡ in_room bytes
+room_behind bytes = rw drop-replicate refl
+
+pub room_in_front : (bytes : List ℕ) → take (length bytes) (in_room bytes) ≡ bytes
+room_in_front bytes = take-append_seam bytes (replicate (64 - length bytes) 0)

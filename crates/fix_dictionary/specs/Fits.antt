@@ -249,27 +249,6 @@ FitsBody (body.App (app.NewOrderCross m)) = FitsNewOrderCross m
 FitsBody (body.App (app.MarketDataRequest m)) = FitsMarketDataRequest m
 FitsBody (body.App (app.MarketDataSnapshot m)) = FitsMarketDataSnapshot m
 
--- The type is read. Those that are not are read as unsupported, and printed as their type alone.
-abbrev pub is_read : Body → Bool
-is_read (body.Admin m) = true
-is_read (body.App (app.QuoteRequest m)) = true
-is_read (body.App (app.Quote m)) = true
-is_read (body.App (app.QuoteRequestReject m)) = true
-is_read (body.App (app.NewOrderCross m)) = true
-is_read (body.App (app.MarketDataRequest m)) = true
-is_read (body.App (app.MarketDataSnapshot m)) = true
-is_read (body.App (app.QuoteCancel m)) = true
-is_read (body.App (app.QuoteResponse m)) = true
-is_read (body.App (app.QuoteStatusReport m)) = true
-is_read (body.App (app.NewOrderSingle m)) = true
-is_read (body.App (app.OrderCancelRequest m)) = true
-is_read (body.App (app.OrderCancelReplaceRequest m)) = true
-is_read (body.App (app.ExecutionReport m)) = true
-is_read (body.App (app.OrderCancelReject m)) = true
-is_read (body.App (app.MarketDataRequestReject m)) = true
-is_read (body.App (app.BusinessMessageReject m)) = true
-is_read (body.App (app.Unsupported kind)) = true
-
 pub record FitsMessage (m : Message) : Type 0 where
   pub header : FitsHeader m.header
   pub body : FitsBody m.body

@@ -1,5 +1,5 @@
 -- The values that fields may have, as tests on bytes.
-use Rattle.std.specs.Prelude.{◌≡◌, ℕ, ◌≤◌, ℤ, unsigned_abs, ◌==◌, Bool, true, false, ◌&&◌, ◌||◌, nat_lt, nat_le, List, [], ◌∷◌, length}
+use Rattle.std.specs.Prelude.{◌≡◌, ℕ, ◌≤◌, ℤ, unsigned_abs, ◌==◌, Bool, true, false, ◌&&◌, ◌||◌, nat_lt, nat_le, List, [], ◌∷◌, ◌++◌, ◌-◌, length, replicate}
 use Rattle.std.specs.List.{list_all}
 
 -- a byte from 32 to 126
@@ -25,6 +25,10 @@ abbrev pub is_either : ℕ → ℕ → List ℕ → Bool
 is_either a b [] = false
 is_either a b (c ∷ []) = (c == a) || (c == b)
 is_either a b (c ∷ d ∷ more) = false
+
+-- the bytes in a room of 64, and 0 behind them
+abbrev pub in_room : List ℕ → List ℕ
+in_room bytes = bytes ++ replicate (64 - length bytes) 0
 
 abbrev pub IsText : ℕ → List ℕ → Type 0
 IsText longest bytes = is_text longest bytes ≡ true

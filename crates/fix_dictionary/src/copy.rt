@@ -3,25 +3,12 @@ ghost use Rattle.std.specs.Prelude.{◌≡◌, IfOk};
 
 use crate::lists::{EntryTypes, MarketDataEntries, Parties};
 use crate::messages::{
-    App, BusinessMessageReject, CrossSide, ExecutionReport, MarketDataEntry, MarketDataRequest,
-    MarketDataRequestReject, MarketDataSnapshot, NewOrderCross, NewOrderSingle, OrderCancelReject,
-    OrderCancelReplaceRequest, OrderCancelRequest, Party, Quote, QuoteCancel, QuoteRequest,
-    QuoteRequestReject, QuoteResponse, QuoteStatusReport,
+    App, BusinessMessageReject, ExecutionReport, MarketDataRequest, MarketDataRequestReject,
+    MarketDataSnapshot, OrderCancelReject, Quote, QuoteRequest, QuoteRequestReject,
+    QuoteStatusReport,
 };
-use crate::values::{FixChar, Identifier, Text};
+use crate::values::Text;
 use std::alloc::{AllocError, Global};
-
-fn optional_identifier(
-    alloc: Global,
-    value: &Option<Identifier>,
-) -> Result<Option<Identifier>, AllocError>
-    ensures { IfOk result (λ copy. copy ≡ value.now) }
-{
-    match value {
-        Some(id) => Ok(Some(id.copy(alloc)?)),
-        None => Ok(None),
-    }
-}
 
 fn optional_text(alloc: Global, value: &Option<Text>) -> Result<Option<Text>, AllocError>
     ensures { IfOk result (λ copy. copy ≡ value.now) }
@@ -32,67 +19,16 @@ fn optional_text(alloc: Global, value: &Option<Text>) -> Result<Option<Text>, Al
     }
 }
 
-fn party(alloc: Global, m: &Party) -> Result<Party, AllocError>
-    ensures { IfOk result (λ copy. copy ≡ m.now) }
-{
-    Ok(Party {
-        id: m.id.copy(alloc)?,
-        source: m.source,
-        role: m.role,
-    })
-}
-
-fn market_data_entry(alloc: Global, m: &MarketDataEntry) -> Result<MarketDataEntry, AllocError>
-    ensures { IfOk result (λ copy. copy ≡ m.now) }
-{
-    Ok(MarketDataEntry {
-        entry_type: m.entry_type,
-        price: m.price,
-        size: m.size,
-        order_id: optional_identifier(alloc, &m.order_id)?,
-    })
-}
-
-fn cross_side(alloc: Global, m: &CrossSide) -> Result<CrossSide, AllocError>
-    ensures { IfOk result (λ copy. copy ≡ m.now) }
-{
-    Ok(CrossSide {
-        side: m.side,
-        order_id: m.order_id.copy(alloc)?,
-        quantity: m.quantity,
-    })
-}
-
-fn parties_in(alloc: Global, list: &[Party]) -> Result<Vec<Party>, AllocError>
-    ensures { IfOk result (λ copy. copy.items ≡ list.now) }
-{
-    let mut copy = Vec::new(alloc);
-    for instance in list {
-        copy.push(party(alloc, instance)?)?;
-    }
-    Ok(copy)
-}
-
 fn parties(alloc: Global, list: &Parties) -> Result<Parties, AllocError>
     ensures { IfOk result (λ copy. copy ≡ list.now) }
 {
-    Ok(Parties::from_vec(parties_in(alloc, list.as_slice())?))
-}
-
-fn entries_in(alloc: Global, list: &[MarketDataEntry]) -> Result<Vec<MarketDataEntry>, AllocError>
-    ensures { IfOk result (λ copy. copy.items ≡ list.now) }
-{
-    let mut copy = Vec::new(alloc);
-    for instance in list {
-        copy.push(market_data_entry(alloc, instance)?)?;
-    }
-    Ok(copy)
+    Ok(Parties::from_vec(Vec::from_slice(alloc, list.as_slice())?))
 }
 
 fn entries(alloc: Global, list: &MarketDataEntries) -> Result<MarketDataEntries, AllocError>
     ensures { IfOk result (λ copy. copy ≡ list.now) }
 {
-    Ok(MarketDataEntries::from_vec(entries_in(alloc, list.as_slice())?))
+    Ok(MarketDataEntries::from_vec(Vec::from_slice(alloc, list.as_slice())?))
 }
 
 fn entry_types(alloc: Global, list: &EntryTypes) -> Result<EntryTypes, AllocError>
@@ -105,8 +41,8 @@ fn quote_request(alloc: Global, m: &QuoteRequest) -> Result<QuoteRequest, AllocE
     ensures { IfOk result (λ copy. copy ≡ m.now) }
 {
     Ok(QuoteRequest {
-        request_id: m.request_id.copy(alloc)?,
-        symbol: m.symbol.copy(alloc)?,
+        request_id: m.request_id,
+        symbol: m.symbol,
         side: m.side,
         quantity: m.quantity,
         parties: parties(alloc, &m.parties)?,
@@ -117,36 +53,16 @@ fn quote(alloc: Global, m: &Quote) -> Result<Quote, AllocError>
     ensures { IfOk result (λ copy. copy ≡ m.now) }
 {
     Ok(Quote {
-        quote_id: m.quote_id.copy(alloc)?,
-        request_id: m.request_id.copy(alloc)?,
+        quote_id: m.quote_id,
+        request_id: m.request_id,
         quote_type: m.quote_type,
         parties: parties(alloc, &m.parties)?,
-        symbol: m.symbol.copy(alloc)?,
+        symbol: m.symbol,
         bid_price: m.bid_price,
         offer_price: m.offer_price,
         bid_size: m.bid_size,
         offer_size: m.offer_size,
         valid_until: m.valid_until,
-    })
-}
-
-fn quote_cancel(alloc: Global, m: &QuoteCancel) -> Result<QuoteCancel, AllocError>
-    ensures { IfOk result (λ copy. copy ≡ m.now) }
-{
-    Ok(QuoteCancel {
-        quote_id: optional_identifier(alloc, &m.quote_id)?,
-        cancel_type: m.cancel_type,
-    })
-}
-
-fn quote_response(alloc: Global, m: &QuoteResponse) -> Result<QuoteResponse, AllocError>
-    ensures { IfOk result (λ copy. copy ≡ m.now) }
-{
-    Ok(QuoteResponse {
-        response_id: m.response_id.copy(alloc)?,
-        quote_id: m.quote_id.copy(alloc)?,
-        response_type: m.response_type,
-        side: m.side,
     })
 }
 
@@ -157,10 +73,10 @@ fn quote_status_report(
     ensures { IfOk result (λ copy. copy ≡ m.now) }
 {
     Ok(QuoteStatusReport {
-        quote_id: optional_identifier(alloc, &m.quote_id)?,
-        request_id: optional_identifier(alloc, &m.request_id)?,
-        response_id: optional_identifier(alloc, &m.response_id)?,
-        symbol: optional_identifier(alloc, &m.symbol)?,
+        quote_id: m.quote_id,
+        request_id: m.request_id,
+        response_id: m.response_id,
+        symbol: m.symbol,
         status: m.status,
         reject_reason: m.reject_reason,
         text: optional_text(alloc, &m.text)?,
@@ -174,68 +90,10 @@ fn quote_request_reject(
     ensures { IfOk result (λ copy. copy ≡ m.now) }
 {
     Ok(QuoteRequestReject {
-        request_id: m.request_id.copy(alloc)?,
+        request_id: m.request_id,
         reject_reason: m.reject_reason,
-        symbol: m.symbol.copy(alloc)?,
+        symbol: m.symbol,
         text: optional_text(alloc, &m.text)?,
-    })
-}
-
-fn new_order_single(alloc: Global, m: &NewOrderSingle) -> Result<NewOrderSingle, AllocError>
-    ensures { IfOk result (λ copy. copy ≡ m.now) }
-{
-    Ok(NewOrderSingle {
-        order_id: m.order_id.copy(alloc)?,
-        link_id: optional_identifier(alloc, &m.link_id)?,
-        symbol: m.symbol.copy(alloc)?,
-        side: m.side,
-        quantity: m.quantity,
-        order_type: m.order_type,
-        price: m.price,
-        time_in_force: m.time_in_force,
-        transact_time: m.transact_time,
-    })
-}
-
-fn order_cancel_request(
-    alloc: Global,
-    m: &OrderCancelRequest,
-) -> Result<OrderCancelRequest, AllocError>
-    ensures { IfOk result (λ copy. copy ≡ m.now) }
-{
-    Ok(OrderCancelRequest {
-        order_id: m.order_id.copy(alloc)?,
-        original_id: m.original_id.copy(alloc)?,
-    })
-}
-
-fn order_cancel_replace_request(
-    alloc: Global,
-    m: &OrderCancelReplaceRequest,
-) -> Result<OrderCancelReplaceRequest, AllocError>
-    ensures { IfOk result (λ copy. copy ≡ m.now) }
-{
-    Ok(OrderCancelReplaceRequest {
-        order_id: m.order_id.copy(alloc)?,
-        original_id: m.original_id.copy(alloc)?,
-        quantity: m.quantity,
-        order_type: m.order_type,
-        price: m.price,
-    })
-}
-
-fn new_order_cross(alloc: Global, m: &NewOrderCross) -> Result<NewOrderCross, AllocError>
-    ensures { IfOk result (λ copy. copy ≡ m.now) }
-{
-    Ok(NewOrderCross {
-        cross_id: m.cross_id.copy(alloc)?,
-        cross_type: m.cross_type,
-        prioritization: m.prioritization,
-        first: cross_side(alloc, &m.first)?,
-        second: cross_side(alloc, &m.second)?,
-        symbol: m.symbol.copy(alloc)?,
-        order_type: m.order_type,
-        price: m.price,
     })
 }
 
@@ -243,21 +101,21 @@ fn execution_report(alloc: Global, m: &ExecutionReport) -> Result<ExecutionRepor
     ensures { IfOk result (λ copy. copy ≡ m.now) }
 {
     Ok(ExecutionReport {
-        venue_order_id: m.venue_order_id.copy(alloc)?,
-        execution_id: m.execution_id.copy(alloc)?,
+        venue_order_id: m.venue_order_id,
+        execution_id: m.execution_id,
         execution_type: m.execution_type,
         order_status: m.order_status,
-        symbol: m.symbol.copy(alloc)?,
+        symbol: m.symbol,
         side: m.side,
         left: m.left,
         filled: m.filled,
-        order_id: optional_identifier(alloc, &m.order_id)?,
-        original_id: optional_identifier(alloc, &m.original_id)?,
+        order_id: m.order_id,
+        original_id: m.original_id,
         last_price: m.last_price,
         last_quantity: m.last_quantity,
         reject_reason: m.reject_reason,
-        trade_id: optional_identifier(alloc, &m.trade_id)?,
-        response_id: optional_identifier(alloc, &m.response_id)?,
+        trade_id: m.trade_id,
+        response_id: m.response_id,
         text: optional_text(alloc, &m.text)?,
     })
 }
@@ -269,9 +127,9 @@ fn order_cancel_reject(
     ensures { IfOk result (λ copy. copy ≡ m.now) }
 {
     Ok(OrderCancelReject {
-        venue_order_id: m.venue_order_id.copy(alloc)?,
-        order_id: m.order_id.copy(alloc)?,
-        original_id: m.original_id.copy(alloc)?,
+        venue_order_id: m.venue_order_id,
+        order_id: m.order_id,
+        original_id: m.original_id,
         order_status: m.order_status,
         response_to: m.response_to,
         reject_reason: m.reject_reason,
@@ -286,11 +144,11 @@ fn market_data_request(
     ensures { IfOk result (λ copy. copy ≡ m.now) }
 {
     Ok(MarketDataRequest {
-        request_id: m.request_id.copy(alloc)?,
+        request_id: m.request_id,
         subscription_type: m.subscription_type,
         depth: m.depth,
         entry_types: entry_types(alloc, &m.entry_types)?,
-        symbol: m.symbol.copy(alloc)?,
+        symbol: m.symbol,
     })
 }
 
@@ -301,8 +159,8 @@ fn market_data_snapshot(
     ensures { IfOk result (λ copy. copy ≡ m.now) }
 {
     Ok(MarketDataSnapshot {
-        request_id: m.request_id.copy(alloc)?,
-        symbol: m.symbol.copy(alloc)?,
+        request_id: m.request_id,
+        symbol: m.symbol,
         entries: entries(alloc, &m.entries)?,
     })
 }
@@ -314,7 +172,7 @@ fn market_data_request_reject(
     ensures { IfOk result (λ copy. copy ≡ m.now) }
 {
     Ok(MarketDataRequestReject {
-        request_id: m.request_id.copy(alloc)?,
+        request_id: m.request_id,
         reject_reason: m.reject_reason,
         text: optional_text(alloc, &m.text)?,
     })
@@ -328,7 +186,7 @@ fn business_message_reject(
 {
     Ok(BusinessMessageReject {
         reference_number: m.reference_number,
-        reference_type: m.reference_type.copy(alloc)?,
+        reference_type: m.reference_type,
         reject_reason: m.reject_reason,
         text: optional_text(alloc, &m.text)?,
     })
@@ -342,16 +200,14 @@ impl App {
         Ok(match self {
             App::QuoteRequest(m) => App::QuoteRequest(quote_request(alloc, m)?),
             App::Quote(m) => App::Quote(quote(alloc, m)?),
-            App::QuoteCancel(m) => App::QuoteCancel(quote_cancel(alloc, m)?),
-            App::QuoteResponse(m) => App::QuoteResponse(quote_response(alloc, m)?),
+            App::QuoteCancel(m) => App::QuoteCancel(*m),
+            App::QuoteResponse(m) => App::QuoteResponse(*m),
             App::QuoteStatusReport(m) => App::QuoteStatusReport(quote_status_report(alloc, m)?),
             App::QuoteRequestReject(m) => App::QuoteRequestReject(quote_request_reject(alloc, m)?),
-            App::NewOrderSingle(m) => App::NewOrderSingle(new_order_single(alloc, m)?),
-            App::OrderCancelRequest(m) => App::OrderCancelRequest(order_cancel_request(alloc, m)?),
-            App::OrderCancelReplaceRequest(m) => App::OrderCancelReplaceRequest(
-                order_cancel_replace_request(alloc, m)?,
-            ),
-            App::NewOrderCross(m) => App::NewOrderCross(new_order_cross(alloc, m)?),
+            App::NewOrderSingle(m) => App::NewOrderSingle(*m),
+            App::OrderCancelRequest(m) => App::OrderCancelRequest(*m),
+            App::OrderCancelReplaceRequest(m) => App::OrderCancelReplaceRequest(*m),
+            App::NewOrderCross(m) => App::NewOrderCross(*m),
             App::ExecutionReport(m) => App::ExecutionReport(execution_report(alloc, m)?),
             App::OrderCancelReject(m) => App::OrderCancelReject(order_cancel_reject(alloc, m)?),
             App::MarketDataRequest(m) => App::MarketDataRequest(market_data_request(alloc, m)?),
@@ -362,7 +218,7 @@ impl App {
             App::BusinessMessageReject(m) => App::BusinessMessageReject(business_message_reject(
                 alloc, m,
             )?),
-            App::Unsupported(kind) => App::Unsupported(kind.copy(alloc)?),
+            App::Unsupported(kind) => App::Unsupported(*kind),
         })
     }
 }

@@ -28,15 +28,15 @@ macro_rules! slot {
     };
 }
 
-fn cross_side(alloc: Global, fields: &[Field]) -> Result<CrossSide, AllocError>
+fn cross_side(fields: &[Field]) -> CrossSide
     requires { Holds side_rows (entries fields.now) }
-    ensures { IfOk result (λ m. m ≡ cross_side (entries fields.now)) }
+    ensures { result ≡ cross_side (entries fields.now) }
 {
-    Ok(CrossSide {
+    CrossSide {
         side: side(fields, 54),
-        order_id: identifier(alloc, fields, 11)?,
+        order_id: identifier(fields, 11),
         quantity: quantity(fields, 38),
-    })
+    }
 }
 
 fn side_at(alloc: Global, placed: &[Standing], place: usize) -> Result<CrossSide, AllocError>
@@ -44,17 +44,12 @@ fn side_at(alloc: Global, placed: &[Standing], place: usize) -> Result<CrossSide
     ensures { IfOk result (λ m. m ≡ cross_side (part place (places placed.now))) }
 {
     let fields = part(alloc, placed, place)?;
-    cross_side(alloc, &fields)
+    Ok(cross_side(&fields))
 }
 
-fn cross_of(
-    alloc: Global,
-    fields: &[Field],
-    one: CrossSide,
-    other: CrossSide,
-) -> Result<NewOrderCross, AllocError>
+fn cross_of(fields: &[Field], one: CrossSide, other: CrossSide) -> NewOrderCross
     requires { Holds (members 0 new_order_cross_rows) (entries fields.now) }
-    ensures { IfOk result (λ m. m ≡ record {
+    ensures { result ≡ record {
       cross_id = bytes_at 548 (entries fields.now);
       cross_type = number_in (bytes_at 549 (entries fields.now));
       prioritization = number_in (bytes_at 550 (entries fields.now));
@@ -63,18 +58,18 @@ fn cross_of(
       symbol = bytes_at 55 (entries fields.now);
       order_type = character_in (bytes_at 40 (entries fields.now));
       price = told price_in (value_of 44 (entries fields.now));
-    }) }
+    } }
 {
-    Ok(NewOrderCross {
-        cross_id: identifier(alloc, fields, 548)?,
+    NewOrderCross {
+        cross_id: identifier(fields, 548),
         cross_type: number(fields, 549),
         prioritization: number(fields, 550),
         first: one,
         second: other,
-        symbol: identifier(alloc, fields, 55)?,
+        symbol: identifier(fields, 55),
         order_type: character(fields, 40),
         price: optional_price(fields, 44),
-    })
+    }
 }
 
 // The first side and the second.
@@ -103,7 +98,7 @@ pub(crate) fn new_order_cross(
     let fields = part(alloc, placed, 0)?;
     let one = first_side(alloc, placed)?;
     let other = second_side(alloc, placed)?;
-    cross_of(alloc, &fields, one, other)
+    Ok(cross_of(&fields, one, other))
 }
 
 fn side_fits(m: &CrossSide)

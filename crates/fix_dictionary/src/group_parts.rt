@@ -1,5 +1,5 @@
 //! Reads each message type with repeating groups from fields in which its table found no fault.
-ghost use Rattle.std.specs.Prelude.{◌≡◌, ◌≤◌, IfOk, map, length};
+ghost use Rattle.std.specs.Prelude.{◌≡◌, ◌≤◌, ℕ, IfOk, map, length};
 ghost use Rattle.fix_fields.specs.Views.{entries};
 ghost use Rattle.fix_dictionary.specs.Tables.{header_rows, entry_type_rows, instrument_rows, market_data_entry_rows, market_data_request_rows, market_data_snapshot_rows};
 ghost use Rattle.fix_dictionary.specs.Holding.{Holds};
@@ -20,18 +20,6 @@ use fix_fields::Field;
 use smallvec::SmallVec;
 use std::alloc::{AllocError, Global};
 
-fn market_data_entry(alloc: Global, fields: &[Field]) -> Result<MarketDataEntry, AllocError>
-    requires { Holds market_data_entry_rows (entries fields.now) }
-    ensures { IfOk result (λ m. m ≡ market_data_entry (entries fields.now)) }
-{
-    Ok(MarketDataEntry {
-        entry_type: character(fields, 269),
-        price: optional_price(fields, 270),
-        size: optional_amount(fields, 271),
-        order_id: optional_identifier(alloc, fields, 278)?,
-    })
-}
-
 fn market_data_entries(
     alloc: Global,
     placed: &[Standing],
@@ -43,7 +31,12 @@ fn market_data_entries(
     let mut list = Vec::new(alloc);
     for begin in begins.as_slice() {
         let fields = part(alloc, placed, *begin)?;
-        list.push(market_data_entry(alloc, &fields)?)?;
+        list.push(MarketDataEntry {
+            entry_type: character(&fields, 269),
+            price: optional_price(&fields, 270),
+            size: optional_amount(&fields, 271),
+            order_id: optional_identifier(&fields, 278),
+        })?;
     }
     Ok(list)
 }
@@ -78,31 +71,26 @@ pub(crate) fn symbol(alloc: Global, placed: &[Standing]) -> Result<Identifier, A
     ensures { IfOk result (λ id. id ≡ bytes_at 55 (sole 55 (places placed.now))) }
 {
     let fields = sole(alloc, placed, 55)?;
-    identifier(alloc, &fields, 55)
+    Ok(identifier(&fields, 55))
 }
 
-fn request_of(
-    alloc: Global,
-    fields: &[Field],
-    list: EntryTypes,
-    symbol: Identifier,
-) -> Result<MarketDataRequest, AllocError>
+fn request_of(fields: &[Field], list: EntryTypes, symbol: Identifier) -> MarketDataRequest
     requires { Holds (members 0 market_data_request_rows) (entries fields.now) }
-    ensures { IfOk result (λ m. m ≡ record {
+    ensures { result ≡ record {
       request_id = bytes_at 262 (entries fields.now);
       subscription_type = character_in (bytes_at 263 (entries fields.now));
       depth = number_in (bytes_at 264 (entries fields.now));
       entry_types = list;
       symbol = symbol;
-    }) }
+    } }
 {
-    Ok(MarketDataRequest {
-        request_id: identifier(alloc, fields, 262)?,
+    MarketDataRequest {
+        request_id: identifier(fields, 262),
         subscription_type: character(fields, 263),
         depth: number(fields, 264),
         entry_types: list,
         symbol,
-    })
+    }
 }
 
 pub(crate) fn market_data_request(
@@ -115,26 +103,22 @@ pub(crate) fn market_data_request(
     let fields = part(alloc, placed, 0)?;
     let list = EntryTypes::from_vec(entry_types(alloc, placed)?);
     let symbol = symbol(alloc, placed)?;
-    request_of(alloc, &fields, list, symbol)
+    Ok(request_of(&fields, list, symbol))
 }
 
-fn snapshot_of(
-    alloc: Global,
-    fields: &[Field],
-    list: MarketDataEntries,
-) -> Result<MarketDataSnapshot, AllocError>
+fn snapshot_of(fields: &[Field], list: MarketDataEntries) -> MarketDataSnapshot
     requires { Holds (members 0 market_data_snapshot_rows) (entries fields.now) }
-    ensures { IfOk result (λ m. m ≡ record {
+    ensures { result ≡ record {
       request_id = bytes_at 262 (entries fields.now);
       symbol = bytes_at 55 (entries fields.now);
       entries = list;
-    }) }
+    } }
 {
-    Ok(MarketDataSnapshot {
-        request_id: identifier(alloc, fields, 262)?,
-        symbol: identifier(alloc, fields, 55)?,
+    MarketDataSnapshot {
+        request_id: identifier(fields, 262),
+        symbol: identifier(fields, 55),
         entries: list,
-    })
+    }
 }
 
 pub(crate) fn market_data_snapshot(
@@ -146,5 +130,5 @@ pub(crate) fn market_data_snapshot(
 {
     let fields = part(alloc, placed, 0)?;
     let list = MarketDataEntries::from_vec(market_data_entries(alloc, placed)?);
-    snapshot_of(alloc, &fields, list)
+    Ok(snapshot_of(&fields, list))
 }

@@ -12,7 +12,7 @@ use sef_moment::Moment;
 use std::marker::Model;
 
 /// The header, which each message has.
-#[derive(Drop)]
+#[derive(Clone, Copy, Drop)]
 pub struct Header {
     /// 49
     pub sender: Identifier,
@@ -75,14 +75,14 @@ impl Header {
 }
 
 /// Message type `0`.
-#[derive(Drop)]
+#[derive(Clone, Copy, Drop)]
 pub struct Heartbeat {
     /// 112
     pub test_id: Option<Identifier>,
 }
 
 /// Message type `1`.
-#[derive(Drop)]
+#[derive(Clone, Copy, Drop)]
 pub struct TestRequest {
     /// 112
     pub test_id: Identifier,
@@ -149,7 +149,7 @@ pub struct Reject {
 }
 
 /// Message type `4`.
-#[derive(Drop)]
+#[derive(Clone, Copy, Drop)]
 pub struct SequenceReset {
     /// 123
     pub gap_fill: Option<bool>,
@@ -165,7 +165,7 @@ pub struct Logout {
 }
 
 /// Message type `A`. Its 98 is always 0 and its 1137 always 9.
-#[derive(Drop)]
+#[derive(Clone, Copy, Drop)]
 pub struct Logon {
     /// 108, in seconds
     pub heartbeat_interval: HeartbeatInterval,
@@ -174,7 +174,7 @@ pub struct Logon {
 }
 
 /// A party: its name (448), the source of the name (447) and its role (452).
-#[derive(Drop)]
+#[derive(Clone, Copy, Drop)]
 pub struct Party {
     pub id: Identifier,
     pub source: FixChar,
@@ -182,7 +182,7 @@ pub struct Party {
 }
 
 /// One entry of a market data snapshot: its type (269), price (270), size (271) and order (278).
-#[derive(Drop)]
+#[derive(Clone, Copy, Drop)]
 pub struct MarketDataEntry {
     pub entry_type: FixChar,
     pub price: Option<Price>,
@@ -191,7 +191,7 @@ pub struct MarketDataEntry {
 }
 
 /// One side of a cross: side (54), identifier (11) and quantity (38).
-#[derive(Drop)]
+#[derive(Clone, Copy, Drop)]
 pub struct CrossSide {
     pub side: Side,
     pub order_id: Identifier,
@@ -239,7 +239,7 @@ pub struct Quote {
 }
 
 /// Message type `Z`.
-#[derive(Drop)]
+#[derive(Clone, Copy, Drop)]
 pub struct QuoteCancel {
     /// 117
     pub quote_id: Option<Identifier>,
@@ -248,7 +248,7 @@ pub struct QuoteCancel {
 }
 
 /// Message type `AJ`.
-#[derive(Drop)]
+#[derive(Clone, Copy, Drop)]
 pub struct QuoteResponse {
     /// 693
     pub response_id: Identifier,
@@ -293,7 +293,7 @@ pub struct QuoteRequestReject {
 }
 
 /// Message type `D`.
-#[derive(Drop)]
+#[derive(Clone, Copy, Drop)]
 pub struct NewOrderSingle {
     /// 11
     pub order_id: Identifier,
@@ -316,7 +316,7 @@ pub struct NewOrderSingle {
 }
 
 /// Message type `F`.
-#[derive(Drop)]
+#[derive(Clone, Copy, Drop)]
 pub struct OrderCancelRequest {
     /// 11
     pub order_id: Identifier,
@@ -325,7 +325,7 @@ pub struct OrderCancelRequest {
 }
 
 /// Message type `G`.
-#[derive(Drop)]
+#[derive(Clone, Copy, Drop)]
 pub struct OrderCancelReplaceRequest {
     /// 11
     pub order_id: Identifier,
@@ -340,7 +340,7 @@ pub struct OrderCancelReplaceRequest {
 }
 
 /// Message type `s`.
-#[derive(Drop)]
+#[derive(Clone, Copy, Drop)]
 pub struct NewOrderCross {
     /// 548
     pub cross_id: Identifier,

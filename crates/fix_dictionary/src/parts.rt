@@ -20,38 +20,38 @@ use crate::reading::{
 use fix_fields::Field;
 use std::alloc::{AllocError, Global};
 
-pub(crate) fn header(alloc: Global, fields: &[Field]) -> Result<Header, AllocError>
+pub(crate) fn header(fields: &[Field]) -> Header
     requires { Holds header_rows (entries fields.now) }
-    ensures { IfOk result (λ m. m ≡ header (entries fields.now)) }
+    ensures { result ≡ header (entries fields.now) }
 {
-    Ok(Header {
-        sender: identifier(alloc, fields, 49)?,
-        target: identifier(alloc, fields, 56)?,
+    Header {
+        sender: identifier(fields, 49),
+        target: identifier(fields, 56),
         number: sequence_number(fields, 34),
         sending_time: moment(fields, 52),
         possible_duplicate: optional_flag(fields, 43),
         possible_resend: optional_flag(fields, 97),
         original_sending_time: optional_moment(fields, 122),
-        application_version: optional_identifier(alloc, fields, 1128)?,
-    })
+        application_version: optional_identifier(fields, 1128),
+    }
 }
 
-pub(crate) fn heartbeat(alloc: Global, fields: &[Field]) -> Result<Heartbeat, AllocError>
+pub(crate) fn heartbeat(fields: &[Field]) -> Heartbeat
     requires { Holds heartbeat_rows (entries fields.now) }
-    ensures { IfOk result (λ m. m ≡ heartbeat (entries fields.now)) }
+    ensures { result ≡ heartbeat (entries fields.now) }
 {
-    Ok(Heartbeat {
-        test_id: optional_identifier(alloc, fields, 112)?,
-    })
+    Heartbeat {
+        test_id: optional_identifier(fields, 112),
+    }
 }
 
-pub(crate) fn test_request(alloc: Global, fields: &[Field]) -> Result<TestRequest, AllocError>
+pub(crate) fn test_request(fields: &[Field]) -> TestRequest
     requires { Holds test_request_rows (entries fields.now) }
-    ensures { IfOk result (λ m. m ≡ test_request (entries fields.now)) }
+    ensures { result ≡ test_request (entries fields.now) }
 {
-    Ok(TestRequest {
-        test_id: identifier(alloc, fields, 112)?,
-    })
+    TestRequest {
+        test_id: identifier(fields, 112),
+    }
 }
 
 pub(crate) fn resend_request(begin: u32, fields: &[Field]) -> ResendRequest
@@ -69,7 +69,7 @@ pub(crate) fn reject(alloc: Global, fields: &[Field]) -> Result<Reject, AllocErr
     Ok(Reject {
         reference_number: number(fields, 45),
         reference_tag: optional_number(fields, 371),
-        reference_type: optional_identifier(alloc, fields, 372)?,
+        reference_type: optional_identifier(fields, 372),
         reason: optional_number(fields, 373),
         text: optional_text(alloc, fields, 58)?,
     })
@@ -104,26 +104,26 @@ pub(crate) fn logon(fields: &[Field]) -> Logon
     }
 }
 
-pub(crate) fn quote_cancel(alloc: Global, fields: &[Field]) -> Result<QuoteCancel, AllocError>
+pub(crate) fn quote_cancel(fields: &[Field]) -> QuoteCancel
     requires { Holds quote_cancel_rows (entries fields.now) }
-    ensures { IfOk result (λ m. m ≡ quote_cancel (entries fields.now)) }
+    ensures { result ≡ quote_cancel (entries fields.now) }
 {
-    Ok(QuoteCancel {
-        quote_id: optional_identifier(alloc, fields, 117)?,
+    QuoteCancel {
+        quote_id: optional_identifier(fields, 117),
         cancel_type: number(fields, 298),
-    })
+    }
 }
 
-pub(crate) fn quote_response(alloc: Global, fields: &[Field]) -> Result<QuoteResponse, AllocError>
+pub(crate) fn quote_response(fields: &[Field]) -> QuoteResponse
     requires { Holds quote_response_rows (entries fields.now) }
-    ensures { IfOk result (λ m. m ≡ quote_response (entries fields.now)) }
+    ensures { result ≡ quote_response (entries fields.now) }
 {
-    Ok(QuoteResponse {
-        response_id: identifier(alloc, fields, 693)?,
-        quote_id: identifier(alloc, fields, 117)?,
+    QuoteResponse {
+        response_id: identifier(fields, 693),
+        quote_id: identifier(fields, 117),
         response_type: number(fields, 694),
         side: optional_side(fields, 54),
-    })
+    }
 }
 
 pub(crate) fn quote_status_report(
@@ -134,63 +134,54 @@ pub(crate) fn quote_status_report(
     ensures { IfOk result (λ m. m ≡ quote_status_report (entries fields.now)) }
 {
     Ok(QuoteStatusReport {
-        quote_id: optional_identifier(alloc, fields, 117)?,
-        request_id: optional_identifier(alloc, fields, 131)?,
-        response_id: optional_identifier(alloc, fields, 693)?,
-        symbol: optional_identifier(alloc, fields, 55)?,
+        quote_id: optional_identifier(fields, 117),
+        request_id: optional_identifier(fields, 131),
+        response_id: optional_identifier(fields, 693),
+        symbol: optional_identifier(fields, 55),
         status: number(fields, 297),
         reject_reason: optional_number(fields, 300),
         text: optional_text(alloc, fields, 58)?,
     })
 }
 
-pub(crate) fn new_order_single(
-    alloc: Global,
-    fields: &[Field],
-) -> Result<NewOrderSingle, AllocError>
+pub(crate) fn new_order_single(fields: &[Field]) -> NewOrderSingle
     requires { Holds new_order_single_rows (entries fields.now) }
-    ensures { IfOk result (λ m. m ≡ new_order_single (entries fields.now)) }
+    ensures { result ≡ new_order_single (entries fields.now) }
 {
-    Ok(NewOrderSingle {
-        order_id: identifier(alloc, fields, 11)?,
-        link_id: optional_identifier(alloc, fields, 583)?,
-        symbol: identifier(alloc, fields, 55)?,
+    NewOrderSingle {
+        order_id: identifier(fields, 11),
+        link_id: optional_identifier(fields, 583),
+        symbol: identifier(fields, 55),
         side: side(fields, 54),
         quantity: quantity(fields, 38),
         order_type: character(fields, 40),
         price: optional_price(fields, 44),
         time_in_force: optional_character(fields, 59),
         transact_time: optional_moment(fields, 60),
-    })
+    }
 }
 
-pub(crate) fn order_cancel_request(
-    alloc: Global,
-    fields: &[Field],
-) -> Result<OrderCancelRequest, AllocError>
+pub(crate) fn order_cancel_request(fields: &[Field]) -> OrderCancelRequest
     requires { Holds order_cancel_request_rows (entries fields.now) }
-    ensures { IfOk result (λ m. m ≡ order_cancel_request (entries fields.now)) }
+    ensures { result ≡ order_cancel_request (entries fields.now) }
 {
-    Ok(OrderCancelRequest {
-        order_id: identifier(alloc, fields, 11)?,
-        original_id: identifier(alloc, fields, 41)?,
-    })
+    OrderCancelRequest {
+        order_id: identifier(fields, 11),
+        original_id: identifier(fields, 41),
+    }
 }
 
-pub(crate) fn order_cancel_replace_request(
-    alloc: Global,
-    fields: &[Field],
-) -> Result<OrderCancelReplaceRequest, AllocError>
+pub(crate) fn order_cancel_replace_request(fields: &[Field]) -> OrderCancelReplaceRequest
     requires { Holds order_cancel_replace_request_rows (entries fields.now) }
-    ensures { IfOk result (λ m. m ≡ order_cancel_replace_request (entries fields.now)) }
+    ensures { result ≡ order_cancel_replace_request (entries fields.now) }
 {
-    Ok(OrderCancelReplaceRequest {
-        order_id: identifier(alloc, fields, 11)?,
-        original_id: identifier(alloc, fields, 41)?,
+    OrderCancelReplaceRequest {
+        order_id: identifier(fields, 11),
+        original_id: identifier(fields, 41),
         quantity: quantity(fields, 38),
         order_type: character(fields, 40),
         price: optional_price(fields, 44),
-    })
+    }
 }
 
 pub(crate) fn execution_report(
@@ -201,21 +192,21 @@ pub(crate) fn execution_report(
     ensures { IfOk result (λ m. m ≡ execution_report (entries fields.now)) }
 {
     Ok(ExecutionReport {
-        venue_order_id: identifier(alloc, fields, 37)?,
-        execution_id: identifier(alloc, fields, 17)?,
+        venue_order_id: identifier(fields, 37),
+        execution_id: identifier(fields, 17),
         execution_type: character(fields, 150),
         order_status: character(fields, 39),
-        symbol: identifier(alloc, fields, 55)?,
+        symbol: identifier(fields, 55),
         side: side(fields, 54),
         left: amount(fields, 151),
         filled: amount(fields, 14),
-        order_id: optional_identifier(alloc, fields, 11)?,
-        original_id: optional_identifier(alloc, fields, 41)?,
+        order_id: optional_identifier(fields, 11),
+        original_id: optional_identifier(fields, 41),
         last_price: optional_price(fields, 31),
         last_quantity: optional_quantity(fields, 32),
         reject_reason: optional_number(fields, 103),
-        trade_id: optional_identifier(alloc, fields, 880)?,
-        response_id: optional_identifier(alloc, fields, 693)?,
+        trade_id: optional_identifier(fields, 880),
+        response_id: optional_identifier(fields, 693),
         text: optional_text(alloc, fields, 58)?,
     })
 }
@@ -228,9 +219,9 @@ pub(crate) fn order_cancel_reject(
     ensures { IfOk result (λ m. m ≡ order_cancel_reject (entries fields.now)) }
 {
     Ok(OrderCancelReject {
-        venue_order_id: identifier(alloc, fields, 37)?,
-        order_id: identifier(alloc, fields, 11)?,
-        original_id: identifier(alloc, fields, 41)?,
+        venue_order_id: identifier(fields, 37),
+        order_id: identifier(fields, 11),
+        original_id: identifier(fields, 41),
         order_status: character(fields, 39),
         response_to: character(fields, 434),
         reject_reason: number(fields, 102),
@@ -246,7 +237,7 @@ pub(crate) fn market_data_request_reject(
     ensures { IfOk result (λ m. m ≡ market_data_request_reject (entries fields.now)) }
 {
     Ok(MarketDataRequestReject {
-        request_id: identifier(alloc, fields, 262)?,
+        request_id: identifier(fields, 262),
         reject_reason: character(fields, 281),
         text: optional_text(alloc, fields, 58)?,
     })
@@ -261,7 +252,7 @@ pub(crate) fn business_message_reject(
 {
     Ok(BusinessMessageReject {
         reference_number: number(fields, 45),
-        reference_type: identifier(alloc, fields, 372)?,
+        reference_type: identifier(fields, 372),
         reject_reason: number(fields, 380),
         text: optional_text(alloc, fields, 58)?,
     })

@@ -23,15 +23,15 @@ use crate::values::Identifier;
 use fix_fields::Field;
 use std::alloc::{AllocError, Global};
 
-fn party(alloc: Global, fields: &[Field]) -> Result<Party, AllocError>
+fn party(fields: &[Field]) -> Party
     requires { Holds party_rows (entries fields.now) }
-    ensures { IfOk result (λ m. m ≡ party (entries fields.now)) }
+    ensures { result ≡ party (entries fields.now) }
 {
-    Ok(Party {
-        id: identifier(alloc, fields, 448)?,
+    Party {
+        id: identifier(fields, 448),
         source: character(fields, 447),
         role: number(fields, 452),
-    })
+    }
 }
 
 fn party_list(alloc: Global, placed: &[Standing], place: usize) -> Result<Vec<Party>, AllocError>
@@ -42,7 +42,7 @@ fn party_list(alloc: Global, placed: &[Standing], place: usize) -> Result<Vec<Pa
     let mut list = Vec::new(alloc);
     for begin in begins.as_slice() {
         let fields = part(alloc, placed, *begin)?;
-        list.push(party(alloc, &fields)?)?;
+        list.push(party(&fields))?;
     }
     Ok(list)
 }
@@ -64,28 +64,23 @@ fn parties_of(
     }
 }
 
-fn asked(
-    alloc: Global,
-    fields: &[Field],
-    request_id: Identifier,
-    list: Parties,
-) -> Result<QuoteRequest, AllocError>
+fn asked(fields: &[Field], request_id: Identifier, list: Parties) -> QuoteRequest
     requires { Holds asked_rows (entries fields.now) }
-    ensures { IfOk result (λ m. m ≡ record {
+    ensures { result ≡ record {
       request_id = request_id;
       symbol = bytes_at 55 (entries fields.now);
       side = told side_in (value_of 54 (entries fields.now));
       quantity = quantity_in (bytes_at 38 (entries fields.now));
       parties = list;
-    }) }
+    } }
 {
-    Ok(QuoteRequest {
+    QuoteRequest {
         request_id,
-        symbol: identifier(alloc, fields, 55)?,
+        symbol: identifier(fields, 55),
         side: optional_side(fields, 54),
         quantity: quantity(fields, 38),
         parties: list,
-    })
+    }
 }
 
 // The identifier of a request.
@@ -94,7 +89,7 @@ fn request_id(alloc: Global, placed: &[Standing]) -> Result<Identifier, AllocErr
     ensures { IfOk result (λ id. id ≡ bytes_at 131 (part 0 (places placed.now))) }
 {
     let fields = part(alloc, placed, 0)?;
-    identifier(alloc, &fields, 131)
+    Ok(identifier(&fields, 131))
 }
 
 pub(crate) fn quote_request(alloc: Global, placed: &[Standing]) -> Result<QuoteRequest, AllocError>
@@ -105,12 +100,12 @@ pub(crate) fn quote_request(alloc: Global, placed: &[Standing]) -> Result<QuoteR
     let place = first_begin(placed, 55);
     let fields = part(alloc, placed, place)?;
     let list = Parties::from_vec(parties_of(alloc, placed, place, &fields)?);
-    asked(alloc, &fields, request_id, list)
+    Ok(asked(&fields, request_id, list))
 }
 
-fn quote_of(alloc: Global, fields: &[Field], list: Parties) -> Result<Quote, AllocError>
+fn quote_of(fields: &[Field], list: Parties) -> Quote
     requires { Holds (members 0 quote_rows) (entries fields.now) }
-    ensures { IfOk result (λ m. m ≡ record {
+    ensures { result ≡ record {
       quote_id = bytes_at 117 (entries fields.now);
       request_id = bytes_at 131 (entries fields.now);
       quote_type = told character_in (value_of 537 (entries fields.now));
@@ -121,20 +116,20 @@ fn quote_of(alloc: Global, fields: &[Field], list: Parties) -> Result<Quote, All
       bid_size = told quantity_in (value_of 134 (entries fields.now));
       offer_size = told quantity_in (value_of 135 (entries fields.now));
       valid_until = told moment_of (value_of 62 (entries fields.now));
-    }) }
+    } }
 {
-    Ok(Quote {
-        quote_id: identifier(alloc, fields, 117)?,
-        request_id: identifier(alloc, fields, 131)?,
+    Quote {
+        quote_id: identifier(fields, 117),
+        request_id: identifier(fields, 131),
         quote_type: optional_character(fields, 537),
         parties: list,
-        symbol: identifier(alloc, fields, 55)?,
+        symbol: identifier(fields, 55),
         bid_price: optional_price(fields, 132),
         offer_price: optional_price(fields, 133),
         bid_size: optional_quantity(fields, 134),
         offer_size: optional_quantity(fields, 135),
         valid_until: optional_moment(fields, 62),
-    })
+    }
 }
 
 pub(crate) fn quote(alloc: Global, placed: &[Standing]) -> Result<Quote, AllocError>
@@ -143,7 +138,7 @@ pub(crate) fn quote(alloc: Global, placed: &[Standing]) -> Result<Quote, AllocEr
 {
     let fields = part(alloc, placed, 0)?;
     let list = Parties::from_vec(parties_of(alloc, placed, 0, &fields)?);
-    quote_of(alloc, &fields, list)
+    Ok(quote_of(&fields, list))
 }
 
 fn reject_of(
@@ -160,7 +155,7 @@ fn reject_of(
     }) }
 {
     Ok(QuoteRequestReject {
-        request_id: identifier(alloc, fields, 131)?,
+        request_id: identifier(fields, 131),
         reject_reason: number(fields, 658),
         symbol,
         text: optional_text(alloc, fields, 58)?,

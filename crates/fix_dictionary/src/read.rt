@@ -5,7 +5,7 @@ ghost use Rattle.fix_dictionary.specs.Tables.{header_rows, rows_of};
 ghost use Rattle.fix_dictionary.specs.Holding.{Holds};
 ghost use Rattle.fix_dictionary.specs.GroupHolding.{Clean};
 ghost use Rattle.fix_dictionary.specs.Places.{places};
-ghost use Rattle.fix_dictionary.specs.Kinds.{type_of, is_grouped};
+ghost use Rattle.fix_dictionary.specs.Kinds.{type_of, is_grouped, is_session};
 ghost use Rattle.fix_dictionary.specs.Faults.{first_fault};
 ghost use Rattle.fix_dictionary.specs.Told.{bytes_at};
 ghost use Rattle.fix_dictionary.specs.Values.{IsText};
@@ -14,7 +14,7 @@ ghost use Rattle.fix_dictionary.specs.Applications.{IsApp, plain_header, app_fau
 ghost use Rattle.fix_fields.specs.Views.{entries};
 ghost use Rattle.fix_dictionary.specs.declared.messages.Message.{Message};
 ghost use Rattle.fix_dictionary.specs.declared.messages.App.{App};
-ghost use Rattle.fix_dictionary.specs.Fits.{FitsMessage, FitsBody, is_read};
+ghost use Rattle.fix_dictionary.specs.Fits.{FitsMessage, FitsBody};
 ghost use Rattle.fix_dictionary.specs.Text.{fields_of, message_slots, message_text, app_text};
 
 use crate::faults::{DictFault, first_fault};
@@ -30,6 +30,71 @@ use crate::{cross_parts, group_parts, parts, quote_parts};
 use fix_fields::{Field, Fields};
 use std::alloc::{AllocError, Global};
 
+// What a message of the session says behind its header.
+fn admin_in(
+    alloc: Global,
+    kind: MessageType,
+    begin: u32,
+    fields: &[Field],
+) -> Result<Admin, AllocError>
+    requires holds { Holds (rows_of kind begin) (entries fields.now) }
+    requires session { is_session kind ≡ true }
+    requires begin { begin ≡ begin_in (entries fields.now) }
+    ensures { IfOk result (λ m. Body.Admin m ≡ body_in kind (entries fields.now)) }
+{
+    Ok(match kind {
+        MessageType::Heartbeat => Admin::Heartbeat(parts::heartbeat(fields)),
+        MessageType::TestRequest => Admin::TestRequest(parts::test_request(fields)),
+        MessageType::ResendRequest => Admin::ResendRequest(parts::resend_request(begin, fields)),
+        MessageType::Reject => Admin::Reject(parts::reject(alloc, fields)?),
+        MessageType::SequenceReset => Admin::SequenceReset(parts::sequence_reset(fields)),
+        MessageType::Logout => Admin::Logout(parts::logout(alloc, fields)?),
+        MessageType::Logon => Admin::Logon(parts::logon(fields)),
+        _ => unreachable!(),
+    })
+}
+
+// What a message of the venue without groups says behind its header.
+fn flat_app(alloc: Global, kind: MessageType, fields: &[Field]) -> Result<App, AllocError>
+    requires holds { Holds (rows_of kind 0) (entries fields.now) }
+    requires flat { is_grouped kind ≡ false }
+    requires venue { is_session kind ≡ false }
+    requires kind { kind ≡ type_in (entries fields.now) }
+    requires text { IsText 64 (bytes_at 35 (entries fields.now)) }
+    ensures { IfOk result (λ m. Body.App m ≡ body_in kind (entries fields.now)) }
+{
+    Ok(match kind {
+        MessageType::QuoteCancel => App::QuoteCancel(parts::quote_cancel(fields)),
+        MessageType::QuoteResponse => App::QuoteResponse(parts::quote_response(fields)),
+        MessageType::QuoteStatusReport => {
+            App::QuoteStatusReport(parts::quote_status_report(alloc, fields)?)
+        }
+        MessageType::NewOrderSingle => App::NewOrderSingle(parts::new_order_single(fields)),
+        MessageType::OrderCancelRequest => {
+            App::OrderCancelRequest(parts::order_cancel_request(fields))
+        }
+        MessageType::OrderCancelReplaceRequest => {
+            App::OrderCancelReplaceRequest(parts::order_cancel_replace_request(fields))
+        }
+        MessageType::ExecutionReport => {
+            App::ExecutionReport(parts::execution_report(alloc, fields)?)
+        }
+        MessageType::OrderCancelReject => {
+            App::OrderCancelReject(parts::order_cancel_reject(alloc, fields)?)
+        }
+        MessageType::MarketDataRequestReject => {
+            App::MarketDataRequestReject(parts::market_data_request_reject(alloc, fields)?)
+        }
+        MessageType::BusinessMessageReject => {
+            App::BusinessMessageReject(parts::business_message_reject(alloc, fields)?)
+        }
+        MessageType::Unsupported => {
+            App::Unsupported(OtherKind::from_slice(bytes_at(fields, 35)))
+        }
+        _ => unreachable!(),
+    })
+}
+
 fn body_in(
     alloc: Global,
     kind: MessageType,
@@ -43,61 +108,11 @@ fn body_in(
     requires text { IsText 64 (bytes_at 35 (entries fields.now)) }
     ensures { IfOk result (λ b. b ≡ body_in kind (entries fields.now)) }
 {
-    Ok(match kind {
-        MessageType::Heartbeat => Body::Admin(Admin::Heartbeat(parts::heartbeat(alloc, fields)?)),
-        MessageType::TestRequest => Body::Admin(Admin::TestRequest(parts::test_request(
-            alloc, fields,
-        )?)),
-        MessageType::ResendRequest => Body::Admin(Admin::ResendRequest(parts::resend_request(
-            begin, fields,
-        ))),
-        MessageType::Reject => Body::Admin(Admin::Reject(parts::reject(alloc, fields)?)),
-        MessageType::SequenceReset => Body::Admin(Admin::SequenceReset(parts::sequence_reset(
-            fields,
-        ))),
-        MessageType::Logout => Body::Admin(Admin::Logout(parts::logout(alloc, fields)?)),
-        MessageType::Logon => Body::Admin(Admin::Logon(parts::logon(fields))),
-        MessageType::QuoteCancel => Body::App(App::QuoteCancel(parts::quote_cancel(
-            alloc, fields,
-        )?)),
-        MessageType::QuoteResponse => Body::App(App::QuoteResponse(parts::quote_response(
-            alloc, fields,
-        )?)),
-        MessageType::QuoteStatusReport => Body::App(App::QuoteStatusReport(
-            parts::quote_status_report(alloc, fields)?,
-        )),
-        MessageType::NewOrderSingle => Body::App(App::NewOrderSingle(parts::new_order_single(
-            alloc, fields,
-        )?)),
-        MessageType::OrderCancelRequest => Body::App(App::OrderCancelRequest(
-            parts::order_cancel_request(alloc, fields)?,
-        )),
-        MessageType::OrderCancelReplaceRequest => Body::App(App::OrderCancelReplaceRequest(
-            parts::order_cancel_replace_request(alloc, fields)?,
-        )),
-        MessageType::ExecutionReport => Body::App(App::ExecutionReport(parts::execution_report(
-            alloc, fields,
-        )?)),
-        MessageType::OrderCancelReject => Body::App(App::OrderCancelReject(
-            parts::order_cancel_reject(alloc, fields)?,
-        )),
-        MessageType::MarketDataRequestReject => Body::App(App::MarketDataRequestReject(
-            parts::market_data_request_reject(alloc, fields)?,
-        )),
-        MessageType::BusinessMessageReject => Body::App(App::BusinessMessageReject(
-            parts::business_message_reject(alloc, fields)?,
-        )),
-        MessageType::Unsupported => Body::App(App::Unsupported(OtherKind::from_slice(
-            alloc,
-            bytes_at(fields, 35),
-        )?)),
-        MessageType::QuoteRequest
-        | MessageType::Quote
-        | MessageType::QuoteRequestReject
-        | MessageType::NewOrderCross
-        | MessageType::MarketDataRequest
-        | MessageType::MarketDataSnapshot => unreachable!(),
-    })
+    if is_session(kind) {
+        Ok(Body::Admin(admin_in(alloc, kind, begin, fields)?))
+    } else {
+        Ok(Body::App(flat_app(alloc, kind, fields)?))
+    }
 }
 
 // What is behind the header of a message without groups.
@@ -129,7 +144,7 @@ fn message_in(
     ensures { IfOk result (λ m. m ≡ message_as kind (entries fields.now)) }
 {
     Ok(Message {
-        header: parts::header(alloc, fields)?,
+        header: parts::header(fields),
         body: flat_body(alloc, kind, begin, fields)?,
     })
 }
@@ -180,7 +195,7 @@ fn grouped_message(
 {
     let outside = part(alloc, placed, 0)?;
     Ok(Message {
-        header: parts::header(alloc, &outside)?,
+        header: parts::header(&outside),
         body: grouped_body(alloc, kind, fields, placed)?,
     })
 }
@@ -316,7 +331,7 @@ fn application(body: Body) -> App
 }
 
 /// The application message that fields without a header spell, as `print_app` writes them, or their first fault. The
-/// header's optional fields may stand there, and are left aside.
+/// header's optional fields may stand there, once and in their form, and are not kept.
 pub fn read_app(alloc: Global, fields: &Fields) -> Result<App, DictFault>
     ensures { MatchResult result (λ a. SpellsApp a fields.now) (IsFault (app_fault_in fields.now)) }
 {
@@ -335,16 +350,16 @@ pub fn read_app(alloc: Global, fields: &Fields) -> Result<App, DictFault>
 /// What is printed of a message are fields, and whatever fields the text has spell the message. So it is for the text of
 /// an application message without header.
 pub fn printed_is_read()
-    ensures fields { (m : Message) → is_read m.body ≡ true → FitsMessage m → AreFields (fields_of (message_slots m)) }
-    ensures message { (m : Message) (fields : List Entry) → is_read m.body ≡ true → FitsMessage m
+    ensures fields { (m : Message) → FitsMessage m → AreFields (fields_of (message_slots m)) }
+    ensures message { (m : Message) (fields : List Entry) → FitsMessage m
         → AreFields fields → message_text m ≡ fields_text fields → Spells m fields }
-    ensures app { (a : App) (fields : List Entry) → is_read (Body.App a) ≡ true → FitsBody (Body.App a)
+    ensures app { (a : App) (fields : List Entry) → FitsBody (Body.App a)
         → AreFields fields → app_text a ≡ fields_text fields → SpellsApp a fields }
 {}
 
 /// The text of a message has at most 65,536 bytes, as much as a frame's body may have.
 pub fn printed_is_short()
-    ensures { (m : Message) → is_read m.body ≡ true → FitsMessage m → length (message_text m) ≤ 65_536 }
+    ensures { (m : Message) → FitsMessage m → length (message_text m) ≤ 65_536 }
 {}
 
 /// Fields spell a message or have a first fault, and not both.

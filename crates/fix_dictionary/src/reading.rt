@@ -39,28 +39,20 @@ pub(crate) fn bytes_at<'a>(fields: &[Field<'a>], tag: u32) -> &'a [u8]
     }
 }
 
-pub(crate) fn identifier(
-    alloc: Global,
-    fields: &[Field],
-    tag: u32,
-) -> Result<Identifier, AllocError>
+pub(crate) fn identifier(fields: &[Field], tag: u32) -> Identifier
     requires { RowHolds (needs tag form.Identifier) (value_of tag (entries fields.now)) }
-    ensures { IfOk result (λ id. id ≡ bytes_at tag (entries fields.now)) }
+    ensures { result ≡ bytes_at tag (entries fields.now) }
 {
-    Identifier::from_slice(alloc, bytes_at(fields, tag))
+    Identifier::from_slice(bytes_at(fields, tag))
 }
 
-pub(crate) fn optional_identifier(
-    alloc: Global,
-    fields: &[Field],
-    tag: u32,
-) -> Result<Option<Identifier>, AllocError>
+pub(crate) fn optional_identifier(fields: &[Field], tag: u32) -> Option<Identifier>
     requires { RowHolds (takes tag form.Identifier) (value_of tag (entries fields.now)) }
-    ensures { IfOk result (λ id. id ≡ value_of tag (entries fields.now)) }
+    ensures { result ≡ value_of tag (entries fields.now) }
 {
     match value_of(fields, tag) {
-        Some(bytes) => Ok(Some(Identifier::from_slice(alloc, bytes)?)),
-        None => Ok(None),
+        Some(bytes) => Some(Identifier::from_slice(bytes)),
+        None => None,
     }
 }
 

@@ -1,57 +1,72 @@
 //! The values of single fields.
-ghost use Rattle.std.specs.Prelude.{◌≡◌, ℕ, IfOk, IsTrue, bytes_eq};
+ghost use Rattle.std.specs.Prelude.{◌≡◌, ◌≤◌, ℕ, length, IfOk, IsTrue, bytes_eq};
 ghost use Rattle.fix_dictionary.specs.Kinds.{IsOtherKind};
-ghost use Rattle.fix_dictionary.specs.Values.{IsText, is_graphic, IsFixInt, IsSequenceNumber, IsNewSequenceNumber, IsInterval, IsQuantity, IsAmount, IsPrice};
+ghost use Rattle.fix_dictionary.specs.Values.{IsText, in_room, is_graphic, IsFixInt, IsSequenceNumber, IsNewSequenceNumber, IsInterval, IsQuantity, IsAmount, IsPrice};
 
 use std::alloc::{AllocError, Global};
 use std::marker::Model;
 
-/// An identifier: 1 to 64 bytes, each from 32 to 126.
-#[derive(Drop)]
+/// An identifier: 1 to 64 bytes, each from 32 to 126. It lies in the value: nothing is allocated for it.
+#[derive(Clone, Copy, Drop)]
 pub struct Identifier {
-    bytes: Vec<u8>,
+    // The bytes, and 0 behind them.
+    room: [u8; 64],
+    len: u8,
 }
 
 impl Model for Identifier {
-    ghost use Rattle.std.specs.Prelude.{ℕ, List};
-    ghost use Rattle.fix_dictionary.specs.Values.{IsText};
+    ghost use Rattle.std.specs.Prelude.{ℕ, List, ◌≡◌, length, take};
+    ghost use Rattle.fix_dictionary.specs.Values.{IsText, in_room};
 
     ghost Value = { List ℕ };
 
-    ghost view = { λ a. a.bytes.items };
+    ghost view = { λ a. take a.len a.room };
 
-    ghost invariant = { λ a. IsText 64 a.bytes.items };
+    ghost invariant = { λ a. IsText 64 (take a.len a.room) × (a.len ≡ length (take a.len a.room)) × (a.room ≡ in_room (take a.len a.room)) };
+
+    ghost inverse = { λ bytes. record { room = in_room bytes; len = length bytes } };
+
+    ghost use Rattle.std.proofs.Common.{refl};
+
+    ghost inverse_ok = { λ a h. rw (← h.2) (rw (← h.1) refl) };
+}
+
+// The bytes, and 0 behind them.
+#[tactic(auto, using(crate::proofs::ValueLemmas::room_behind))]
+fn in_room(bytes: &[u8]) -> [u8; 64]
+    requires { length bytes.now ≤ 64 }
+    ensures { result ≡ in_room bytes.now }
+{
+    let mut room = [0; 64];
+    room[..bytes.len()].copy_from_slice(bytes);
+    room
 }
 
 impl Identifier {
     /// The identifier with these bytes.
-    pub fn from_slice(alloc: Global, bytes: &[u8]) -> Result<Identifier, AllocError>
+    #[tactic(auto, using(crate::proofs::ValueLemmas::room_in_front))]
+    pub fn from_slice(bytes: &[u8]) -> Identifier
         requires { IsText 64 bytes.now }
-        ensures { IfOk result (λ id. id ≡ bytes.now) }
+        ensures { result ≡ bytes.now }
     {
-        let bytes = Vec::from_slice(alloc, bytes)?;
-        Ok(Identifier { bytes })
+        Identifier {
+            room: in_room(bytes),
+            len: bytes.len() as u8,
+        }
     }
 
     pub fn as_slice(&self) -> &[u8]
         ensures value { result.now ≡ self.now }
         ensures range { IsText 64 result.now }
     {
-        &self.bytes
+        &self.room[..usize::from(self.len)]
     }
 
     /// Whether the other has the same bytes.
     pub fn is(&self, other: &Identifier) -> bool
         ensures { result ≡ bytes_eq self.now other.now }
     {
-        self.bytes.as_slice() == other.bytes.as_slice()
-    }
-
-    /// The same again.
-    pub fn copy(&self, alloc: Global) -> Result<Identifier, AllocError>
-        ensures { IfOk result (λ copy. copy ≡ self.now) }
-    {
-        Identifier::from_slice(alloc, &self.bytes)
+        self.as_slice() == other.as_slice()
     }
 }
 
@@ -385,9 +400,9 @@ pub enum Side {
 }
 
 /// A message type that is none of the venue or of the session.
-#[derive(Drop)]
+#[derive(Clone, Copy, Drop)]
 pub struct OtherKind {
-    bytes: Vec<u8>,
+    kind: Identifier,
 }
 
 impl Model for OtherKind {
@@ -396,32 +411,28 @@ impl Model for OtherKind {
 
     ghost Value = { List ℕ };
 
-    ghost view = { λ a. a.bytes.items };
+    ghost view = { λ a. a.kind };
 
-    ghost invariant = { λ a. IsOtherKind a.bytes.items };
+    ghost invariant = { λ a. IsOtherKind a.kind };
+
+    ghost inverse = { λ kind. record { kind = kind } };
 }
 
 impl OtherKind {
     /// The type with this text.
-    pub fn from_slice(alloc: Global, bytes: &[u8]) -> Result<OtherKind, AllocError>
+    pub fn from_slice(bytes: &[u8]) -> OtherKind
         requires { IsOtherKind bytes.now }
-        ensures { IfOk result (λ kind. kind ≡ bytes.now) }
+        ensures { result ≡ bytes.now }
     {
-        let bytes = Vec::from_slice(alloc, bytes)?;
-        Ok(OtherKind { bytes })
+        OtherKind {
+            kind: Identifier::from_slice(bytes),
+        }
     }
 
     pub fn as_slice(&self) -> &[u8]
         ensures value { result.now ≡ self.now }
         ensures range { IsOtherKind result.now }
     {
-        &self.bytes
-    }
-
-    /// The same again.
-    pub fn copy(&self, alloc: Global) -> Result<OtherKind, AllocError>
-        ensures { IfOk result (λ copy. copy ≡ self.now) }
-    {
-        OtherKind::from_slice(alloc, &self.bytes)
+        self.kind.as_slice()
     }
 }

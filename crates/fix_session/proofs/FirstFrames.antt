@@ -1,5 +1,5 @@
 -- On each connection, what was heard are the first frames of its bytes.
-use Rattle.std.proofs.Common.{◌≡◌, ℕ, ◌+◌, ◌-◌, ◌<◌, ◌≤◌, ◌⊎◌, List, [], ◌∷◌, ◌++◌, length, drop, Bool, true, false, Option, Some, None, refl, sym, ap, ◌∙◌, subst, cond, max, ⊎_elim, arith, append_assoc, append-nil, length-drop}
+use Rattle.std.proofs.Common.{◌≡◌, ℕ, ◌+◌, ◌-◌, ◌<◌, ◌≤◌, List, [], ◌∷◌, ◌++◌, length, drop, Bool, true, false, Option, Some, None, refl, sym, ap, ◌∙◌, subst, cond, max, ⊎_elim, arith, append_assoc, append-nil, length-drop}
 use Rattle.std.specs.Prelude.{nat_lt}
 use Rattle.std.proofs.lemmas.Bool.{cases_lt}
 use Rattle.std.proofs.lemmas.List.{drop-append-le, drop-drop}
@@ -20,7 +20,7 @@ use Rattle.fix_session.specs.Heard.{Heard}
 use Rattle.fix_session.specs.State.{State}
 use Rattle.fix_session.specs.Table.{plan_of, dropped, are_spent, last_number}
 use Rattle.fix_session.specs.Ticks.{asked_at}
-use Rattle.fix_session.specs.Machine.{step_on, planned, tick, tick_by, dropped_line, sends_now, moved}
+use Rattle.fix_session.specs.Machine.{step_on, planned, tick_by, sends_now, moved}
 use Rattle.fix_session.specs.Runs.{Event, Push, Step_at, Tick_at, Break, Resume, Send, Pop, Unpop, Take_wire, History, begin, happens, run, heard_body, popped, AreFirst}
 use Rattle.fix_session.proofs.Rows.{if_either}
 

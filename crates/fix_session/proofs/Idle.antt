@@ -1,5 +1,5 @@
 -- A step answers Idle only where no frame is unread or the line is down.
-use Rattle.std.proofs.Common.{◌≡◌, ℕ, List, [], ◌∷◌, Bool, true, false, Option, Some, None, refl, inl, inr}
+use Rattle.std.proofs.Common.{◌≡◌, ℕ, List, Bool, true, false, Option, Some, None, refl, inl, inr}
 use Rattle.std.specs.Prelude.{max, nat_lt, nat_le, if◌then◌else◌}
 use Rattle.fix_session.specs.declared.frame.Frame.{Frame}
 use Rattle.fix_session.specs.declared.frame.Content.{Content}
@@ -15,7 +15,7 @@ use Rattle.fix_session.specs.declared.plan.Step.{Step}
 use Rattle.fix_session.specs.declared.plan.Step.TheVariants.{Idle, Did, App, Dropped}
 use Rattle.fix_session.specs.Chain.{counts, asks, place_of}
 use Rattle.fix_session.specs.State.{State}
-use Rattle.fix_session.specs.Table.{affordable, stranger, stands, before_logon, after_logon, of_peer, wrong_comp, reset, reset_by_place, below, above, ahead, in_order, gap_filled, by_place, from_peer, logon, plan_of, are_spent}
+use Rattle.fix_session.specs.Table.{affordable, stranger, stands, before_logon, after_logon, of_peer, wrong_comp, reset, reset_by_place, below, above, ahead, in_order, by_place, from_peer, logon, plan_of, are_spent}
 use Rattle.fix_session.specs.Reader.{Reader}
 use Rattle.fix_session.specs.Body.{frame_in}
 use Rattle.fix_session.specs.Machine.{step, step_on, moved, AtEnd}

@@ -1,12 +1,11 @@
 -- What a reader gives is what the code finds.
-use Rattle.std.proofs.Common.{zero, suc, length-take, ◌≡◌, ◌≢◌, ℕ, ◌+◌, ◌<◌, ◌≤◌, List, [], ◌∷◌, ◌++◌, Bool, true, false, length, take, drop, Option, None, Some, Result, Ok, Err, refl, sym, ap, ◌∙◌, subst, arith, cond, ◌⊎◌, inl, inr, ⊎_elim, append-nil}
-use Rattle.std.specs.Prelude.{IfSome, slice_range, MatchResult, ◌&&◌, nat_le, if◌then◌else◌}
+use Rattle.std.proofs.Common.{zero, suc, length-take, ◌≡◌, ◌≢◌, ℕ, ◌<◌, ◌≤◌, List, [], ◌∷◌, ◌++◌, Bool, true, false, length, take, drop, Option, None, Some, Result, Ok, Err, refl, sym, ap, ◌∙◌, subst, arith, cond, ◌⊎◌, ⊎_elim, append-nil}
+use Rattle.std.specs.Prelude.{IfSome, slice_range}
 use Rattle.std.proofs.lemmas.Bool.Decides.{nat_tests}
 use Rattle.fix_frame.specs.Stream.{Begins, IsOpen, IsClosed, Passes, IsNext, HasOneNext}
 use Rattle.fix_fields.specs.Fields.{Entry, AreFields, fields_text}
 use Rattle.fix_fields.specs.Faults.{BodyFault}
 use Rattle.fix_fields.specs.Forms.{within, integer_in}
-use Rattle.fix_fields.specs.declared.value.ValueFault.{ValueFault}
 use Rattle.fix_fields.specs.declared.value.ValueFault.TheVariants.{Format}
 use Rattle.fix_fields.specs.declared.fields.FieldFault.{FieldFault}
 use Rattle.fix_fields.specs.declared.fields.FieldFault.TheVariants.{NoMemory}

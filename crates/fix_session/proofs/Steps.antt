@@ -1,5 +1,5 @@
 -- What a step, and bytes that come, make of a state.
-use Rattle.std.proofs.Common.{◌≡◌, ℕ, List, ◌++◌, Bool, true, false, Option, Some, None, refl, max, cond}
+use Rattle.std.proofs.Common.{◌≡◌, ℕ, List, ◌++◌, true, false, Option, Some, None, refl, max}
 use Rattle.fix_session.specs.Reader.{Reader, TakesBody, settled}
 use Rattle.std.specs.Prelude.{IsSome, IfSome}
 use Rattle.std.proofs.Common.{sym, ◌∙◌}

@@ -3,7 +3,7 @@
 use fix_dictionary::Identifier;
 
 /// The CompIDs of both sides: ours (49 of what we write) and the counterparty's (56).
-#[derive(Drop)]
+#[derive(Clone, Copy, Drop)]
 pub struct CompIds {
     pub own: Identifier,
     pub peer: Identifier,

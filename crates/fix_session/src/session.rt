@@ -67,11 +67,12 @@ impl Session {
     pub fn new(alloc: Global, own: &Identifier, peer: &Identifier) -> Result<Session, AllocError>
         ensures { IfOk result (λ session. session.state ≡ fresh (record { own = own.now; peer = peer.now })) }
     {
-        let own = own.copy(alloc)?;
-        let peer = peer.copy(alloc)?;
         Ok(Session {
             alloc,
-            ids: CompIds { own, peer },
+            ids: CompIds {
+                own: *own,
+                peer: *peer,
+            },
             line: Line::new(),
             cutter: no_bytes(alloc),
             store: Store::new(alloc),

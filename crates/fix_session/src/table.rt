@@ -39,15 +39,6 @@ fn asks(reset: Option<bool>) -> bool
     matches!(reset, Some(true))
 }
 
-fn copied(flag: &Option<bool>) -> Option<bool>
-    ensures { result ≡ flag.now }
-{
-    match flag {
-        Some(flag) => Some(*flag),
-        None => None,
-    }
-}
-
 // A Logon with ResetSeqNumFlag counts only as the very first message of both sides.
 fn counts(reset: Option<bool>, due: NewSequenceNumber, entries: u32) -> bool
     ensures { result ≡ chain.counts reset due entries }
@@ -278,7 +269,7 @@ impl Line {
                 Place::Unnumbered => self.dropped(Why::NoNumber),
                 _ => {
                     if right {
-                        self.logon(entries, duplicate, *heartbeat, copied(reset), place)
+                        self.logon(entries, duplicate, *heartbeat, *reset, place)
                     } else {
                         self.dropped(Why::WrongComp)
                     }

@@ -53,8 +53,8 @@ pub(crate) fn change_refused(
 {
     let what = What::ChangeRefused(ChangeRefused {
         standing,
-        id: id.copy(alloc)?,
-        original_id: original_id.copy(alloc)?,
+        id: *id,
+        original_id: *original_id,
         kind,
         cause,
     });
@@ -65,64 +65,62 @@ pub(crate) fn change_refused(
 
 /// The report of a cancel of a resting order.
 fn cancel_reply(
-    alloc: Global,
     instruments: &Instruments,
     taken: &Taken,
     request: &OrderCancelRequest,
     order: Resting<'_>,
     report: u64,
-) -> Result<Reply, AllocError>
+) -> Reply
     requires { (seen order).entry.order.instrument < length instruments.now }
-    ensures { IfOk result (λ r. (m : Market) (h : History) → m.instruments ≡ instruments.now → report ≡ h.reports + 1 → r ∷ [] ≡ (cancelled m h (sender taken.now) request.now (seen order.entry)).replies) }
+    ensures { (m : Market) (h : History) → m.instruments ≡ instruments.now → report ≡ h.reports + 1 → result ∷ [] ≡ (cancelled m h (sender taken.now) request.now (seen order.entry)).replies }
 {
     let report = OrderReport {
         report,
         order: Some(order.entry.number),
-        symbol: symbol_of(alloc, instruments, order.entry.order.instrument)?,
+        symbol: symbol_of(instruments, order.entry.order.instrument),
         side: order.entry.order.side,
         left: Amount::new(0),
         filled: order.filled(),
-        id: request.order_id.copy(alloc)?,
+        id: request.order_id,
     };
     let what = What::OrderCancelled(ChangedReport {
         order: report,
-        original_id: request.original_id.copy(alloc)?,
+        original_id: request.original_id,
     });
-    Ok(Reply {
+    Reply {
         to: taken.from,
         what,
-    })
+    }
 }
 
 /// The report of a cancel of a held side, which has no number.
 fn drop_reply(
-    alloc: Global,
     instruments: &Instruments,
     taken: &Taken,
     request: &OrderCancelRequest,
     side: &HeldSide,
     report: u64,
-) -> Result<Reply, AllocError>
+) -> Reply
     requires { side.now.order.instrument < length instruments.now }
-    ensures { IfOk result (λ r. (m : Market) (h : History) → m.instruments ≡ instruments.now → report ≡ h.reports + 1 → r ∷ [] ≡ (held_cancelled m h (sender taken.now) request.now side.now).replies) }
+    ensures { (m : Market) (h : History) → m.instruments ≡ instruments.now → report ≡ h.reports + 1 → result ∷ [] ≡ (held_cancelled m h (sender taken.now) request.now side.now).replies }
 {
     let report = OrderReport {
         report,
         order: None,
-        symbol: symbol_of(alloc, instruments, side.order.instrument)?,
+        symbol: symbol_of(instruments, side.order.instrument),
         side: side.order.side,
         left: Amount::new(0),
         filled: Amount::new(0),
-        id: request.order_id.copy(alloc)?,
+        id: request.order_id,
     };
     let what = What::OrderCancelled(ChangedReport {
         order: report,
-        original_id: request.original_id.copy(alloc)?,
+        original_id: request.original_id,
     });
-    Ok(Reply {
+    Reply {
         to: taken.from,
         what,
-    })
+    }
 }
 
 /// The answer to a cancel that names no resting order: of a held side, or of what is not there.
@@ -152,7 +150,7 @@ fn plan_drop(
         let cause = ChangeRefusal::DuplicateClOrdId;
         return change_refused(alloc, taken, None, ChangeKind::Cancel, id, original, cause);
     }
-    let reply = drop_reply(alloc, instruments, taken, request, side, counts.reports + 1)?;
+    let reply = drop_reply(instruments, taken, request, side, counts.reports + 1);
     let replies = vec![in alloc; reply]?;
     let plan = held.plan_drop(who, original, Some(id))?;
     let nothing = FillPlan::nothing(alloc);
@@ -189,7 +187,7 @@ pub fn plan_cancel(
         return change_refused(alloc, taken, named, ChangeKind::Cancel, id, original, cause);
     }
     let report = counts.reports + 1;
-    let reply = cancel_reply(alloc, instruments, taken, request, order, report)?;
+    let reply = cancel_reply(instruments, taken, request, order, report);
     let replies = vec![in alloc; reply]?;
     let plan = book.plan_cancel(who, original, id)?;
     let nothing = HoldPlan::nothing(alloc);

@@ -49,9 +49,7 @@ pub fn enter(
         Err(refusal) => return Err(refusal),
     };
     let entry = plan.entered().unwrap();
-    let Ok(symbol) = symbol_of(alloc, instruments, order.instrument) else {
-        return Err(Refusal::NoMemory);
-    };
+    let symbol = symbol_of(instruments, order.instrument);
     let (trade, reports) = (counts.trades + 1, counts.reports);
     let Ok(replies) = entry_replies(alloc, &symbol, entry, plan.fills(), trade, reports) else {
         return Err(Refusal::NoMemory);

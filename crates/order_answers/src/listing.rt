@@ -1,10 +1,9 @@
 //! What the files say of an instrument.
-ghost use Rattle.std.specs.Prelude.{◌≡◌, ◌<◌, true, false, length, nat_lt, IfOk, MatchOption, Some};
+ghost use Rattle.std.specs.Prelude.{◌≡◌, ◌<◌, true, false, length, nat_lt, MatchOption, Some};
 ghost use Rattle.instruments.specs.Listing.{instrument_of, is_off_tick, is_unknown_instrument, least_of, symbol_of, tick_of};
 
 use fix_dictionary::{Identifier, Price, Quantity};
 use instruments::Instruments;
-use std::alloc::{AllocError, Global};
 use venue_rules::symbol_identifier;
 
 /// The instrument of a symbol, by its place in the file.
@@ -32,13 +31,9 @@ pub fn is_below_least(instruments: &Instruments, instrument: u32, quantity: Quan
 }
 
 /// The symbol of an instrument, as messages have it.
-pub fn symbol_of(
-    alloc: Global,
-    instruments: &Instruments,
-    instrument: u32,
-) -> Result<Identifier, AllocError>
+pub fn symbol_of(instruments: &Instruments, instrument: u32) -> Identifier
     requires { instrument < length instruments.now }
-    ensures { IfOk result (λ symbol. symbol ≡ symbol_of instruments.now instrument) }
+    ensures { result ≡ symbol_of instruments.now instrument }
 {
-    symbol_identifier(alloc, instruments.get(instrument).symbol.as_slice())
+    symbol_identifier(instruments.get(instrument).symbol.as_slice())
 }

@@ -17,7 +17,7 @@ use crate::listing::{instrument_of, is_below_least, is_off_tick};
 use crate::messages::unprocessed;
 use crate::used::is_used;
 use cross_delay::Held;
-use fix_dictionary::{Amount, FixChar, Identifier, NewOrderSingle, Price};
+use fix_dictionary::{Amount, FixChar, NewOrderSingle, Price};
 use instruments::Instruments;
 use participants::Participants;
 use price_book::{PriceBook, Refusal};
@@ -111,37 +111,27 @@ fn order_terms(
     Ok(Terms { instrument, price })
 }
 
-fn copied(alloc: Global, id: &Option<Identifier>) -> Result<Option<Identifier>, AllocError>
-    ensures { IfOk result (λ copy. copy ≡ id.now) }
-{
-    match id {
-        Some(id) => Ok(Some(id.copy(alloc)?)),
-        None => Ok(None),
-    }
-}
-
 /// The order that a message asks for.
 fn order_asked(
-    alloc: Global,
     participants: &Participants,
     instruments: &Instruments,
     who: Who,
     order: &NewOrderSingle,
     terms: Terms,
-) -> Result<OrderFact, AllocError>
+) -> OrderFact
     requires { IsTermsOf (market participants.now instruments.now) order.now terms }
-    ensures { IfOk result (λ o. o ≡ order_asked (market participants.now instruments.now) who order.now) }
+    ensures { result ≡ order_asked (market participants.now instruments.now) who order.now }
 {
-    Ok(OrderFact {
+    OrderFact {
         who,
-        id: order.order_id.copy(alloc)?,
-        link: copied(alloc, &order.link_id)?,
+        id: order.order_id,
+        link: order.link_id,
         instrument: terms.instrument,
         side: order.side,
         quantity: order.quantity,
         price: terms.price,
         life: life_of(order.time_in_force),
-    })
+    }
 }
 
 /// A report that refuses an order, of which the venue knows no number.
@@ -159,11 +149,11 @@ fn refused(
     let report = OrderReport {
         report: reports + 1,
         order: None,
-        symbol: order.symbol.copy(alloc)?,
+        symbol: order.symbol,
         side: order.side,
         left: Amount::new(0),
         filled: Amount::new(0),
-        id: order.order_id.copy(alloc)?,
+        id: order.order_id,
     };
     let what = What::OrderRefused(OrderRefused {
         order: report,
@@ -215,7 +205,7 @@ pub fn plan_order(
         Ok(terms) => terms,
         Err(cause) => return turned_away(alloc, taken, order, reports, cause),
     };
-    let asked = order_asked(alloc, participants, instruments, who, order, terms)?;
+    let asked = order_asked(participants, instruments, who, order, terms);
     match enter(
         alloc,
         participants,

@@ -53,8 +53,8 @@ fn shown(
 {
     let entries = book.picture(instrument)?;
     let what = What::Prices(Prices {
-        request_id: request.request_id.copy(alloc)?,
-        symbol: request.symbol.copy(alloc)?,
+        request_id: request.request_id,
+        symbol: request.symbol,
         entries: PictureEntries::from_vec(entries),
     });
     let to = taken.from;
@@ -72,7 +72,7 @@ fn refused(
     ensures quiet { IfOk result (λ a. (a.book ≡ []) × (a.delay ≡ [])) }
 {
     let what = What::PricesRefused(PricesRefused {
-        request_id: request.request_id.copy(alloc)?,
+        request_id: request.request_id,
         cause,
     });
     let to = taken.from;

@@ -170,7 +170,7 @@ fn replaced(
     ensures { IfOk result (λ a. MatchOption (slice_get (entries plan.facts) 0) ⊥ (λ e. a ≡ replaced_parts instruments.now counts taken.now.from request.now.original_id plan e)) }
 {
     let entry = plan.entered().unwrap();
-    let symbol = symbol_of(alloc, instruments, entry.order.instrument)?;
+    let symbol = symbol_of(instruments, entry.order.instrument);
     let (trade, reports) = (counts.trades + 1, counts.reports);
     let (to, original, fills) = (taken.from, &request.original_id, plan.fills());
     let replies = replaced_replies(alloc, to, original, &symbol, entry, fills, trade, reports)?;

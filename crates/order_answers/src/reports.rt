@@ -12,44 +12,38 @@ use venue_rules::{ChangedReport, Entry, FilledReport, Life, OrderReport, Reply, 
 
 /// What a report says of an order that enters.
 pub(crate) fn entry_report(
-    alloc: Global,
     symbol: &Identifier,
     entry: &Entry,
     left: Amount,
     filled: Amount,
     report: u64,
-) -> Result<OrderReport, AllocError>
-    ensures { IfOk result (λ r. r ≡ entry_report symbol.now entry.now left filled report) }
+) -> OrderReport
+    ensures { result ≡ entry_report symbol.now entry.now left filled report }
 {
-    Ok(OrderReport {
+    OrderReport {
         report,
         order: Some(entry.number),
-        symbol: symbol.copy(alloc)?,
+        symbol: *symbol,
         side: entry.order.side,
         left,
         filled,
-        id: entry.order.id.copy(alloc)?,
-    })
+        id: entry.order.id,
+    }
 }
 
 /// What a report says of a resting order that is filled.
-fn resting_report(
-    alloc: Global,
-    symbol: &Identifier,
-    fill: &FilledOrder,
-    report: u64,
-) -> Result<OrderReport, AllocError>
-    ensures { IfOk result (λ r. r ≡ resting_report symbol.now fill.now report) }
+fn resting_report(symbol: &Identifier, fill: &FilledOrder, report: u64) -> OrderReport
+    ensures { result ≡ resting_report symbol.now fill.now report }
 {
-    Ok(OrderReport {
+    OrderReport {
         report,
         order: Some(fill.number),
-        symbol: symbol.copy(alloc)?,
+        symbol: *symbol,
         side: fill.side,
         left: fill.left,
         filled: fill.filled,
-        id: fill.id.copy(alloc)?,
-    })
+        id: fill.id,
+    }
 }
 
 fn filled_what(order: OrderReport, fill: &FilledOrder, trade: u64) -> What
@@ -65,23 +59,23 @@ fn filled_what(order: OrderReport, fill: &FilledOrder, trade: u64) -> What
 
 /// The two reports of a fill: the entering order's, of which so much is filled with it, then the resting order's.
 fn fill_replies(
-    alloc: Global,
     symbol: &Identifier,
     entry: &Entry,
     fill: &FilledOrder,
     so_far: u64,
     trade: u64,
     report: u64,
-) -> Result<(Reply, Reply), AllocError>
+) -> (Reply, Reply)
     requires within { so_far ≤ entry.now.order.quantity }
     requires whole { entry.now.filled_before + entry.now.order.quantity ≤ 10 ^ 15 }
     requires number { report < 2 ^ 63 }
-    ensures { IfOk result (λ r. (r.0 ≡ filled_reply entry.now.order.who (entry_report symbol.now entry.now (entry.now.order.quantity - so_far) (entry.now.filled_before + so_far) report) fill.now trade) × (r.1 ≡ filled_reply fill.now.who (resting_report symbol.now fill.now (report + 1)) fill.now trade)) }
+    ensures entering { result.0 ≡ filled_reply entry.now.order.who (entry_report symbol.now entry.now (entry.now.order.quantity - so_far) (entry.now.filled_before + so_far) report) fill.now trade }
+    ensures resting { result.1 ≡ filled_reply fill.now.who (resting_report symbol.now fill.now (report + 1)) fill.now trade }
 {
     let left = Amount::new(entry.order.quantity.get() - so_far);
     let filled = Amount::new(entry.filled_before.get() + so_far);
-    let entering = entry_report(alloc, symbol, entry, left, filled, report)?;
-    let resting = resting_report(alloc, symbol, fill, report + 1)?;
+    let entering = entry_report(symbol, entry, left, filled, report);
+    let resting = resting_report(symbol, fill, report + 1);
     let first = Reply {
         to: entry.order.who,
         what: filled_what(entering, fill, trade),
@@ -90,7 +84,7 @@ fn fill_replies(
         to: fill.who,
         what: filled_what(resting, fill, trade),
     };
-    Ok((first, second))
+    (first, second)
 }
 
 /// Whether what is not filled at once may not rest.
@@ -122,7 +116,7 @@ pub(crate) fn add_fills(
     let mut so_far = 0u64;
     for fill in fills {
         so_far += fill.quantity.get();
-        let (first, second) = fill_replies(alloc, symbol, entry, fill, so_far, trade, report + 1)?;
+        let (first, second) = fill_replies(symbol, entry, fill, so_far, trade, report + 1);
         replies.push(first)?;
         replies.push(second)?;
         report += 2;
@@ -130,7 +124,7 @@ pub(crate) fn add_fills(
     }
     if may_not_rest(entry.order.life) && so_far < entry.order.quantity.get() {
         let filled = Amount::new(entry.filled_before.get() + so_far);
-        let rest = entry_report(alloc, symbol, entry, Amount::new(0), filled, report + 1)?;
+        let rest = entry_report(symbol, entry, Amount::new(0), filled, report + 1);
         replies.push(Reply {
             to: entry.order.who,
             what: What::OrderUnfilled(rest),
@@ -156,7 +150,7 @@ pub(crate) fn entry_replies(
     ensures few { IfOk result (λ v. length v.items ≤ 402) }
 {
     let left = Amount::new(entry.order.quantity.get());
-    let new = entry_report(alloc, symbol, entry, left, Amount::new(0), reports + 1)?;
+    let new = entry_report(symbol, entry, left, Amount::new(0), reports + 1);
     let mut replies = vec![in alloc;
         Reply {
             to: entry.order.who,
@@ -194,10 +188,10 @@ pub(crate) fn replaced_replies(
     ensures few { IfOk result (λ v. length v.items ≤ 402) }
 {
     let left = Amount::new(entry.order.quantity.get());
-    let order = entry_report(alloc, symbol, entry, left, entry.filled_before, reports + 1)?;
+    let order = entry_report(symbol, entry, left, entry.filled_before, reports + 1);
     let what = What::OrderReplaced(ChangedReport {
         order,
-        original_id: original_id.copy(alloc)?,
+        original_id: *original_id,
     });
     let mut replies = vec![in alloc; Reply { to, what }]?;
     add_fills(

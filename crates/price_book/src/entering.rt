@@ -9,7 +9,7 @@ ghost use Rattle.price_book.specs.Plans.{printed, entry_plan, IsEntryRefused, Is
 use crate::book::Refusal;
 use crate::fills::{fills, too_soon, unfilled};
 use crate::orders::is_day;
-use crate::plan::{FillPlan, copy_order, entry_facts, printed_fills};
+use crate::plan::{FillPlan, entry_facts, printed_fills};
 use crate::reading::{next_order, resting};
 use crate::resting::Fill;
 use fix_dictionary::Amount;
@@ -80,12 +80,9 @@ pub(crate) fn draft_entry(
     if is_full {
         return Err(Refusal::Full);
     }
-    let Ok(copy) = copy_order(alloc, order) else {
-        return Err(Refusal::NoMemory);
-    };
     let entry = Entry {
         number: next_order(facts),
-        order: copy,
+        order: *order,
         filled_before: Amount::new(0),
         moment,
     };

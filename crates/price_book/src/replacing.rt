@@ -9,7 +9,7 @@ use crate::book::Refusal;
 use crate::entering::plan_of;
 use crate::fills::{fills, too_soon};
 use crate::leaving::removed;
-use crate::plan::{FillPlan, copy_link};
+use crate::plan::FillPlan;
 use crate::reading::next_order;
 use crate::resting::Resting;
 use fix_dictionary::{Identifier, Price, Quantity};
@@ -21,27 +21,26 @@ use venue_rules::{Entry, Fact, Life, OrderFact};
 
 /// The order that takes the place of a resting one: of the new quantity without what is filled.
 pub(crate) fn replacing(
-    alloc: Global,
     order: Resting<'_>,
     id: &Identifier,
     quantity: Quantity,
     price: Price,
-) -> Result<OrderFact, AllocError>
+) -> OrderFact
     requires { filled (seen order) < quantity }
-    ensures order { IfOk result (λ o. o ≡ replacing (seen order.entry) id.now quantity price) }
-    ensures whole { IfOk result (λ o. filled (seen order.entry) + o.quantity ≤ 10 ^ 15) }
+    ensures order { result ≡ replacing (seen order.entry) id.now quantity price }
+    ensures whole { filled (seen order.entry) + result.quantity ≤ 10 ^ 15 }
 {
     let old = &order.entry.order;
-    Ok(OrderFact {
+    OrderFact {
         who: old.who,
-        id: id.copy(alloc)?,
-        link: copy_link(alloc, &old.link)?,
+        id: *id,
+        link: old.link,
         instrument: old.instrument,
         side: old.side,
         quantity: Quantity::new(quantity.get() - order.filled().get()),
         price,
         life: Life::Day,
-    })
+    }
 }
 
 /// The plan of a replacement, before room is made for it.
@@ -65,9 +64,7 @@ pub(crate) fn draft_replace(
     if let Some(number) = too_soon(participants, instruments, &new_order, moment, &fills) {
         return Err(Refusal::TooSoon(number));
     }
-    let Ok(fact) = removed(alloc, who, order, &new_order.id) else {
-        return Err(Refusal::NoMemory);
-    };
+    let fact = removed(who, order, &new_order.id);
     let entry = Entry {
         number: next_order(facts),
         order: new_order,

@@ -26,7 +26,7 @@ fn room(alloc: Global, end: Moment) -> Result<Room, AllocError> {
     Ok(Room {
         number: 1,
         requester: Who::of(0),
-        id: Identifier::from_slice(alloc, b"q1")?,
+        id: Identifier::from_slice(b"q1"),
         instrument: 0,
         side: None,
         quantity: Quantity::new(100),

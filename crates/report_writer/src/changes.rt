@@ -10,12 +10,12 @@ use fix_dictionary::{App, FixChar, Identifier, OrderCancelReject};
 use std::alloc::{AllocError, Global};
 use venue_rules::{ChangeKind, ChangeRefused, Standing};
 
-fn standing_id(alloc: Global, standing: &Option<Standing>) -> Result<Identifier, AllocError>
-    ensures { IfOk result (λ id. id ≡ standing_id standing.now) }
+fn standing_id(standing: &Option<Standing>) -> Identifier
+    ensures { result ≡ standing_id standing.now }
 {
     match standing {
-        Some(standing) => order_id_or_none(alloc, Some(standing.order)),
-        None => order_id_or_none(alloc, None),
+        Some(standing) => order_id_or_none(Some(standing.order)),
+        None => order_id_or_none(None),
     }
 }
 
@@ -43,9 +43,9 @@ pub(crate) fn change_refused(alloc: Global, r: &ChangeRefused) -> Result<App, Al
 {
     let why = change_reason(r.cause);
     Ok(App::OrderCancelReject(OrderCancelReject {
-        venue_order_id: standing_id(alloc, &r.standing)?,
-        order_id: r.id.copy(alloc)?,
-        original_id: r.original_id.copy(alloc)?,
+        venue_order_id: standing_id(&r.standing),
+        order_id: r.id,
+        original_id: r.original_id,
         order_status: standing_status(&r.standing),
         response_to: response_to(r.kind),
         reject_reason: why.number(),

@@ -4,34 +4,30 @@ ghost use Rattle.venue_rules.specs.declared.replies.What.TheVariants as what;
 ghost use Rattle.venue_rules.specs.Messages.{fill_status, message, open_status, refusal, report};
 ghost use Rattle.report_writer.specs.Reasons.{seen};
 
-use crate::identifiers::{copied, order_id_or_none, printed};
+use crate::identifiers::order_id_or_none;
 use crate::reason::Reason;
 use crate::reasons::{cross_reason, order_reason};
 use fix_dictionary::{Amount, App, ExecutionReport, FixChar};
 use std::alloc::{AllocError, Global};
 use venue_rules::{
     ChangedReport, CrossRefused, FilledReport, OrderRefused, OrderReport, RoomReport,
+    printed_identifier,
 };
 
 /// What every report on an order says, of this ExecType (150) and OrdStatus (39).
-fn report(
-    alloc: Global,
-    r: &OrderReport,
-    kind: FixChar,
-    status: FixChar,
-) -> Result<ExecutionReport, AllocError>
-    ensures { IfOk result (λ m. m ≡ report r.now kind status) }
+fn report(r: &OrderReport, kind: FixChar, status: FixChar) -> ExecutionReport
+    ensures { result ≡ report r.now kind status }
 {
-    Ok(ExecutionReport {
-        venue_order_id: order_id_or_none(alloc, r.order)?,
-        execution_id: printed(alloc, b'E', r.report)?,
+    ExecutionReport {
+        venue_order_id: order_id_or_none(r.order),
+        execution_id: printed_identifier(b'E', r.report),
         execution_type: kind,
         order_status: status,
-        symbol: r.symbol.copy(alloc)?,
+        symbol: r.symbol,
         side: r.side,
         left: r.left,
         filled: r.filled,
-        order_id: Some(r.id.copy(alloc)?),
+        order_id: Some(r.id),
         original_id: None,
         last_price: None,
         last_quantity: None,
@@ -39,13 +35,13 @@ fn report(
         trade_id: None,
         response_id: None,
         text: None,
-    })
+    }
 }
 
 fn refusal(alloc: Global, r: &OrderReport, why: Reason) -> Result<App, AllocError>
     ensures { IfOk result (λ app. app ≡ refusal r.now (seen why)) }
 {
-    let report = report(alloc, r, FixChar::new(b'8'), FixChar::new(b'8'))?;
+    let report = report(r, FixChar::new(b'8'), FixChar::new(b'8'));
     Ok(App::ExecutionReport(ExecutionReport {
         reject_reason: Some(why.number()),
         text: Some(why.text(alloc)?),
@@ -65,18 +61,16 @@ pub(crate) fn cross_refused(alloc: Global, r: &CrossRefused) -> Result<App, Allo
     refusal(alloc, &r.order, cross_reason(r.cause))
 }
 
-pub(crate) fn order_entered(alloc: Global, r: &OrderReport) -> Result<App, AllocError>
-    ensures { IfOk result (λ app. app ≡ message (what.OrderEntered r.now)) }
+pub(crate) fn order_entered(r: &OrderReport) -> App
+    ensures { result ≡ message (what.OrderEntered r.now) }
 {
-    let report = report(alloc, r, FixChar::new(b'0'), FixChar::new(b'0'))?;
-    Ok(App::ExecutionReport(report))
+    App::ExecutionReport(report(r, FixChar::new(b'0'), FixChar::new(b'0')))
 }
 
-pub(crate) fn order_unfilled(alloc: Global, r: &OrderReport) -> Result<App, AllocError>
-    ensures { IfOk result (λ app. app ≡ message (what.OrderUnfilled r.now)) }
+pub(crate) fn order_unfilled(r: &OrderReport) -> App
+    ensures { result ≡ message (what.OrderUnfilled r.now) }
 {
-    let report = report(alloc, r, FixChar::new(b'4'), FixChar::new(b'4'))?;
-    Ok(App::ExecutionReport(report))
+    App::ExecutionReport(report(r, FixChar::new(b'4'), FixChar::new(b'4')))
 }
 
 /// OrdStatus (39) after a fill: filled, or partly filled.
@@ -101,49 +95,49 @@ pub(crate) fn open_status(filled: Amount) -> FixChar
     }
 }
 
-pub(crate) fn order_filled(alloc: Global, r: &FilledReport) -> Result<App, AllocError>
-    ensures { IfOk result (λ app. app ≡ message (what.OrderFilled r.now)) }
+pub(crate) fn order_filled(r: &FilledReport) -> App
+    ensures { result ≡ message (what.OrderFilled r.now) }
 {
     let status = fill_status(r.order.left);
-    let report = report(alloc, &r.order, FixChar::new(b'F'), status)?;
-    Ok(App::ExecutionReport(ExecutionReport {
+    let report = report(&r.order, FixChar::new(b'F'), status);
+    App::ExecutionReport(ExecutionReport {
         last_price: Some(r.price),
         last_quantity: Some(r.quantity),
-        trade_id: Some(printed(alloc, b'T', r.trade)?),
+        trade_id: Some(printed_identifier(b'T', r.trade)),
         ..report
-    }))
+    })
 }
 
-pub(crate) fn order_cancelled(alloc: Global, r: &ChangedReport) -> Result<App, AllocError>
-    ensures { IfOk result (λ app. app ≡ message (what.OrderCancelled r.now)) }
+pub(crate) fn order_cancelled(r: &ChangedReport) -> App
+    ensures { result ≡ message (what.OrderCancelled r.now) }
 {
-    let report = report(alloc, &r.order, FixChar::new(b'4'), FixChar::new(b'4'))?;
-    Ok(App::ExecutionReport(ExecutionReport {
-        original_id: Some(r.original_id.copy(alloc)?),
+    let report = report(&r.order, FixChar::new(b'4'), FixChar::new(b'4'));
+    App::ExecutionReport(ExecutionReport {
+        original_id: Some(r.original_id),
         ..report
-    }))
+    })
 }
 
-pub(crate) fn order_replaced(alloc: Global, r: &ChangedReport) -> Result<App, AllocError>
-    ensures { IfOk result (λ app. app ≡ message (what.OrderReplaced r.now)) }
+pub(crate) fn order_replaced(r: &ChangedReport) -> App
+    ensures { result ≡ message (what.OrderReplaced r.now) }
 {
     let status = open_status(r.order.filled);
-    let report = report(alloc, &r.order, FixChar::new(b'5'), status)?;
-    Ok(App::ExecutionReport(ExecutionReport {
-        original_id: Some(r.original_id.copy(alloc)?),
+    let report = report(&r.order, FixChar::new(b'5'), status);
+    App::ExecutionReport(ExecutionReport {
+        original_id: Some(r.original_id),
         ..report
-    }))
+    })
 }
 
-pub(crate) fn room_traded(alloc: Global, r: &RoomReport) -> Result<App, AllocError>
-    ensures { IfOk result (λ app. app ≡ message (what.RoomTraded r.now)) }
+pub(crate) fn room_traded(r: &RoomReport) -> App
+    ensures { result ≡ message (what.RoomTraded r.now) }
 {
-    Ok(App::ExecutionReport(ExecutionReport {
-        venue_order_id: printed(alloc, b'R', r.room)?,
-        execution_id: printed(alloc, b'E', r.report)?,
+    App::ExecutionReport(ExecutionReport {
+        venue_order_id: printed_identifier(b'R', r.room),
+        execution_id: printed_identifier(b'E', r.report),
         execution_type: FixChar::new(b'F'),
         order_status: FixChar::new(b'2'),
-        symbol: r.symbol.copy(alloc)?,
+        symbol: r.symbol,
         side: r.side,
         left: Amount::new(0),
         filled: Amount::new(r.quantity.get()),
@@ -152,8 +146,8 @@ pub(crate) fn room_traded(alloc: Global, r: &RoomReport) -> Result<App, AllocErr
         last_price: Some(r.price),
         last_quantity: Some(r.quantity),
         reject_reason: None,
-        trade_id: Some(printed(alloc, b'T', r.trade)?),
-        response_id: copied(alloc, &r.response_id)?,
+        trade_id: Some(printed_identifier(b'T', r.trade)),
+        response_id: r.response_id,
         text: None,
-    }))
+    })
 }

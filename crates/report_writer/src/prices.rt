@@ -3,14 +3,13 @@ ghost use Rattle.std.specs.Prelude.{◌≡◌, [], ◌∷◌, IfOk};
 ghost use Rattle.venue_rules.specs.declared.replies.What.TheVariants as what;
 ghost use Rattle.venue_rules.specs.Messages.{entry_type, market_reason, message, shown_entry, snapshot};
 
-use crate::identifiers::printed;
 use crate::reasons::market_reason;
 use fix_dictionary::{
     App, FixChar, MarketDataEntries, MarketDataEntry, MarketDataRequestReject, MarketDataSnapshot,
     Side,
 };
 use std::alloc::{AllocError, Global};
-use venue_rules::{MarketDataRefusal, PictureEntry, Prices, PricesRefused};
+use venue_rules::{MarketDataRefusal, PictureEntry, Prices, PricesRefused, printed_identifier};
 
 /// MDEntryType (269).
 fn entry_type(side: Side) -> FixChar
@@ -22,15 +21,15 @@ fn entry_type(side: Side) -> FixChar
     }
 }
 
-fn shown_entry(alloc: Global, entry: &PictureEntry) -> Result<MarketDataEntry, AllocError>
-    ensures { IfOk result (λ e. e ≡ shown_entry entry.now) }
+fn shown_entry(entry: &PictureEntry) -> MarketDataEntry
+    ensures { result ≡ shown_entry entry.now }
 {
-    Ok(MarketDataEntry {
+    MarketDataEntry {
         entry_type: entry_type(entry.side),
         price: Some(entry.price),
         size: Some(entry.left),
-        order_id: Some(printed(alloc, b'O', entry.order)?),
-    })
+        order_id: Some(printed_identifier(b'O', entry.order)),
+    }
 }
 
 /// The entry of an instrument in which nothing rests.
@@ -53,7 +52,7 @@ fn snapshot(alloc: Global, entries: &[PictureEntry]) -> Result<Vec<MarketDataEnt
     }
     let mut shown = Vec::new(alloc);
     for entry in entries {
-        shown.push(shown_entry(alloc, entry)?)?;
+        shown.push(shown_entry(entry))?;
     }
     Ok(shown)
 }
@@ -67,8 +66,8 @@ pub(crate) fn prices(alloc: Global, r: &Prices) -> Result<App, AllocError>
     }
     let entries = snapshot(alloc, r.entries.as_slice())?;
     Ok(App::MarketDataSnapshot(MarketDataSnapshot {
-        request_id: r.request_id.copy(alloc)?,
-        symbol: r.symbol.copy(alloc)?,
+        request_id: r.request_id,
+        symbol: r.symbol,
         entries: MarketDataEntries::from_vec(entries),
     }))
 }
@@ -89,7 +88,7 @@ pub(crate) fn prices_refused(alloc: Global, r: &PricesRefused) -> Result<App, Al
 {
     let why = market_reason(r.cause);
     Ok(App::MarketDataRequestReject(MarketDataRequestReject {
-        request_id: r.request_id.copy(alloc)?,
+        request_id: r.request_id,
         reject_reason: market_code(r.cause),
         text: Some(why.text(alloc)?),
     }))

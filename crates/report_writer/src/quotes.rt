@@ -4,7 +4,6 @@ ghost use Rattle.venue_rules.specs.declared.replies.What.TheVariants as what;
 ghost use Rattle.venue_rules.specs.Messages.{message, status_of};
 ghost use Rattle.report_writer.specs.Reasons.{seen_status};
 
-use crate::identifiers::{copied, printed};
 use crate::reason::Reason;
 use crate::reasons::{quote_reason, response_reason};
 use crate::status::Status;
@@ -12,7 +11,7 @@ use fix_dictionary::{
     App, FixChar, FixInt, Parties, Party, Price, Quantity, Quote, QuoteStatusReport, Text,
 };
 use std::alloc::{AllocError, Global};
-use venue_rules::{QuoteSent, QuoteState, QuoteStatus};
+use venue_rules::{QuoteSent, QuoteState, QuoteStatus, printed_identifier};
 
 /// QuoteStatus (297), with the reason where a quote is refused.
 fn status_of(state: &QuoteState) -> Status
@@ -37,10 +36,10 @@ pub(crate) fn quote_status(alloc: Global, r: &QuoteStatus) -> Result<App, AllocE
 {
     let status = status_of(&r.state);
     Ok(App::QuoteStatusReport(QuoteStatusReport {
-        quote_id: copied(alloc, &r.quote_id)?,
-        request_id: copied(alloc, &r.request_id)?,
-        response_id: copied(alloc, &r.response_id)?,
-        symbol: copied(alloc, &r.symbol)?,
+        quote_id: r.quote_id,
+        request_id: r.request_id,
+        response_id: r.response_id,
+        symbol: r.symbol,
         status: status.number(),
         reject_reason: status.reject_reason(),
         text: status.text(alloc)?,
@@ -61,16 +60,16 @@ pub(crate) fn quote_sent(alloc: Global, r: &QuoteSent) -> Result<App, AllocError
     ensures { IfOk result (λ app. app ≡ message (what.QuoteSent r.now)) }
 {
     let maker = Party {
-        id: r.maker.copy(alloc)?,
+        id: r.maker,
         source: FixChar::new(b'D'),
         role: FixInt::new(35),
     };
     Ok(App::Quote(Quote {
-        quote_id: printed(alloc, b'Q', r.quote)?,
-        request_id: r.request_id.copy(alloc)?,
+        quote_id: printed_identifier(b'Q', r.quote),
+        request_id: r.request_id,
         quote_type: Some(FixChar::new(b'1')),
         parties: Parties::from_vec(vec![in alloc; maker]?),
-        symbol: r.symbol.copy(alloc)?,
+        symbol: r.symbol,
         bid_price: r.bid,
         offer_price: r.offer,
         bid_size: size(r.bid, r.quantity),

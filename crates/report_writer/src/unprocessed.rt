@@ -14,7 +14,7 @@ pub(crate) fn unprocessed(alloc: Global, r: &Unprocessed) -> Result<App, AllocEr
     let why = business_reason(r.cause);
     Ok(App::BusinessMessageReject(BusinessMessageReject {
         reference_number: FixInt::new(r.number.get()),
-        reference_type: r.kind.copy(alloc)?,
+        reference_type: r.kind,
         reject_reason: why.number(),
         text: Some(why.text(alloc)?),
     }))

@@ -1,7 +1,8 @@
+ghost use Rattle.std.specs.Prelude.{◌≡◌, IfOk, length};
 ghost use Rattle.fix_dictionary.specs.Values.{IsSequenceNumber};
 
 use super::*;
-use fix_dictionary::{App, Identifier, OrderCancelRequest, SequenceNumber};
+use fix_dictionary::{App, FixChar, Identifier, MarketDataRequestReject, SequenceNumber, Text};
 use sef_moment::Moment;
 use std::alloc::{AllocError, Global};
 use std::test::*;
@@ -9,11 +10,12 @@ use std::test::*;
 /// The moment at which all is first sent, in milliseconds.
 const FIRST: u64 = 1_741_012_200_000;
 
-/// An application message.
-fn cancel(alloc: Global) -> Result<App, AllocError> {
-    Ok(App::OrderCancelRequest(OrderCancelRequest {
-        order_id: Identifier::from_slice(alloc, b"d3")?,
-        original_id: Identifier::from_slice(alloc, b"d2")?,
+/// An application message whose copy takes memory, for its text.
+fn reject(alloc: Global) -> Result<App, AllocError> {
+    Ok(App::MarketDataRequestReject(MarketDataRequestReject {
+        request_id: Identifier::from_slice(b"d3"),
+        reject_reason: FixChar::new(b'0'),
+        text: Some(Text::from_slice(alloc, b"no such symbol")?),
     }))
 }
 
@@ -36,18 +38,25 @@ fn told(
     Ok(told)
 }
 
-// A Logon, a report, a Heartbeat, a report.
-#[test]
-fn gap_fills_and_repeats(rt: HostRuntime) -> Result<(), Fail> {
-    let alloc = rt.alloc();
+/// A Logon, a report, a Heartbeat, a report.
+fn four_entries(alloc: Global) -> Result<Store, Fail>
+    ensures { IfOk result (λ store. length store.entries ≡ 4) }
+{
     let t = Moment::of_ms(FIRST).ok_or("no moment")?;
-    let app = cancel(alloc)?;
+    let app = reject(alloc)?;
     let mut store = Store::new(alloc);
     store.reserve(4)?;
     store.add_admin(1)?;
     store.add_app(2, &app, t)?;
     store.add_admin(3)?;
     store.add_app(4, &app, t)?;
+    Ok(store)
+}
+
+#[test]
+fn gap_fills_and_repeats(rt: HostRuntime) -> Result<(), Fail> {
+    let alloc = rt.alloc();
+    let mut store = four_entries(alloc)?;
     assert_eq!(rt; store.next_number(), 5);
     assert_eq!(rt; store.range(2, 3).len(), 2);
     let all = [(1, Some(2)), (2, None), (3, Some(4)), (4, None)];
@@ -72,9 +81,9 @@ fn gap_fills_and_repeats(rt: HostRuntime) -> Result<(), Fail> {
 fn one_refused_growth(rt: HostRuntime) -> Result<(), Fail> {
     let alloc = rt.alloc();
     let t = Moment::of_ms(FIRST).ok_or("no moment")?;
-    let app = match cancel(alloc) {
+    let app = match reject(alloc) {
         Ok(app) => app,
-        Err(AllocError) => cancel(alloc)?,
+        Err(AllocError) => reject(alloc)?,
     };
     let mut store = Store::new(alloc);
     if store.add_app(1, &app, t) == Err(StoreFault::NoMemory) {

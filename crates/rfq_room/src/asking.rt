@@ -96,7 +96,6 @@ fn request_cause(
 
 /// The room that a request opens.
 fn room_asked(
-    alloc: Global,
     participants: &Participants,
     instruments: &Instruments,
     facts: &[Fact],
@@ -104,23 +103,23 @@ fn room_asked(
     request: &QuoteRequest,
     recipients: Vec<Who>,
     moment: Moment,
-) -> Result<Room, AllocError>
+) -> Room
     requires known { is_unknown_instrument instruments.now request.now.symbol ≡ false }
     requires recipients { recipients.items ≡ recipients_of participants.now request.now.parties }
-    ensures { IfOk result (λ r. r ≡ room_asked (record { participants = participants.now; instruments = instruments.now }) facts.now who request.now moment) }
+    ensures { result ≡ room_asked (record { participants = participants.now; instruments = instruments.now }) facts.now who request.now moment }
 {
     let instrument = listed_instrument(instruments, &request.symbol);
     let life = 1_000 * instruments.get(instrument).request_life;
-    Ok(Room {
+    Room {
         number: next_room(facts),
         requester: who,
-        id: request.request_id.copy(alloc)?,
+        id: request.request_id,
         instrument,
         side: request.side,
         quantity: request.quantity,
         recipients: Recipients::from_vec(recipients),
         end: moment.plus(life),
-    })
+    }
 }
 
 /// The plan of a request, before space is made for it.
@@ -150,8 +149,7 @@ pub(crate) fn draft_ask(
     ) {
         return Err(request_refusal(cause));
     }
-    let Ok(room) = room_asked(
-        alloc,
+    let room = room_asked(
         participants,
         instruments,
         facts,
@@ -159,9 +157,7 @@ pub(crate) fn draft_ask(
         request,
         recipients,
         moment,
-    ) else {
-        return Err(Refusal::NoMemory);
-    };
+    );
     let Ok(facts) = vec![in alloc; Fact::Asked(room)] else {
         return Err(Refusal::NoMemory);
     };

@@ -164,33 +164,6 @@ fn is_taken(
         && is_named(&quote.id, named)
 }
 
-/// The same quote once more.
-fn copy_quote(alloc: Global, quote: &RoomQuote) -> Result<RoomQuote, AllocError>
-    ensures { IfOk result (λ copy. copy ≡ quote.now) }
-{
-    Ok(RoomQuote {
-        number: quote.number,
-        room: quote.room,
-        maker: quote.maker,
-        id: quote.id.copy(alloc)?,
-        bid: quote.bid,
-        offer: quote.offer,
-        end: quote.end,
-    })
-}
-
-fn push_copy(
-    alloc: Global,
-    quotes: &mut Vec<RoomQuote>,
-    quote: &RoomQuote,
-) -> Result<(), AllocError>
-    ensures { IfOk result (λ _. quotes.new.items ≡ quotes.old.items ++ quote.now ∷ []) }
-{
-    let copy = copy_quote(alloc, quote)?;
-    quotes.push(copy)?;
-    Ok(())
-}
-
 #[tactic(auto, using(crate::proofs::Taking::takings))]
 fn taken_quotes(
     alloc: Global,
@@ -205,7 +178,7 @@ fn taken_quotes(
     for fact in facts {
         if let Some(quote) = quote_in(fact) {
             if is_taken(facts, maker, moment, named, quote) {
-                push_copy(alloc, &mut quotes, quote)?;
+                quotes.push(*quote)?;
             }
         }
     }

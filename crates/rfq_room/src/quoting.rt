@@ -168,24 +168,18 @@ fn quote_end(room: &Room, quote: &Quote) -> Moment
 }
 
 /// The quote that a message makes in a room.
-fn quote_made(
-    alloc: Global,
-    facts: &[Fact],
-    who: Who,
-    room: &Room,
-    quote: &Quote,
-) -> Result<RoomQuote, AllocError>
-    ensures { IfOk result (λ q. q ≡ quote_made facts.now who room.now quote.now) }
+fn quote_made(facts: &[Fact], who: Who, room: &Room, quote: &Quote) -> RoomQuote
+    ensures { result ≡ quote_made facts.now who room.now quote.now }
 {
-    Ok(RoomQuote {
+    RoomQuote {
         number: next_quote(facts),
         room: room.number,
         maker: who,
-        id: quote.quote_id.copy(alloc)?,
+        id: quote.quote_id,
         bid: quote.bid_price,
         offer: quote.offer_price,
         end: quote_end(room, quote),
-    })
+    }
 }
 
 /// The plan of a quote in a room, before space is made for it.
@@ -198,7 +192,7 @@ fn draft_in(
 ) -> Result<RoomPlan, AllocError>
     ensures { IfOk result (λ p. p ≡ quote_plan (quote_made facts.now who room.now quote.now)) }
 {
-    let quote = quote_made(alloc, facts, who, room, quote)?;
+    let quote = quote_made(facts, who, room, quote);
     let facts = vec![in alloc; Fact::Quoted(quote)]?;
     Ok(RoomPlan::of(facts, Vec::new(alloc), None))
 }

@@ -15,67 +15,62 @@ use std::alloc::{AllocError, Global};
 use std::test::*;
 use venue_rules::{fixture_instruments, fixture_participants, name_identifier};
 
-fn id(alloc: Global, text: &[u8]) -> Result<Identifier, AllocError>
-    requires { IsText 64 text.now }
-{
-    Identifier::from_slice(alloc, text)
-}
-
-fn recipient(alloc: Global, name: &[u8]) -> Result<Party, AllocError>
+fn recipient(name: &[u8]) -> Party
     requires { is_name name.now ≡ true }
 {
-    let id = name_identifier(alloc, name)?;
-    let source = FixChar::new(b'D');
-    let role = FixInt::new(35);
-    Ok(Party { id, source, role })
+    Party {
+        id: name_identifier(name),
+        source: FixChar::new(b'D'),
+        role: FixInt::new(35),
+    }
 }
 
 /// BETA, GAMMA, DELTA and EPSILON, of whom BETA and GAMMA are related.
 fn four(alloc: Global) -> Result<Parties, AllocError> {
     let parties = vec![in alloc;
-        recipient(alloc, b"BETA")?,
-        recipient(alloc, b"GAMMA")?,
-        recipient(alloc, b"DELTA")?,
-        recipient(alloc, b"EPSILON")?,
+        recipient(b"BETA"),
+        recipient(b"GAMMA"),
+        recipient(b"DELTA"),
+        recipient(b"EPSILON"),
     ]?;
     Ok(Parties::from_vec(parties))
 }
 
 /// ALPHA's request q1 for 100 IRS5Y, which it buys.
-fn request(alloc: Global, parties: Parties) -> Result<QuoteRequest, AllocError> {
-    Ok(QuoteRequest {
-        request_id: id(alloc, b"q1")?,
-        symbol: id(alloc, b"IRS5Y")?,
+fn request(parties: Parties) -> QuoteRequest {
+    QuoteRequest {
+        request_id: Identifier::from_slice(b"q1"),
+        symbol: Identifier::from_slice(b"IRS5Y"),
         side: Some(Side::Buy),
         quantity: Quantity::new(100),
         parties,
-    })
+    }
 }
 
 /// An offer d1 at 2.5 in the room R1.
-fn offer(alloc: Global) -> Result<Quote, AllocError> {
-    Ok(Quote {
-        quote_id: id(alloc, b"d1")?,
-        request_id: id(alloc, b"R1")?,
+fn offer(alloc: Global) -> Quote {
+    Quote {
+        quote_id: Identifier::from_slice(b"d1"),
+        request_id: Identifier::from_slice(b"R1"),
         quote_type: None,
         parties: Parties::from_vec(Vec::new(alloc)),
-        symbol: id(alloc, b"IRS5Y")?,
+        symbol: Identifier::from_slice(b"IRS5Y"),
         bid_price: None,
         offer_price: Some(Price::new(2_500_000)),
         bid_size: None,
         offer_size: None,
         valid_until: None,
-    })
+    }
 }
 
 /// A hit (1) or a pass (6) of the quote Q1.
-fn response(alloc: Global, kind: FixInt) -> Result<QuoteResponse, AllocError> {
-    Ok(QuoteResponse {
-        response_id: id(alloc, b"h1")?,
-        quote_id: id(alloc, b"Q1")?,
+fn response(kind: FixInt) -> QuoteResponse {
+    QuoteResponse {
+        response_id: Identifier::from_slice(b"h1"),
+        quote_id: Identifier::from_slice(b"Q1"),
         response_type: kind,
         side: Some(Side::Buy),
-    })
+    }
 }
 
 /// ALPHA's request; whether it is refused for want of three unrelated recipients.
@@ -119,9 +114,9 @@ fn quoted(alloc: Global, moment: Moment) -> Result<Rooms, AllocError> {
     let participants = fixture_participants(alloc)?;
     let instruments = fixture_instruments(alloc, 0)?;
     let mut rooms = Rooms::new(alloc);
-    let request = request(alloc, four(alloc)?)?;
+    let request = request(four(alloc)?);
     ask(&mut rooms, &participants, &instruments, &request, moment);
-    let offer = offer(alloc)?;
+    let offer = offer(alloc);
     quote(&mut rooms, &participants, &instruments, &offer, moment);
     Ok(rooms)
 }
@@ -165,11 +160,11 @@ fn three_unrelated_are_asked(rt: HostRuntime) -> Result<(), Fail> {
     let mut rooms = Rooms::new(alloc);
     let start = Moment::of_ms(1_741_012_200_000).ok_or("no moment")?;
     let parties = vec![in alloc;
-        recipient(alloc, b"BETA")?,
-        recipient(alloc, b"GAMMA")?,
-        recipient(alloc, b"DELTA")?,
+        recipient(b"BETA"),
+        recipient(b"GAMMA"),
+        recipient(b"DELTA"),
     ]?;
-    let few = request(alloc, Parties::from_vec(parties))?;
+    let few = request(Parties::from_vec(parties));
     assert!(rt; ask(&mut rooms, &participants, &instruments, &few, start));
     assert!(rt; rooms.facts().is_empty());
     Ok(())
@@ -180,7 +175,7 @@ fn a_hit_closes_the_room(rt: HostRuntime) -> Result<(), Fail> {
     let alloc = rt.alloc();
     let start = Moment::of_ms(1_741_012_200_000).ok_or("no moment")?;
     let mut rooms = quoted(alloc, start)?;
-    let hit = response(alloc, FixInt::new(1))?;
+    let hit = response(FixInt::new(1));
     assert_eq!(rt; answer(&mut rooms, &hit, start.plus(30_001)), (0, true));
     assert_eq!(rt;
         answer(&mut rooms, &hit, start.plus(30_000)),
@@ -198,7 +193,7 @@ fn a_withdrawn_quote_is_gone(rt: HostRuntime) -> Result<(), Fail> {
     let mut rooms = quoted(alloc, start)?;
     assert_eq!(rt; withdraw(&mut rooms, start), 1);
     assert_eq!(rt; withdraw(&mut rooms, start), 0);
-    let hit = response(alloc, FixInt::new(1))?;
+    let hit = response(FixInt::new(1));
     assert_eq!(rt; answer(&mut rooms, &hit, start), (0, true));
     Ok(())
 }
@@ -210,8 +205,8 @@ fn a_room_is_found(rt: HostRuntime) -> Result<(), Fail> {
     let rooms = quoted(alloc, start)?;
     assert!(rt; rooms.has_quote(1));
     assert_eq!(rt; rooms.room(1).ok_or("no room")?.end.ms(), 1_741_012_230_000);
-    assert!(rt; rooms.find_room(&id(alloc, b"R1")?).is_some());
-    let quote = id(alloc, b"Q1")?;
+    assert!(rt; rooms.find_room(&Identifier::from_slice(b"R1")).is_some());
+    let quote = Identifier::from_slice(b"Q1");
     assert!(rt; rooms.find_quote(&quote).is_some());
     assert!(rt; rooms.quote_room(&quote).is_some());
     assert!(rt; RoomPlan::nothing(alloc).facts().is_empty());

@@ -3,7 +3,6 @@
 #![tactic(auto)]
 
 mod answer;
-mod identifiers;
 mod listing;
 mod quotes;
 mod requests;

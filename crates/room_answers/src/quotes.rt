@@ -33,26 +33,20 @@ use venue_rules::{
 };
 
 // What is said of a quote to its maker, by the maker's identifiers.
-fn status(
-    alloc: Global,
-    sender: Sender,
-    quote: &Quote,
-    symbol: Option<Identifier>,
-    state: QuoteState,
-) -> Result<Reply, AllocError>
-    ensures { IfOk result (λ r. r ≡ quote_status (sent_by sender (codes "S")) quote.now symbol state) }
+fn status(sender: Sender, quote: &Quote, symbol: Option<Identifier>, state: QuoteState) -> Reply
+    ensures { result ≡ quote_status (sent_by sender (codes "S")) quote.now symbol state }
 {
     let what = What::QuoteStatus(QuoteStatus {
-        quote_id: Some(quote.quote_id.copy(alloc)?),
-        request_id: Some(quote.request_id.copy(alloc)?),
+        quote_id: Some(quote.quote_id),
+        request_id: Some(quote.request_id),
         response_id: None,
         symbol,
         state,
     });
-    Ok(Reply {
+    Reply {
         to: sender.who,
         what,
-    })
+    }
 }
 
 // A quote refused, in the room that it names if that is there.
@@ -69,37 +63,36 @@ fn refused(
     ensures told { IfOk result (λ a. a ≡ answers (quote_status (sent_by sender (codes "S")) quote.now (symbol_in instruments.now (find_room rooms.now.facts quote.now.request_id)) (state.Refused cause) ∷ [])) }
 {
     let room = rooms.find_room(&quote.request_id);
-    let symbol = symbol_in(alloc, instruments, room)?;
-    let reply = status(alloc, sender, quote, symbol, QuoteState::Refused(cause))?;
+    let symbol = symbol_in(instruments, room);
+    let reply = status(sender, quote, symbol, QuoteState::Refused(cause));
     let replies = vec![in alloc; reply]?;
     Ok(RoomAnswer::of(RoomPlan::nothing(alloc), replies, 0, 0))
 }
 
 // The quote as it is sent on to the requester.
 fn quote_sent(
-    alloc: Global,
     participants: &Participants,
     room: &Room,
     symbol: &Identifier,
     quote: &RoomQuote,
-) -> Result<Reply, AllocError>
+) -> Reply
     requires { quote.now.maker < length participants.now.names }
-    ensures { IfOk result (λ r. r ≡ quote_sent participants.now room.now symbol.now quote.now) }
+    ensures { result ≡ quote_sent participants.now room.now symbol.now quote.now }
 {
     let what = What::QuoteSent(QuoteSent {
         quote: quote.number,
-        request_id: room.id.copy(alloc)?,
-        maker: name_identifier(alloc, participants.name(quote.maker))?,
-        symbol: symbol.copy(alloc)?,
+        request_id: room.id,
+        maker: name_identifier(participants.name(quote.maker)),
+        symbol: *symbol,
         bid: quote.bid,
         offer: quote.offer,
         quantity: room.quantity,
         end: quote.end,
     });
-    Ok(Reply {
+    Reply {
         to: room.requester,
         what,
-    })
+    }
 }
 
 // What rests in the book of an instrument, as it is shown.
@@ -110,28 +103,22 @@ fn rests(book: &PriceBook, instrument: u32) -> Result<PictureEntries, AllocError
 }
 
 // The picture of the book, as it is sent to the requester.
-fn prices_sent(
-    alloc: Global,
-    room: &Room,
-    symbol: &Identifier,
-    entries: PictureEntries,
-) -> Result<Reply, AllocError>
-    ensures { IfOk result (λ r. r ≡ prices_sent room.now symbol.now entries) }
+fn prices_sent(room: &Room, symbol: &Identifier, entries: PictureEntries) -> Reply
+    ensures { result ≡ prices_sent room.now symbol.now entries }
 {
     let what = What::Prices(Prices {
-        request_id: room.id.copy(alloc)?,
-        symbol: symbol.copy(alloc)?,
+        request_id: room.id,
+        symbol: *symbol,
         entries,
     });
-    Ok(Reply {
+    Reply {
         to: room.requester,
         what,
-    })
+    }
 }
 
 // The picture is sent unless the room has a quote.
 fn show(
-    alloc: Global,
     book: &PriceBook,
     room: &Room,
     symbol: &Identifier,
@@ -144,8 +131,7 @@ fn show(
         return Ok(());
     }
     let entries = rests(book, room.instrument)?;
-    let prices = prices_sent(alloc, room, symbol, entries)?;
-    replies.push(prices)?;
+    replies.push(prices_sent(room, symbol, entries))?;
     Ok(())
 }
 
@@ -168,8 +154,7 @@ fn told_maker(
 ) -> Result<Vec<Reply>, AllocError>
     ensures { IfOk result (λ v. v.items ≡ quote_status (sent_by sender (codes "S")) quote.now (Some symbol.now) state.Accepted ∷ []) }
 {
-    let named = Some(symbol.copy(alloc)?);
-    let status = status(alloc, sender, quote, named, QuoteState::Accepted)?;
+    let status = status(sender, quote, Some(*symbol), QuoteState::Accepted);
     Ok(vec![in alloc; status]?)
 }
 
@@ -189,8 +174,8 @@ fn told(
     ensures { IfOk result (λ v. v.items ≡ quote_replies participants.now book.now.facts (sent_by sender (codes "S")) quote.now quoted room.now symbol.now made.now) }
 {
     let mut replies = told_maker(alloc, sender, quote, symbol)?;
-    show(alloc, book, room, symbol, quoted, &mut replies)?;
-    replies.push(quote_sent(alloc, participants, room, symbol, made)?)?;
+    show(book, room, symbol, quoted, &mut replies)?;
+    replies.push(quote_sent(participants, room, symbol, made))?;
     Ok(replies)
 }
 
@@ -214,7 +199,7 @@ fn accepted(
     let room = rooms.find_room(&quote.request_id).unwrap();
     let made = made(&plan).unwrap();
     let quoted = rooms.has_quote(room.number);
-    let symbol = symbol_of(alloc, instruments, room.instrument)?;
+    let symbol = symbol_of(instruments, room.instrument);
     let replies = told(
         alloc,
         participants,

@@ -31,8 +31,8 @@ fn refused(
     ensures { IfOk result (λ a. a ≡ request_refused (sent_by sender (codes "R")) request.now cause) }
 {
     let what = What::RequestRefused(RequestRefused {
-        id: request.request_id.copy(alloc)?,
-        symbol: request.symbol.copy(alloc)?,
+        id: request.request_id,
+        symbol: request.symbol,
         cause,
     });
     let to = sender.who;
@@ -41,21 +41,16 @@ fn refused(
 }
 
 // The request of a room as it is sent to a recipient.
-fn request_sent(
-    alloc: Global,
-    room: &Room,
-    symbol: &Identifier,
-    to: Who,
-) -> Result<Reply, AllocError>
-    ensures { IfOk result (λ r. r ≡ request_sent room.now symbol.now to) }
+fn request_sent(room: &Room, symbol: &Identifier, to: Who) -> Reply
+    ensures { result ≡ request_sent room.now symbol.now to }
 {
     let what = What::RequestSent(RequestSent {
         room: room.number,
-        symbol: symbol.copy(alloc)?,
+        symbol: *symbol,
         side: room.side,
         quantity: room.quantity,
     });
-    Ok(Reply { to, what })
+    Reply { to, what }
 }
 
 // The request of a room as it is sent to all its recipients.
@@ -64,7 +59,7 @@ fn sent_to_all(alloc: Global, room: &Room, symbol: &Identifier) -> Result<Vec<Re
 {
     let mut replies = Vec::new(alloc);
     for recipient in room.recipients.as_slice() {
-        replies.push(request_sent(alloc, room, symbol, *recipient)?)?;
+        replies.push(request_sent(room, symbol, *recipient))?;
     }
     Ok(replies)
 }
@@ -99,7 +94,7 @@ pub fn plan_request(
     match rooms.plan_ask(participants, instruments, sender.who, request, moment) {
         Ok(plan) => {
             let room = opened(&plan).unwrap();
-            let symbol = symbol_of(alloc, instruments, room.instrument)?;
+            let symbol = symbol_of(instruments, room.instrument);
             let replies = sent_to_all(alloc, room, &symbol)?;
             Ok(RoomAnswer::of(plan, replies, 0, 0))
         }

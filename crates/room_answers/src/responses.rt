@@ -34,38 +34,37 @@ use venue_rules::{
 };
 
 // The requester's identifier of the request of a room, where there is one.
-fn request_in(alloc: Global, room: Option<&Room>) -> Result<Option<Identifier>, AllocError>
-    ensures { IfOk result (λ id. id ≡ option_map (λ r. r.id) (option_map (λ r. r.now) room.entry)) }
+fn request_in(room: Option<&Room>) -> Option<Identifier>
+    ensures { result ≡ option_map (λ r. r.id) (option_map (λ r. r.now) room.entry) }
 {
     match room {
-        Some(room) => Ok(Some(room.id.copy(alloc)?)),
-        None => Ok(None),
+        Some(room) => Some(room.id),
+        None => None,
     }
 }
 
 // What is said to the sender: the quote and the answer as sent, and of a room of its own its request and the instrument.
 fn status(
-    alloc: Global,
     instruments: &Instruments,
     sender: Sender,
     response: &QuoteResponse,
     room: Option<&Room>,
     state: QuoteState,
-) -> Result<Reply, AllocError>
+) -> Reply
     requires { IfSome room (λ r. r.now.instrument < length instruments.now) }
-    ensures { IfOk result (λ r. r ≡ response_status (sent_by sender (codes "AJ")) response.now (option_map (λ r. r.id) (option_map (λ r. r.now) room.entry)) (symbol_in instruments.now (option_map (λ r. r.now) room.entry)) state) }
+    ensures { result ≡ response_status (sent_by sender (codes "AJ")) response.now (option_map (λ r. r.id) (option_map (λ r. r.now) room.entry)) (symbol_in instruments.now (option_map (λ r. r.now) room.entry)) state }
 {
     let what = What::QuoteStatus(QuoteStatus {
-        quote_id: Some(response.quote_id.copy(alloc)?),
-        request_id: request_in(alloc, room)?,
-        response_id: Some(response.response_id.copy(alloc)?),
-        symbol: symbol_in(alloc, instruments, room)?,
+        quote_id: Some(response.quote_id),
+        request_id: request_in(room),
+        response_id: Some(response.response_id),
+        symbol: symbol_in(instruments, room),
         state,
     });
-    Ok(Reply {
+    Reply {
         to: sender.who,
         what,
-    })
+    }
 }
 
 // The sender alone is told.
@@ -80,7 +79,7 @@ fn told(
     requires { IfSome room (λ r. r.now.instrument < length instruments.now) }
     ensures { IfOk result (λ a. a ≡ answers (response_status (sent_by sender (codes "AJ")) response.now (option_map (λ r. r.id) (option_map (λ r. r.now) room.entry)) (symbol_in instruments.now (option_map (λ r. r.now) room.entry)) state ∷ [])) }
 {
-    let reply = status(alloc, instruments, sender, response, room, state)?;
+    let reply = status(instruments, sender, response, room, state);
     let replies = vec![in alloc; reply]?;
     Ok(RoomAnswer::of(RoomPlan::nothing(alloc), replies, 0, 0))
 }
@@ -180,10 +179,10 @@ fn passed(
     requires { room.now.instrument < length instruments.now }
     ensures { IfOk result (λ v. v.items ≡ pass_told instruments.now (sent_by sender (codes "AJ")) response.now room.now quote.now) }
 {
-    let symbol = symbol_of(alloc, instruments, room.instrument)?;
+    let symbol = symbol_of(instruments, room.instrument);
     let state = QuoteState::Passed;
-    let own = status(alloc, instruments, sender, response, Some(room), state)?;
-    let makers = to_maker(alloc, room, &symbol, quote, QuoteState::Passed)?;
+    let own = status(instruments, sender, response, Some(room), state);
+    let makers = to_maker(room, &symbol, quote, QuoteState::Passed);
     both(alloc, own, makers)
 }
 
@@ -197,8 +196,8 @@ fn opposite(side: Side) -> Side
 }
 
 // The hit as the maker has it.
-fn other_side(hit: Hit) -> Hit
-    ensures { result ≡ other_side hit }
+fn other_side(hit: &Hit) -> Hit
+    ensures { result ≡ other_side hit.now }
 {
     Hit {
         side: opposite(hit.side),
@@ -208,7 +207,6 @@ fn other_side(hit: Hit) -> Hit
 
 // The report of a trade in a room to one of its sides.
 fn traded_report(
-    alloc: Global,
     room: &Room,
     symbol: &Identifier,
     trade: u64,
@@ -216,20 +214,20 @@ fn traded_report(
     hit: Hit,
     response_id: Option<Identifier>,
     report: u64,
-) -> Result<Reply, AllocError>
-    ensures { IfOk result (λ r. r ≡ traded_report room.now symbol.now trade to hit response_id report) }
+) -> Reply
+    ensures { result ≡ traded_report room.now symbol.now trade to hit response_id report }
 {
     let what = What::RoomTraded(RoomReport {
         report,
         room: room.number,
-        symbol: symbol.copy(alloc)?,
+        symbol: *symbol,
         side: hit.side,
         quantity: room.quantity,
         price: hit.price,
         trade,
         response_id,
     });
-    Ok(Reply { to, what })
+    Reply { to, what }
 }
 
 // The reports of a hit: the requester's, then the maker's.
@@ -249,22 +247,12 @@ fn hit_told(
     requires number { reports < 2 ^ 61 }
     ensures { IfOk result (λ v. v.items ≡ hit_told instruments.now room.now trade sender.who maker hit response.now reports) }
 {
-    let symbol = symbol_of(alloc, instruments, room.instrument)?;
-    let response_id = Some(response.response_id.copy(alloc)?);
-    let to = sender.who;
-    let own = traded_report(
-        alloc,
-        room,
-        &symbol,
-        trade,
-        to,
-        hit,
-        response_id,
-        reports + 1,
-    )?;
-    let other = other_side(hit);
+    let symbol = symbol_of(instruments, room.instrument);
+    let named = Some(response.response_id);
+    let other = other_side(&hit);
+    let own = traded_report(room, &symbol, trade, sender.who, hit, named, reports + 1);
     let number = reports + 1 + 1;
-    let makers = traded_report(alloc, room, &symbol, trade, maker, other, None, number)?;
+    let makers = traded_report(room, &symbol, trade, maker, other, None, number);
     both(alloc, own, makers)
 }
 

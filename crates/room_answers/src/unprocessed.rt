@@ -23,7 +23,7 @@ pub(crate) fn unprocessed(
 {
     let what = What::Unprocessed(Unprocessed {
         number: sender.number,
-        kind: Identifier::from_slice(alloc, kind)?,
+        kind: Identifier::from_slice(kind),
         cause,
     });
     let to = sender.who;

@@ -15,7 +15,6 @@ ghost use Rattle.room_answers.specs.Senders.{market, sent_by};
 ghost use Rattle.room_answers.specs.Sent.{both_told, named_status, to_maker, to_requester};
 
 use crate::answer::RoomAnswer;
-use crate::identifiers::{copied, printed};
 use crate::listing::symbol_of;
 use crate::sender::Sender;
 use crate::unprocessed::unprocessed;
@@ -24,58 +23,52 @@ use instruments::Instruments;
 use rfq_room::{Cause, RoomPlan, Rooms, WithdrawalRefusal, rooms_decide};
 use sef_moment::Moment;
 use std::alloc::{AllocError, Global};
-use venue_rules::{BusinessRefusal, QuoteState, QuoteStatus, Reply, Room, RoomQuote, What};
+use venue_rules::{
+    BusinessRefusal, QuoteState, QuoteStatus, Reply, Room, RoomQuote, What, printed_identifier,
+};
 
 /// What is said of a quote of a room to its maker: by its own identifier of the quote, and the venue's of the room.
 pub(crate) fn to_maker(
-    alloc: Global,
     room: &Room,
     symbol: &Identifier,
     quote: &RoomQuote,
     state: QuoteState,
-) -> Result<Reply, AllocError>
-    ensures { IfOk result (λ r. r ≡ to_maker room.now symbol.now quote.now state) }
+) -> Reply
+    ensures { result ≡ to_maker room.now symbol.now quote.now state }
 {
     let what = What::QuoteStatus(QuoteStatus {
-        quote_id: Some(quote.id.copy(alloc)?),
-        request_id: Some(printed(alloc, b'R', room.number)?),
+        quote_id: Some(quote.id),
+        request_id: Some(printed_identifier(b'R', room.number)),
         response_id: None,
-        symbol: Some(symbol.copy(alloc)?),
+        symbol: Some(*symbol),
         state,
     });
-    Ok(Reply {
+    Reply {
         to: quote.maker,
         what,
-    })
+    }
 }
 
 // And to the requester: by the venue's identifier of the quote, and its own of the request.
-fn to_requester(
-    alloc: Global,
-    room: &Room,
-    symbol: &Identifier,
-    quote: &RoomQuote,
-    state: QuoteState,
-) -> Result<Reply, AllocError>
-    ensures { IfOk result (λ r. r ≡ to_requester room.now symbol.now quote.now state) }
+fn to_requester(room: &Room, symbol: &Identifier, quote: &RoomQuote, state: QuoteState) -> Reply
+    ensures { result ≡ to_requester room.now symbol.now quote.now state }
 {
     let what = What::QuoteStatus(QuoteStatus {
-        quote_id: Some(printed(alloc, b'Q', quote.number)?),
-        request_id: Some(room.id.copy(alloc)?),
+        quote_id: Some(printed_identifier(b'Q', quote.number)),
+        request_id: Some(room.id),
         response_id: None,
-        symbol: Some(symbol.copy(alloc)?),
+        symbol: Some(*symbol),
         state,
     });
-    Ok(Reply {
+    Reply {
         to: room.requester,
         what,
-    })
+    }
 }
 
 // Tells the maker and the requester of a quote that it is withdrawn.
 #[tactic(auto, using(crate::proofs::Withdrawing::tellings))]
 fn tell_both(
-    alloc: Global,
     instruments: &Instruments,
     rooms: &Rooms,
     quote: &RoomQuote,
@@ -87,9 +80,9 @@ fn tell_both(
     let Some(room) = rooms.room(quote.room) else {
         return Ok(());
     };
-    let symbol = symbol_of(alloc, instruments, room.instrument)?;
-    replies.push(to_maker(alloc, room, &symbol, quote, QuoteState::Withdrawn)?)?;
-    replies.push(to_requester(alloc, room, &symbol, quote, QuoteState::Withdrawn)?)?;
+    let symbol = symbol_of(instruments, room.instrument);
+    replies.push(to_maker(room, &symbol, quote, QuoteState::Withdrawn))?;
+    replies.push(to_requester(room, &symbol, quote, QuoteState::Withdrawn))?;
     Ok(())
 }
 
@@ -105,7 +98,7 @@ fn all_told(
 {
     let mut replies = Vec::new(alloc);
     for quote in quotes {
-        tell_both(alloc, instruments, rooms, quote, &mut replies)?;
+        tell_both(instruments, rooms, quote, &mut replies)?;
     }
     Ok(replies)
 }
@@ -132,13 +125,13 @@ fn status(
 }
 
 // The identifier of the quote that a withdrawal of one names, where it is one (QuoteCancelType, 298, is 5).
-fn named(alloc: Global, request: &QuoteCancel) -> Result<Option<Identifier>, AllocError>
-    ensures { IfOk result (λ id. id ≡ withdrawal_id request.now) }
+fn named(request: &QuoteCancel) -> Option<Identifier>
+    ensures { result ≡ withdrawal_id request.now }
 {
     if request.cancel_type.get() == 5 {
-        copied(alloc, &request.quote_id)
+        request.quote_id
     } else {
-        Ok(None)
+        None
     }
 }
 
@@ -157,10 +150,10 @@ fn refused(
             unprocessed(alloc, sender, b"Z", BusinessRefusal::QuoteMissing)
         }
         WithdrawalRefusal::NotFound => {
-            status(alloc, sender, named(alloc, request)?, QuoteState::NotFound)
+            status(alloc, sender, named(request), QuoteState::NotFound)
         }
         WithdrawalRefusal::Unsupported => {
-            let quote_id = copied(alloc, &request.quote_id)?;
+            let quote_id = request.quote_id;
             status(alloc, sender, quote_id, QuoteState::CancelUnsupported)
         }
     }

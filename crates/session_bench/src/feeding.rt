@@ -24,8 +24,8 @@ pub struct Taken {
 
 /// SEF's session with ALPHA.
 fn new_session(alloc: Global) -> Result<Session, AllocError> {
-    let own = Identifier::from_slice(alloc, b"SEF")?;
-    let peer = Identifier::from_slice(alloc, b"ALPHA")?;
+    let own = Identifier::from_slice(b"SEF");
+    let peer = Identifier::from_slice(b"ALPHA");
     Session::new(alloc, &own, &peer)
 }
 

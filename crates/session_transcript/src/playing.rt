@@ -79,17 +79,9 @@ pub fn play(session: &mut Session, call: &Call) -> Result<Answer> {
     Ok(call_once(session, call)?)
 }
 
-// SEF's session with ALPHA.
-fn try_new_session(alloc: Global) -> Result<Session, AllocError> {
-    let own = Identifier::from_slice(alloc, b"SEF")?;
-    let peer = Identifier::from_slice(alloc, b"ALPHA")?;
-    Session::new(alloc, &own, &peer)
-}
-
-/// SEF's new session with ALPHA, made once more where a growth was refused.
+/// SEF's new session with ALPHA.
 pub fn new_session(alloc: Global) -> Result<Session, AllocError> {
-    match try_new_session(alloc) {
-        Ok(session) => Ok(session),
-        Err(_) => try_new_session(alloc),
-    }
+    let own = Identifier::from_slice(b"SEF");
+    let peer = Identifier::from_slice(b"ALPHA");
+    Session::new(alloc, &own, &peer)
 }

@@ -127,8 +127,8 @@ fn session_with_first(alloc: Global, participants: &Participants) -> Result<Sess
     ensures { IfOk result (λ session. session.state ≡ fresh (first_ids participants.now)) }
 {
     let _some = participants.len();
-    let own = name_identifier(alloc, participants.venue())?;
-    let peer = name_identifier(alloc, participants.name(Who::of(FIRST)))?;
+    let own = name_identifier(participants.venue());
+    let peer = name_identifier(participants.name(Who::of(FIRST)));
     Session::new(alloc, &own, &peer)
 }
 

@@ -1,24 +1,42 @@
-//! Names and symbols of the files as identifiers of messages.
+//! Names and symbols of the files, and the venue's numbers, as identifiers of messages.
 
-ghost use Rattle.std.specs.Prelude.{◌≡◌, true, IfOk};
+ghost use Rattle.std.specs.Prelude.{◌≡◌, true};
+ghost use Rattle.fix_dictionary.specs.Values.{is_printable};
 ghost use Rattle.participants.specs.Names.{is_name};
 ghost use Rattle.instruments.specs.Symbols.{is_symbol};
+ghost use Rattle.venue_rules.specs.Rooms.{printed};
 
+use crate::laws::printed_numbers_are_identifiers;
+use arrayvec::ArrayVec;
 use fix_dictionary::Identifier;
-use std::alloc::{AllocError, Global};
+use itoa::Buffer;
 
 /// A participant's name as the identifier that a message has of it.
-pub fn name_identifier(alloc: Global, name: &[u8]) -> Result<Identifier, AllocError>
+pub fn name_identifier(name: &[u8]) -> Identifier
     requires { is_name name.now ≡ true }
-    ensures { IfOk result (λ id. id ≡ name.now) }
+    ensures { result ≡ name.now }
 {
-    Identifier::from_slice(alloc, name)
+    Identifier::from_slice(name)
 }
 
 /// An instrument's symbol as the identifier that a message has of it.
-pub fn symbol_identifier(alloc: Global, symbol: &[u8]) -> Result<Identifier, AllocError>
+pub fn symbol_identifier(symbol: &[u8]) -> Identifier
     requires { is_symbol symbol.now ≡ true }
-    ensures { IfOk result (λ id. id ≡ symbol.now) }
+    ensures { result ≡ symbol.now }
 {
-    Identifier::from_slice(alloc, symbol)
+    Identifier::from_slice(symbol)
+}
+
+/// The identifier that the venue prints for a number: a letter, as `O` for an order, then the digits.
+pub fn printed_identifier(letter: u8, number: u64) -> Identifier
+    requires { is_printable letter ≡ true }
+    ensures { result ≡ printed letter number }
+{
+    let mut digits = Buffer::new();
+    let digits = digits.format(number).as_bytes();
+    let mut bytes = ArrayVec::<u8, 41>::new();
+    bytes.push(letter);
+    bytes.try_extend_from_slice(digits).unwrap();
+    printed_numbers_are_identifiers();
+    Identifier::from_slice(&bytes)
 }

@@ -2,7 +2,8 @@ use crate::{
     PictureEntries, Recipients, RowText, Shown, Who, amounts_stay_within,
     every_book_trade_is_lawful, every_report_is_numbered, every_room_trade_is_lawful,
     every_row_is_read_back, every_run_is_lawful, fills_are_within, fixture_instruments,
-    fixture_participants, name_identifier, printed_numbers_are_identifiers, symbol_identifier,
+    fixture_participants, name_identifier, printed_identifier, printed_numbers_are_identifiers,
+    symbol_identifier,
 };
 use std::test::Fail;
 
@@ -41,10 +42,12 @@ fn lists_are_given_back(rt: HostRuntime) -> Result<(), Fail> {
 
 #[test]
 fn names_as_identifiers(rt: HostRuntime) -> Result<(), Fail> {
-    let name = name_identifier(rt.alloc(), b"ALPHA")?;
-    assert_eq!(rt; name.as_slice(), b"ALPHA".as_slice());
-    let symbol = symbol_identifier(rt.alloc(), b"IRS5Y")?;
-    assert_eq!(rt; symbol.as_slice(), b"IRS5Y".as_slice());
+    assert_eq!(rt; name_identifier(b"ALPHA").as_slice(), b"ALPHA".as_slice());
+    assert_eq!(rt; symbol_identifier(b"IRS5Y").as_slice(), b"IRS5Y".as_slice());
+    assert_eq!(rt;
+        printed_identifier(b'T', 907).as_slice(),
+        b"T907".as_slice()
+    );
     Ok(())
 }
 

@@ -18,33 +18,33 @@ returns-in-Err-clause-planned c =
 pub returns-in-Err-TooSoon-clause-planned : goal.returns-in-Err-TooSoon-clause-planned
 returns-in-Err-TooSoon-clause-planned c =
     IfOk-weaker c.refused.result _ _ (λ a e h read.
-    let P : Refusal → Type 0 = λ cause. IsEntryRefused (market c.args.participants.now c.args.instruments.now) h.facts c.in_ok-first.first c.args.moment cause in
-    e ∙ soon-answers c.args.participants.now c.args.instruments.now c.args.book.now.facts c.args.held.now.facts c.args.counts h (sender c.args.taken.now) c.args.cross.now c.args.moment c.in-Ok.terms c.in_ok-first.first c.in-Err-TooSoon.field-0-0 (c.parts_are_read_alone.ensures h c.args.book.now.facts c.args.held.now.facts c.args.counts read)
-    (record { sound = c.in-Ok.ensures.sound; named = c.in-Ok.ensures.terms; asked = c.in_ok-first.ensures ∙ ap (cross_order c.in-Ok.terms c.args.taken.now.from) c.first_side.ensures })
+    let P : Refusal → Type 0 = λ cause. IsEntryRefused (market c.args.participants.now c.args.instruments.now) h.facts c.side_order-first.result c.args.moment cause in
+    e ∙ soon-answers c.args.participants.now c.args.instruments.now c.args.book.now.facts c.args.held.now.facts c.args.counts h (sender c.args.taken.now) c.args.cross.now c.args.moment c.in-Ok.terms c.side_order-first.result c.in-Err-TooSoon.field-0-0 (c.parts_are_read_alone.ensures h c.args.book.now.facts c.args.held.now.facts c.args.counts read)
+    (record { sound = c.in-Ok.ensures.sound; named = c.in-Ok.ensures.terms; asked = c.side_order-first.ensures ∙ ap (cross_order c.in-Ok.terms c.args.taken.now.from) c.first_side.ensures })
     (subst P c.in-Err-TooSoon.field-0-is (c.in-Err-TooSoon.ensures.refused h c.args.held.now.facts read))) c.refused.ensures.answer
 
 pub returns-in-Err-Full-clause-planned : goal.returns-in-Err-Full-clause-planned
 returns-in-Err-Full-clause-planned c =
     IfOk-weaker c.refused-in-Err-Full.result _ _ (λ a e h read.
-    let P : Refusal → Type 0 = λ cause. IsEntryRefused (market c.args.participants.now c.args.instruments.now) h.facts c.in_ok-first.first c.args.moment cause in
-    e ∙ full-answers c.args.participants.now c.args.instruments.now c.args.book.now.facts c.args.held.now.facts c.args.counts h (sender c.args.taken.now) c.args.cross.now c.args.moment c.in-Ok.terms c.in_ok-first.first (c.parts_are_read_alone.ensures h c.args.book.now.facts c.args.held.now.facts c.args.counts read)
-    (record { sound = c.in-Ok.ensures.sound; named = c.in-Ok.ensures.terms; asked = c.in_ok-first.ensures ∙ ap (cross_order c.in-Ok.terms c.args.taken.now.from) c.first_side.ensures })
+    let P : Refusal → Type 0 = λ cause. IsEntryRefused (market c.args.participants.now c.args.instruments.now) h.facts c.side_order-first.result c.args.moment cause in
+    e ∙ full-answers c.args.participants.now c.args.instruments.now c.args.book.now.facts c.args.held.now.facts c.args.counts h (sender c.args.taken.now) c.args.cross.now c.args.moment c.in-Ok.terms c.side_order-first.result (c.parts_are_read_alone.ensures h c.args.book.now.facts c.args.held.now.facts c.args.counts read)
+    (record { sound = c.in-Ok.ensures.sound; named = c.in-Ok.ensures.terms; asked = c.side_order-first.ensures ∙ ap (cross_order c.in-Ok.terms c.args.taken.now.from) c.first_side.ensures })
     (subst P c.in-Err-Full.field-0-is (c.in-Err-Full.ensures.refused h c.args.held.now.facts read))) c.refused-in-Err-Full.ensures.answer
 
 pub returns-in-Ok-plan_hold-clause-planned : goal.returns-in-Ok-plan_hold-clause-planned
 returns-in-Ok-plan_hold-clause-planned c = λ h read.
-    held-answers c.args.participants.now c.args.instruments.now c.args.book.now.facts c.args.held.now.facts c.args.counts h (sender c.args.taken.now) c.args.cross.now c.args.moment c.in-Ok.terms c.in_ok-first.first c.in-Ok-enter.entered c.with_delay.result c.in_ok-second.second c.in-Ok-plan_hold.plan.facts (c.parts_are_read_alone.ensures h c.args.book.now.facts c.args.held.now.facts c.args.counts read)
-    (record { sound = c.in-Ok.ensures.sound; named = c.in-Ok.ensures.terms; asked = c.in_ok-first.ensures ∙ ap (cross_order c.in-Ok.terms c.args.taken.now.from) c.first_side.ensures })
+    held-answers c.args.participants.now c.args.instruments.now c.args.book.now.facts c.args.held.now.facts c.args.counts h (sender c.args.taken.now) c.args.cross.now c.args.moment c.in-Ok.terms c.side_order-first.result c.in-Ok-enter.entered c.with_delay.result c.held_side-second.result c.in-Ok-plan_hold.plan.facts (c.parts_are_read_alone.ensures h c.args.book.now.facts c.args.held.now.facts c.args.counts read)
+    (record { sound = c.in-Ok.ensures.sound; named = c.in-Ok.ensures.terms; asked = c.side_order-first.ensures ∙ ap (cross_order c.in-Ok.terms c.args.taken.now.from) c.first_side.ensures })
     (c.in-Ok-enter.ensures.planned h c.args.held.now.facts read).0
     (c.in-Ok-enter.ensures.planned h c.args.held.now.facts read).1
-    c.in-Ok-plan_hold.ensures.free c.in_ok-second.ensures (ap (λ p. p.facts) c.in-Ok-plan_hold.ensures.planned) c.with_delay.ensures
+    c.in-Ok-plan_hold.ensures.free c.held_side-second.ensures (ap (λ p. p.facts) c.in-Ok-plan_hold.ensures.planned) c.with_delay.ensures
 
 pub returns-in-Err-Full-plan_hold-clause-planned : goal.returns-in-Err-Full-plan_hold-clause-planned
 returns-in-Err-Full-plan_hold-clause-planned c =
     IfOk-weaker c.refused-in-Err-Full-plan_hold.result _ _ (λ a e h read.
     let P : HoldRefusal → Type 0 = IsHoldRefused c.args.held.now.facts in
-    e ∙ many-answers c.args.participants.now c.args.instruments.now c.args.book.now.facts c.args.held.now.facts c.args.counts h (sender c.args.taken.now) c.args.cross.now c.args.moment c.in-Ok.terms c.in_ok-first.first (c.parts_are_read_alone.ensures h c.args.book.now.facts c.args.held.now.facts c.args.counts read)
-    (record { sound = c.in-Ok.ensures.sound; named = c.in-Ok.ensures.terms; asked = c.in_ok-first.ensures ∙ ap (cross_order c.in-Ok.terms c.args.taken.now.from) c.first_side.ensures })
+    e ∙ many-answers c.args.participants.now c.args.instruments.now c.args.book.now.facts c.args.held.now.facts c.args.counts h (sender c.args.taken.now) c.args.cross.now c.args.moment c.in-Ok.terms c.side_order-first.result (c.parts_are_read_alone.ensures h c.args.book.now.facts c.args.held.now.facts c.args.counts read)
+    (record { sound = c.in-Ok.ensures.sound; named = c.in-Ok.ensures.terms; asked = c.side_order-first.ensures ∙ ap (cross_order c.in-Ok.terms c.args.taken.now.from) c.first_side.ensures })
     (c.in-Ok-enter.ensures.planned h c.args.held.now.facts read).0
     (subst P c.in-Err-Full-plan_hold.field-0-is c.in-Err-Full-plan_hold.ensures.refused)) c.refused-in-Err-Full-plan_hold.ensures.answer
 

@@ -1,6 +1,4 @@
-use Rattle.std.proofs.Common.{◌∙◌, sym, ap, false, List, [], ◌∷◌, None, option_map}
-use Rattle.venue_rules.specs.declared.facts.Fact.{Fact}
-use Rattle.venue_rules.specs.declared.facts.Fact.TheVariants.{Unheld}
+use Rattle.std.proofs.Common.{◌∙◌, sym, ap, false, [], option_map}
 use Rattle.order_answers.specs.Parts.{Parts}
 use Rattle.cross_answers.proofs.Falling.{quiet-tick, tick-answers}
 use Rattle.cross_answers.proofs.ticks.plan_due.Goals as goal
@@ -16,5 +14,5 @@ returns-clause-planned c = λ h read.
     tick-answers c.args.participants.now c.args.instruments.now c.args.book.now.facts c.args.held.now.facts c.args.counts h c.args.moment c.in-Some.side.now c.in_ok-entered.entered c.with_delay.result c.in_ok-plan.plan.facts (c.parts_are_read_alone.ensures h c.args.book.now.facts c.args.held.now.facts c.args.counts read)
     (sym (ap (option_map (λ k. k.now)) c.in-Some.is) ∙ c.due.ensures)
     (c.in_ok-entered.ensures.answer h c.args.held.now.facts read)
-    (ap (λ p. p.facts) c.in_ok-plan.ensures.planned ∙ ap (λ i. let fs : List Fact = Unheld (record { who = c.in-Some.side.now.order.who; id = i; cancel = None }) ∷ [] in fs) c.in_ok-id.ensures)
+    (ap (λ p. p.facts) c.in_ok-plan.ensures.planned)
     c.with_delay.ensures

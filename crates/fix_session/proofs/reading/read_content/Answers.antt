@@ -1,4 +1,3 @@
-use Rattle.fix_session.specs.Body as body_specs
 use Rattle.fix_session.proofs.Readers.{fields_are}
 use Rattle.fix_session.proofs.reading.read_content.Goals as goal
 

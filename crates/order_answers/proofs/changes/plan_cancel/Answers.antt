@@ -21,8 +21,8 @@ returns-then-is_used-clause-planned c =
     let found : find_order c.args.book.now.facts c.args.taken.now.from c.args.request.now.original_id ≡ Some order = sym c.order.ensures.found ∙ ap (option_map seen) c.in-Some.is in
     IfOk-weaker c.change_refused.result _ _ (λ a e. λ h x. e ∙ ap (λ (st : Standing). cancel_refused (sender c.args.taken.now) c.args.request.now (Some st) DuplicateClOrdId) c.standing.ensures ∙ sym (cancel-again (market c.args.participants.now c.args.instruments.now) h c.args.book.now.facts c.args.held.now.facts c.args.counts (sender c.args.taken.now) c.args.request.now order (c.parts_are_read_alone.ensures h c.args.book.now.facts c.args.held.now.facts c.args.counts x) found (sym c.if-is_used.ensures))) c.change_refused.ensures.answer
 
-pub cancel_reply-requires : goal.cancel_reply-requires
-cancel_reply-requires c =
+pub cancel_reply-reply-requires : goal.cancel_reply-reply-requires
+cancel_reply-reply-requires c =
     let order : Resting = seen c.in-Some.order in
     let found : find_order c.args.book.now.facts c.args.taken.now.from c.args.request.now.original_id ≡ Some order = sym c.order.ensures.found ∙ ap (option_map seen) c.in-Some.is in
     order-listed c.args.book.now.facts (length c.args.instruments.now) c.args.taken.now.from c.args.request.now.original_id order c.requires.book_listed found
@@ -34,5 +34,5 @@ returns-clause-planned c = λ h x.
     let alone = c.parts_are_read_alone.ensures h c.args.book.now.facts c.args.held.now.facts c.args.counts x in
     cancel-planned (market c.args.participants.now c.args.instruments.now) h c.args.book.now.facts c.args.held.now.facts c.args.counts (sender c.args.taken.now) c.args.request.now order c.in_ok-plan.plan c.in_ok-replies.replies.items c.of.result
     alone found (sym c.if-is_used.ensures) c.in_ok-plan.ensures.planned
-    (c.in_ok-replies.ensures.items ∙ c.in_ok-reply.ensures (market c.args.participants.now c.args.instruments.now) h refl (ap (λ n. n + 1) (sym alone.reports)))
+    (c.in_ok-replies.ensures.items ∙ c.cancel_reply-reply.ensures (market c.args.participants.now c.args.instruments.now) h refl (ap (λ n. n + 1) (sym alone.reports)))
     (c.of.ensures ∙ ap (λ (q : DelayPlan). let y : Parts = record { delay_first = false; delay = q.facts; book = c.in_ok-plan.plan.facts; replies = c.in_ok-replies.replies.items } in y) c.nothing-nothing.ensures)

@@ -17,8 +17,8 @@ returns-then-is_used-clause-planned c =
     let found : find_held c.args.held.now.facts c.args.taken.now.from c.args.request.now.original_id ≡ Some c.in-Some.side.now = sym c.side.ensures ∙ ap (option_map (λ k. k.now)) c.in-Some.is in
     IfOk-weaker c.change_refused-then-is_used.result _ _ (λ a e. λ participants h x. e ∙ sym (held-again (market participants c.args.instruments.now) h c.args.book.now.facts c.args.held.now.facts c.args.counts (sender c.args.taken.now) c.args.request.now c.in-Some.side.now (c.parts_are_read_alone.ensures h c.args.book.now.facts c.args.held.now.facts c.args.counts x) c.requires.unknown found (sym c.if-is_used.ensures))) c.change_refused-then-is_used.ensures.answer
 
-pub drop_reply-requires : goal.drop_reply-requires
-drop_reply-requires c =
+pub drop_reply-reply-requires : goal.drop_reply-reply-requires
+drop_reply-reply-requires c =
     let found : find_held c.args.held.now.facts c.args.taken.now.from c.args.request.now.original_id ≡ Some c.in-Some.side.now = sym c.side.ensures ∙ ap (option_map (λ k. k.now)) c.in-Some.is in
     held-listed c.args.held.now.facts (length c.args.instruments.now) c.args.taken.now.from c.args.request.now.original_id c.in-Some.side.now c.requires.delay_listed found
 
@@ -28,5 +28,5 @@ returns-clause-planned c = λ participants h x.
     let alone = c.parts_are_read_alone.ensures h c.args.book.now.facts c.args.held.now.facts c.args.counts x in
     drop-planned (market participants c.args.instruments.now) h c.args.book.now.facts c.args.held.now.facts c.args.counts (sender c.args.taken.now) c.args.request.now c.in-Some.side.now c.in_ok-plan.plan c.in_ok-replies.replies.items c.of.result
     alone c.requires.delay_listed c.requires.unknown found (sym c.if-is_used.ensures) c.in_ok-plan.ensures.planned
-    (c.in_ok-replies.ensures.items ∙ c.in_ok-reply.ensures (market participants c.args.instruments.now) h refl (ap (λ n. n + 1) (sym alone.reports)))
+    (c.in_ok-replies.ensures.items ∙ c.drop_reply-reply.ensures (market participants c.args.instruments.now) h refl (ap (λ n. n + 1) (sym alone.reports)))
     (c.of.ensures ∙ ap (λ (q : Plan). let y : Parts = record { delay_first = false; delay = c.in_ok-plan.plan.facts; book = q.facts; replies = c.in_ok-replies.replies.items } in y) c.nothing-nothing.ensures)

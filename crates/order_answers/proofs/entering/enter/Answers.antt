@@ -33,12 +33,12 @@ returns-clause-planned c = λ h delay x.
     let alone = c.parts_are_read_alone.ensures h c.args.book.now.facts delay c.args.counts x in
     let planned = c.in-Ok.ensures.planned in (
       accepted-there m h c.args.book.now.facts delay c.args.counts c.args.order.now c.args.moment alone planned.0,
-      accepted-is m c.args.book.now.facts c.args.order.now c.args.moment (c.args.counts.trades + 1) c.args.counts.reports c.in-Ok.plan c.in-Ok-symbol_of.symbol c.unwrap-entry.result.now c.in-Ok-entry_replies.replies.items c.of.result
+      accepted-is m c.args.book.now.facts c.args.order.now c.args.moment (c.args.counts.trades + 1) c.args.counts.reports c.in-Ok.plan c.symbol_of-symbol.result c.unwrap-entry.result.now c.in-Ok-entry_replies.replies.items c.of.result
           planned.1
-          c.in-Ok-symbol_of.ensures
+          c.symbol_of-symbol.ensures
           (sym (ap (option_map (λ e. e.now)) c.unwrap-entry.ensures) ∙ c.entered.ensures ∙ ap (λ p. slice_get (entries p.facts) 0) planned.1)
           c.in-Ok.ensures.here
-          (c.in-Ok-entry_replies.ensures.replies ∙ ap (λ fs. numbered c.args.counts.reports (reports_of c.in-Ok-symbol_of.symbol c.unwrap-entry.result.now (c.args.counts.trades + 1) fs)) c.fills.ensures)
+          (c.in-Ok-entry_replies.ensures.replies ∙ ap (λ fs. numbered c.args.counts.reports (reports_of c.symbol_of-symbol.result c.unwrap-entry.result.now (c.args.counts.trades + 1) fs)) c.fills.ensures)
           (ap (λ (p : Parts). let a : Answer = record { facts = p.book; replies = p.replies } in a) c.of.ensures)
           ∙ sym (accepted-read m h c.args.book.now.facts delay c.args.counts c.args.order.now c.args.moment alone),
     )

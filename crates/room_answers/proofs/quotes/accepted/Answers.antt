@@ -21,8 +21,8 @@ unwrap-made-requires c =
     is-there (λ q. q.now) c.made.result (first_made c.args.plan.facts) c.made.ensures
     (planned-made c.args.rooms.now.facts c.args.sender.who c.args.quote.now c.args.plan c.requires.planned)
 
-pub symbol_of-requires : goal.symbol_of-requires
-symbol_of-requires c =
+pub symbol_of-symbol-requires : goal.symbol_of-symbol-requires
+symbol_of-symbol-requires c =
     let found : find_room c.args.rooms.now.facts c.args.quote.now.request_id ≡ Some c.unwrap-room.result.now = sym c.find_room.ensures ∙ ap (option_map (λ r. r.now)) c.unwrap-room.ensures in
     find-listed (length c.args.instruments.now) (λ r. bytes_eq (printed 82 r.number) c.args.quote.now.request_id) c.args.rooms.now.facts c.unwrap-room.result.now c.requires.listed found
 
@@ -33,7 +33,7 @@ told-requires c =
 
 pub of-requires-clause-counted : goal.of-requires-clause-counted
 of-requires-clause-counted c =
-    replies-quiet c.args.participants.now c.args.book.now.facts (sent_by c.args.sender (codes "S")) c.args.quote.now c.has_quote-quoted.result c.unwrap-room.result.now c.in_ok-symbol.symbol c.unwrap-made.result.now
+    replies-quiet c.args.participants.now c.args.book.now.facts (sent_by c.args.sender (codes "S")) c.args.quote.now c.has_quote-quoted.result c.unwrap-room.result.now c.symbol_of-symbol.result c.unwrap-made.result.now
     ∙ sym (ap reports_in c.in_ok-replies.ensures)
 
 pub of-requires-clause-traded : goal.of-requires-clause-traded
@@ -47,7 +47,7 @@ returns-clause-told c =
     let found : find_room c.args.rooms.now.facts c.args.quote.now.request_id ≡ Some c.unwrap-room.result.now = sym c.find_room.ensures ∙ ap (option_map (λ r. r.now)) c.unwrap-room.ensures in
     let first : Some c.unwrap-made.result.now ≡ first_made c.args.plan.facts = sym (ap (option_map (λ q. q.now)) c.unwrap-made.ensures) ∙ c.made.ensures in
     planned-answer c.args.participants.now c.args.instruments.now c.args.rooms.now.facts c.args.book.now.facts (sent_by c.args.sender (codes "S")) c.args.quote.now c.unwrap-room.result.now c.unwrap-made.result.now
-    c.args.plan c.in_ok-symbol.symbol c.in_ok-replies.replies.items c.of.result
-    found c.requires.planned first c.in_ok-symbol.ensures
-    (c.in_ok-replies.ensures ∙ ap (λ b. quote_replies c.args.participants.now c.args.book.now.facts (sent_by c.args.sender (codes "S")) c.args.quote.now b c.unwrap-room.result.now c.in_ok-symbol.symbol c.unwrap-made.result.now) c.has_quote-quoted.ensures)
+    c.args.plan c.symbol_of-symbol.result c.in_ok-replies.replies.items c.of.result
+    found c.requires.planned first c.symbol_of-symbol.ensures
+    (c.in_ok-replies.ensures ∙ ap (λ b. quote_replies c.args.participants.now c.args.book.now.facts (sent_by c.args.sender (codes "S")) c.args.quote.now b c.unwrap-room.result.now c.symbol_of-symbol.result c.unwrap-made.result.now) c.has_quote-quoted.ensures)
     c.of.ensures

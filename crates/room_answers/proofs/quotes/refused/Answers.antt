@@ -8,14 +8,14 @@ use Rattle.room_answers.proofs.Quoting.{refused-answer}
 use Rattle.room_answers.proofs.Rooms.{find-listed, if-listed}
 use Rattle.room_answers.proofs.quotes.refused.Goals as goal
 
-pub symbol_in-requires : goal.symbol_in-requires
-symbol_in-requires c = if-listed (λ r. r.now) c.find_room-room.result (length c.args.instruments.now) (λ r e. find-listed (length c.args.instruments.now) (λ r. bytes_eq (printed 82 r.number) c.args.quote.now.request_id) c.args.rooms.now.facts r c.requires (sym c.find_room-room.ensures ∙ e))
+pub symbol_in-symbol-requires : goal.symbol_in-symbol-requires
+symbol_in-symbol-requires c = if-listed (λ r. r.now) c.find_room-room.result (length c.args.instruments.now) (λ r e. find-listed (length c.args.instruments.now) (λ r. bytes_eq (printed 82 r.number) c.args.quote.now.request_id) c.args.rooms.now.facts r c.requires (sym c.find_room-room.ensures ∙ e))
 
 pub returns-clause-told : goal.returns-clause-told
 returns-clause-told c =
     refused-answer c.args.instruments.now (sent_by c.args.sender (codes "S")) c.args.quote.now c.args.cause (find_room c.args.rooms.now.facts c.args.quote.now.request_id)
-    c.in_ok-symbol.symbol c.in_ok-reply.reply c.nothing.result c.in_ok-replies.replies.items c.of.result
-    (c.in_ok-symbol.ensures ∙ ap (symbol_in c.args.instruments.now) c.find_room-room.ensures) c.in_ok-reply.ensures c.in_ok-replies.ensures.items c.nothing.ensures c.of.ensures
+    c.symbol_in-symbol.result c.status-reply.result c.nothing.result c.in_ok-replies.replies.items c.of.result
+    (c.symbol_in-symbol.ensures ∙ ap (symbol_in c.args.instruments.now) c.find_room-room.ensures) c.status-reply.ensures c.in_ok-replies.ensures.items c.nothing.ensures c.of.ensures
 
 pub returns-clause-quiet : goal.returns-clause-quiet
 returns-clause-quiet c = ap (λ (a : Answer). a.facts) c.of.ensures ∙ ap (λ (p : Plan). p.facts) c.nothing.ensures

@@ -6,5 +6,5 @@ use Rattle.room_answers.proofs.quotes.told.Goals as goal
 pub returns : goal.returns
 returns c =
     told-replies c.args.participants.now c.args.book.now.facts (sent_by c.args.sender (codes "S")) c.args.quote.now c.args.quoted c.args.room.now c.args.symbol.now c.args.made.now
-    c.in_ok-quote_sent.field-0 c.in_ok-replies.replies.items c.show.new.replies.items c.push.new.self.items
-    c.in_ok-replies.ensures c.in_ok-show.ensures c.in_ok-quote_sent.ensures c.in_ok-push.ensures.items
+    c.quote_sent.result c.in_ok-replies.replies.items c.show.new.replies.items c.push.new.self.items
+    c.in_ok-replies.ensures c.in_ok-show.ensures c.quote_sent.ensures c.in_ok-push.ensures.items

@@ -15,7 +15,7 @@ use Rattle.room_answers.proofs.Requesting.{accepted-answer, asked-known, request
 use Rattle.room_answers.proofs.requests.plan_request.Goals as goal
 
 pub of-requires-clause-counted : goal.of-requires-clause-counted
-of-requires-clause-counted c = sym (ap reports_in c.in_ok-replies-in-Ok.ensures ∙ sent-quiet c.unwrap-room.result.now c.in_ok-symbol-in-Ok.symbol c.unwrap-room.result.now.recipients)
+of-requires-clause-counted c = sym (ap reports_in c.in_ok-replies-in-Ok.ensures ∙ sent-quiet c.unwrap-room.result.now c.symbol_of-symbol.result c.unwrap-room.result.now.recipients)
 
 pub of-requires-clause-traded : goal.of-requires-clause-traded
 of-requires-clause-traded c = sym (ap (λ (p : Plan). trades_in p.facts) c.in-Ok.ensures.planned)
@@ -25,8 +25,8 @@ returns-in_ok-replies-in-Ok-clause-planned c = λ h e.
     let m : Market = market c.args.participants.now c.args.instruments.now in
     let s : Sender = sent_by c.args.sender (codes "R") in
     let found : Some c.unwrap-room.result.now ≡ first_room c.in-Ok.plan.facts = sym (ap (option_map (λ r. r.now)) c.unwrap-room.ensures) ∙ c.opened.ensures in
-    request-opens m c.unwrap-room.result.now (room_asked m c.args.rooms.now.facts c.args.sender.who c.args.request.now c.args.moment) c.in-Ok.plan c.in_ok-symbol-in-Ok.symbol c.in_ok-replies-in-Ok.replies.items c.of.result
-    c.in-Ok.ensures.planned found c.in_ok-symbol-in-Ok.ensures c.in_ok-replies-in-Ok.ensures c.of.ensures
+    request-opens m c.unwrap-room.result.now (room_asked m c.args.rooms.now.facts c.args.sender.who c.args.request.now c.args.moment) c.in-Ok.plan c.symbol_of-symbol.result c.in_ok-replies-in-Ok.replies.items c.of.result
+    c.in-Ok.ensures.planned found c.symbol_of-symbol.ensures c.in_ok-replies-in-Ok.ensures c.of.ensures
     ∙ accepted-answer c.rooms_decide.ensures.request c.rooms_decide.ensures.opened m h s c.args.request.now c.args.moment c.args.rooms.now.facts e c.in-Ok.ensures.free
 
 pub returns-in_ok-replies-in-Ok-clause-known : goal.returns-in_ok-replies-in-Ok-clause-known

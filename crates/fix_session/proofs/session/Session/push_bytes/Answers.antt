@@ -1,4 +1,4 @@
-use Rattle.std.proofs.Common.{◌≡◌, sym, ap, ◌∙◌, subst}
+use Rattle.std.proofs.Common.{sym, ap, ◌∙◌, subst}
 use Rattle.fix_frame.specs.Buffered.{Buffered}
 use Rattle.fix_session.specs.Reader.{IsSettled, settled}
 use Rattle.fix_session.proofs.Steps.{pushed_is}
