@@ -1,5 +1,5 @@
 -- Whatever fields a printed text has spell the message again, and it is short.
-use Rattle.std.proofs.Common.{◌≡◌, ℕ, ◌≤◌, true, false, List, ◌∷◌, ◌++◌, length, refl, sym, ap, subst, arith, rules, Some, codes}
+use Rattle.std.proofs.Common.{◌≡◌, ℕ, ◌≤◌, List, ◌∷◌, ◌++◌, length, refl, sym, ap, subst, arith, Some, codes}
 use Rattle.fix_fields.specs.Fields.{Entry, AreFields, fields_text}
 use Rattle.fix_fields.proofs.OneList.{one_list}
 use Rattle.fix_dictionary.specs.declared.messages.App.{App}

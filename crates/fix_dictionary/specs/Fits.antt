@@ -1,5 +1,5 @@
 -- The ranges of the values of a message, which its types keep.
-use Rattle.std.specs.Prelude.{◌≡◌, ℕ, ◌≤◌, Bool, true, length, Option, None, Some}
+use Rattle.std.specs.Prelude.{◌≡◌, ℕ, ◌≤◌, true, length, Option, None, Some}
 use Rattle.std.specs.List.{AllByRecursion}
 use Rattle.fix_dictionary.specs.Kinds.{IsOtherKind}
 use Rattle.fix_dictionary.specs.declared.messages.App.TheVariants as app

@@ -1,5 +1,5 @@
 //! Reads each message type with repeating groups from fields in which its table found no fault.
-ghost use Rattle.std.specs.Prelude.{◌≡◌, ◌≤◌, ℕ, IfOk, map, length};
+ghost use Rattle.std.specs.Prelude.{◌≡◌, ◌≤◌, IfOk, map, length};
 ghost use Rattle.fix_fields.specs.Views.{entries};
 ghost use Rattle.fix_dictionary.specs.Tables.{header_rows, entry_type_rows, instrument_rows, market_data_entry_rows, market_data_request_rows, market_data_snapshot_rows};
 ghost use Rattle.fix_dictionary.specs.Holding.{Holds};

@@ -96,7 +96,6 @@ fn may_not_rest(life: Life) -> bool
 
 /// Adds the reports of fills and of what may not rest, numbered after `report`, the first trade being `trade`.
 pub(crate) fn add_fills(
-    alloc: Global,
     replies: &mut Vec<Reply>,
     symbol: &Identifier,
     entry: &Entry,
@@ -157,15 +156,7 @@ pub(crate) fn entry_replies(
             what: What::OrderEntered(new),
         },
     ]?;
-    add_fills(
-        alloc,
-        &mut replies,
-        symbol,
-        entry,
-        fills,
-        trade,
-        reports + 1,
-    )?;
+    add_fills(&mut replies, symbol, entry, fills, trade, reports + 1)?;
     Ok(replies)
 }
 
@@ -194,14 +185,6 @@ pub(crate) fn replaced_replies(
         original_id: *original_id,
     });
     let mut replies = vec![in alloc; Reply { to, what }]?;
-    add_fills(
-        alloc,
-        &mut replies,
-        symbol,
-        entry,
-        fills,
-        trade,
-        reports + 1,
-    )?;
+    add_fills(&mut replies, symbol, entry, fills, trade, reports + 1)?;
     Ok(replies)
 }

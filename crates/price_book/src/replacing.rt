@@ -16,7 +16,7 @@ use fix_dictionary::{Identifier, Price, Quantity};
 use instruments::Instruments;
 use participants::{Participants, Who};
 use sef_moment::Moment;
-use std::alloc::{AllocError, Global};
+use std::alloc::Global;
 use venue_rules::{Entry, Fact, Life, OrderFact};
 
 /// The order that takes the place of a resting one: of the new quantity without what is filled.

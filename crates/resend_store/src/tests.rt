@@ -38,7 +38,7 @@ fn told(
     Ok(told)
 }
 
-/// A Logon, a report, a Heartbeat, a report.
+/// A Logon, an application message, a Heartbeat, an application message.
 fn four_entries(alloc: Global) -> Result<Store, Fail>
     ensures { IfOk result (λ store. length store.entries ≡ 4) }
 {

@@ -15,7 +15,7 @@ use fix_dictionary::QuoteRequest;
 use instruments::Instruments;
 use participants::{Participants, Who};
 use sef_moment::Moment;
-use std::alloc::{AllocError, Global};
+use std::alloc::Global;
 use venue_rules::{Fact, Recipients, RequestRefusal, Room};
 
 /// How many recipients a request may have.

@@ -1,5 +1,5 @@
 //! What is read of quotes off the facts.
-ghost use Rattle.std.specs.Prelude.{◌≡◌, [], ◌∷◌, ◌++◌, is_some, option_map, IfOk};
+ghost use Rattle.std.specs.Prelude.{◌≡◌, is_some, option_map, IfOk};
 ghost use Rattle.std.specs.List.{list_any};
 ghost use Rattle.venue_rules.specs.Facts.{is_quote_id_used, next_quote};
 ghost use Rattle.venue_rules.specs.Rooms.{find_quote, first_quote, is_live, is_replaced, is_withdrawn, last_quote};

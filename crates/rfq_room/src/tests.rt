@@ -1,5 +1,4 @@
 ghost use Rattle.std.specs.Prelude.{◌≡◌, true, length, IfOk};
-ghost use Rattle.fix_dictionary.specs.Values.{IsText};
 ghost use Rattle.participants.specs.Names.{is_name};
 ghost use Rattle.rfq_room.specs.Kept.{are_listed};
 
