@@ -13,13 +13,12 @@ ghost use Rattle.cross_answers.specs.Falling.{fallen, side_turned_away};
 use cross_delay::{Held, due_side_is_held};
 use fix_dictionary::Amount;
 use instruments::Instruments;
-use order_answers::listing::symbol_of;
 use order_answers::{Counts, OrderAnswer, enter, parts_are_read_alone};
 use participants::Participants;
 use price_book::{PriceBook, Refusal};
 use sef_moment::Moment;
 use std::alloc::{AllocError, Global};
-use venue_rules::{HeldSide, OrderRefusal, OrderRefused, OrderReport, Reply, What};
+use venue_rules::{HeldSide, OrderRefusal, OrderRefused, OrderReport, Reply, What, symbol_of};
 
 // The report that refuses a held side as it enters.
 fn refused(

@@ -10,7 +10,7 @@ use Rattle.fix_fields.specs.Cut.{Lacks}
 use Rattle.fix_fields.specs.Fields.{IsValue}
 use Rattle.fix_fields.specs.Forms.{six_digits, without_trailing_zeros, is_empty, millionths_text, price_text}
 use Rattle.fix_fields.proofs.PrintLemmas.{IsValue-decimal, IsValue-utc_text}
-use Rattle.fix_dictionary.specs.Values.{IsText, in_room, is_printable, is_graphic, IsPrice}
+use Rattle.fix_dictionary.specs.Values.{IsText, zero_padded, is_printable, is_graphic, IsPrice}
 
 -- a value of at most so many bytes
 pub record IsShort (longest : ℕ) (bytes : List ℕ) : Type 0 where
@@ -119,8 +119,8 @@ short_price (negsuc n) h =
       short = omega (arith, magnitude.short);
     }
 
-pub room_behind : (bytes : List ℕ) → bytes ++ drop (length bytes) (replicate 64 0) ≡ in_room bytes
-room_behind bytes = rw drop-replicate refl
+pub zeros_behind : (bytes : List ℕ) → bytes ++ drop (length bytes) (replicate 64 0) ≡ zero_padded bytes
+zeros_behind bytes = rw drop-replicate refl
 
-pub room_in_front : (bytes : List ℕ) → take (length bytes) (in_room bytes) ≡ bytes
-room_in_front bytes = take-append_seam bytes (replicate (64 - length bytes) 0)
+pub bytes_in_front : (bytes : List ℕ) → take (length bytes) (zero_padded bytes) ≡ bytes
+bytes_in_front bytes = take-append_seam bytes (replicate (64 - length bytes) 0)

@@ -26,9 +26,9 @@ is_either a b [] = false
 is_either a b (c ∷ []) = (c == a) || (c == b)
 is_either a b (c ∷ d ∷ more) = false
 
--- the bytes in a room of 64, and 0 behind them
-abbrev pub in_room : List ℕ → List ℕ
-in_room bytes = bytes ++ replicate (64 - length bytes) 0
+-- the bytes, and 0 behind them up to 64
+abbrev pub zero_padded : List ℕ → List ℕ
+zero_padded bytes = bytes ++ replicate (64 - length bytes) 0
 
 abbrev pub IsText : ℕ → List ℕ → Type 0
 IsText longest bytes = is_text longest bytes ≡ true

@@ -1,7 +1,7 @@
 //! The first fault of a body's fields.
 ghost use Rattle.std.specs.Prelude.{◌≡◌, ℕ, ◌++◌, ◌≤◌, ◌+◌, length, List, [], is_some, Some, None, ◌&&◌};
 ghost use Rattle.fix_fields.specs.Views.{entries};
-ghost use Rattle.fix_dictionary.specs.Faults.{form_of, has_tag, repeated, missing, fault_as, faulty, first_fault, is_fault};
+ghost use Rattle.fix_dictionary.specs.Faults.{form_of, has_tag, repeated, missing, fault_as, misfit, first_fault};
 
 use crate::forms::value_fault;
 use crate::table::{Form, Row};
@@ -67,31 +67,14 @@ fn missing(rows: &[Row], fields: &[Field]) -> Option<u32>
     None
 }
 
-// Whether the value of a field has this fault.
-fn has_fault(fault: ValueFault, form: Option<Form>, value: &[u8]) -> bool
-    ensures { result ≡ is_fault fault (fault_as form value.now) }
+// What is wrong with a value, by the form that the tables give its tag.
+fn fault_as(form: Option<Form>, value: &[u8]) -> Option<ValueFault>
+    ensures { result ≡ fault_as form value.now }
 {
     match form {
-        Some(form) => value_fault(form, value) == Some(fault),
-        None => false,
+        Some(form) => value_fault(form, value),
+        None => None,
     }
-}
-
-// The first field whose value has this fault.
-pub(crate) fn faulty(
-    fault: ValueFault,
-    header: &[Row],
-    rows: &[Row],
-    fields: &[Field],
-) -> Option<u32>
-    ensures { result ≡ faulty fault (header.now ++ rows.now) (entries fields.now) }
-{
-    for field in fields {
-        if has_fault(fault, form_in(header, rows, field.tag), field.value) {
-            return Some(field.tag);
-        }
-    }
-    None
 }
 
 // The form that a header or a table gives a tag.
@@ -130,6 +113,21 @@ fn missing_in(header: &[Row], rows: &[Row], fields: &[Field]) -> Option<u32>
     }
 }
 
+/// The first field whose value has not its form, or else the first whose value lies outside its range.
+pub(crate) fn misfit(header: &[Row], rows: &[Row], fields: &[Field]) -> Option<DictFault>
+    ensures { result ≡ misfit (header.now ++ rows.now) (entries fields.now) }
+{
+    let mut outside = None;
+    for field in fields {
+        match fault_as(form_in(header, rows, field.tag), field.value) {
+            Some(ValueFault::Format) => return Some(DictFault::Format(field.tag)),
+            Some(ValueFault::Range) => outside = outside.or(Some(DictFault::Range(field.tag))),
+            None => {}
+        }
+    }
+    outside
+}
+
 /// The first fault of the fields.
 #[tactic(auto, unfolding(crate::specs::Faults::first_fault))]
 pub(crate) fn first_fault(header: &[Row], rows: &[Row], fields: &[Field]) -> Option<DictFault>
@@ -141,9 +139,5 @@ pub(crate) fn first_fault(header: &[Row], rows: &[Row], fields: &[Field]) -> Opt
     if let Some(tag) = missing_in(header, rows, fields) {
         return Some(DictFault::Missing(tag));
     }
-    if let Some(tag) = faulty(ValueFault::Format, header, rows, fields) {
-        return Some(DictFault::Format(tag));
-    }
-    let tag = faulty(ValueFault::Range, header, rows, fields)?;
-    Some(DictFault::Range(tag))
+    misfit(header, rows, fields)
 }

@@ -6,10 +6,10 @@ ghost use Rattle.fix_dictionary.specs.Faults.{has_tag};
 ghost use Rattle.fix_dictionary.specs.Places.{places, part, begins};
 ghost use Rattle.fix_dictionary.specs.GroupFaults.{repeats, twice, is_wrong, miscounts, miscounted, lacks, lacking, is_lacking, missing_in, placed_fault};
 
-use crate::faults::{DictFault, faulty};
+use crate::faults::{DictFault, misfit};
 use crate::places::{Stand, Standing, first_tag, group_of, is_count, is_in};
 use crate::table::Row;
-use fix_fields::{Field, ValueFault, read_integer};
+use fix_fields::{Field, read_integer};
 
 // Whether a part has a field with the tag.
 fn has_tag(tag: u32, place: usize, placed: &[Standing]) -> bool
@@ -177,9 +177,5 @@ pub(crate) fn placed_fault(
     if let Some(tag) = missing_in(rows, rows, placed) {
         return Some(DictFault::Missing(tag));
     }
-    if let Some(tag) = faulty(ValueFault::Format, header, rows, fields) {
-        return Some(DictFault::Format(tag));
-    }
-    let tag = faulty(ValueFault::Range, header, rows, fields)?;
-    Some(DictFault::Range(tag))
+    misfit(header, rows, fields)
 }

@@ -23,7 +23,7 @@ mod values;
 pub use faults::DictFault;
 pub use lists::{EntryTypes, MarketDataEntries, Parties};
 pub use messages::{
-    Admin, App, Body, BodyRef, BusinessMessageReject, CrossSide, ExecutionReport, Header,
+    Admin, App, Body, BodyRef, BoxedApp, BusinessMessageReject, CrossSide, ExecutionReport, Header,
     HeaderRef, Heartbeat, Item, Logon, Logout, MarketDataEntry, MarketDataRequest,
     MarketDataRequestReject, MarketDataSnapshot, Message, NewOrderCross, NewOrderSingle,
     OrderCancelReject, OrderCancelReplaceRequest, OrderCancelRequest, Party, Quote, QuoteCancel,

@@ -1,5 +1,5 @@
 //! One struct per message type, its fields in printed order.
-ghost use Rattle.std.specs.Prelude.{◌≡◌};
+ghost use Rattle.std.specs.Prelude.{◌≡◌, IfOk};
 ghost use Rattle.fix_dictionary.specs.Lent.{lent_header};
 ghost use Rattle.fix_dictionary.specs.Values.{IsResend};
 
@@ -9,10 +9,11 @@ use crate::values::{
     Quantity, SequenceNumber, Side, Text,
 };
 use sef_moment::Moment;
+use std::alloc::{AllocError, Global};
 use std::marker::Model;
 
 /// The header, which each message has.
-#[derive(Clone, Copy, Drop)]
+#[derive(Clone, Copy)]
 pub struct Header {
     /// 49
     pub sender: Identifier,
@@ -75,14 +76,14 @@ impl Header {
 }
 
 /// Message type `0`.
-#[derive(Clone, Copy, Drop)]
+#[derive(Clone, Copy)]
 pub struct Heartbeat {
     /// 112
     pub test_id: Option<Identifier>,
 }
 
 /// Message type `1`.
-#[derive(Clone, Copy, Drop)]
+#[derive(Clone, Copy)]
 pub struct TestRequest {
     /// 112
     pub test_id: Identifier,
@@ -149,7 +150,7 @@ pub struct Reject {
 }
 
 /// Message type `4`.
-#[derive(Clone, Copy, Drop)]
+#[derive(Clone, Copy)]
 pub struct SequenceReset {
     /// 123
     pub gap_fill: Option<bool>,
@@ -165,7 +166,7 @@ pub struct Logout {
 }
 
 /// Message type `A`. Its 98 is always 0 and its 1137 always 9.
-#[derive(Clone, Copy, Drop)]
+#[derive(Clone, Copy)]
 pub struct Logon {
     /// 108, in seconds
     pub heartbeat_interval: HeartbeatInterval,
@@ -174,7 +175,7 @@ pub struct Logon {
 }
 
 /// A party: its name (448), the source of the name (447) and its role (452).
-#[derive(Clone, Copy, Drop)]
+#[derive(Clone, Copy)]
 pub struct Party {
     pub id: Identifier,
     pub source: FixChar,
@@ -182,7 +183,7 @@ pub struct Party {
 }
 
 /// One entry of a market data snapshot: its type (269), price (270), size (271) and order (278).
-#[derive(Clone, Copy, Drop)]
+#[derive(Clone, Copy)]
 pub struct MarketDataEntry {
     pub entry_type: FixChar,
     pub price: Option<Price>,
@@ -191,7 +192,7 @@ pub struct MarketDataEntry {
 }
 
 /// One side of a cross: side (54), identifier (11) and quantity (38).
-#[derive(Clone, Copy, Drop)]
+#[derive(Clone, Copy)]
 pub struct CrossSide {
     pub side: Side,
     pub order_id: Identifier,
@@ -239,7 +240,7 @@ pub struct Quote {
 }
 
 /// Message type `Z`.
-#[derive(Clone, Copy, Drop)]
+#[derive(Clone, Copy)]
 pub struct QuoteCancel {
     /// 117
     pub quote_id: Option<Identifier>,
@@ -248,7 +249,7 @@ pub struct QuoteCancel {
 }
 
 /// Message type `AJ`.
-#[derive(Clone, Copy, Drop)]
+#[derive(Clone, Copy)]
 pub struct QuoteResponse {
     /// 693
     pub response_id: Identifier,
@@ -293,7 +294,7 @@ pub struct QuoteRequestReject {
 }
 
 /// Message type `D`.
-#[derive(Clone, Copy, Drop)]
+#[derive(Clone, Copy)]
 pub struct NewOrderSingle {
     /// 11
     pub order_id: Identifier,
@@ -316,7 +317,7 @@ pub struct NewOrderSingle {
 }
 
 /// Message type `F`.
-#[derive(Clone, Copy, Drop)]
+#[derive(Clone, Copy)]
 pub struct OrderCancelRequest {
     /// 11
     pub order_id: Identifier,
@@ -325,7 +326,7 @@ pub struct OrderCancelRequest {
 }
 
 /// Message type `G`.
-#[derive(Clone, Copy, Drop)]
+#[derive(Clone, Copy)]
 pub struct OrderCancelReplaceRequest {
     /// 11
     pub order_id: Identifier,
@@ -340,7 +341,7 @@ pub struct OrderCancelReplaceRequest {
 }
 
 /// Message type `s`.
-#[derive(Clone, Copy, Drop)]
+#[derive(Clone, Copy)]
 pub struct NewOrderCross {
     /// 548
     pub cross_id: Identifier,
@@ -489,6 +490,44 @@ pub enum App {
     Unsupported(OtherKind),
 }
 
+/// An application message in memory of its own: 8 bytes where it stands, whatever it says.
+#[derive(Drop)]
+pub struct BoxedApp {
+    app: Box<App>,
+}
+
+impl Model for BoxedApp {
+    ghost use Rattle.fix_dictionary.specs.declared.messages.App.{App};
+
+    ghost Value = { App };
+
+    ghost view = { λ b. b.app.value };
+}
+
+impl BoxedApp {
+    /// The message, moved to memory of its own.
+    pub fn new(alloc: Global, app: App) -> Result<BoxedApp, AllocError>
+        ensures { IfOk result (λ boxed. boxed ≡ app) }
+    {
+        let app = Box::new(alloc, app)?;
+        Ok(BoxedApp { app })
+    }
+
+    /// The message, lent.
+    pub fn get(&self) -> &App
+        ensures { result.now ≡ self.now }
+    {
+        &self.app
+    }
+
+    /// The message, whose memory is given back.
+    pub fn into_inner(self) -> App
+        ensures { result ≡ self }
+    {
+        Box::into_inner(self.app)
+    }
+}
+
 /// A message of the session.
 #[derive(Drop)]
 pub enum Admin {
@@ -505,7 +544,7 @@ pub enum Admin {
 #[derive(Drop)]
 pub enum Body {
     Admin(Admin),
-    App(App),
+    App(BoxedApp),
 }
 
 /// A body that is lent.
@@ -526,5 +565,5 @@ pub struct Message {
 #[derive(Drop)]
 pub struct Item {
     pub number: SequenceNumber,
-    pub app: App,
+    pub app: BoxedApp,
 }

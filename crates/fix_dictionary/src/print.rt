@@ -645,7 +645,7 @@ pub fn print_message(message: &Message, out: &mut Vec<u8>) -> Result<(), AllocEr
 {
     let body = match &message.body {
         Body::Admin(body) => BodyRef::Admin(body),
-        Body::App(body) => BodyRef::App(body),
+        Body::App(app) => BodyRef::App(app.get()),
     };
     print_parts(&message.header.lent(), body, out)
 }

@@ -19,7 +19,7 @@ ghost use Rattle.fix_dictionary.specs.Text.{fields_of, message_slots, message_te
 
 use crate::faults::{DictFault, first_fault};
 use crate::group_faults::placed_fault;
-use crate::messages::{Admin, App, Body, Message};
+use crate::messages::{Admin, App, Body, BoxedApp, Message};
 use crate::places::{Standing, part, placed};
 use crate::reading::{begin_in, bytes_at};
 use crate::table::{
@@ -111,7 +111,8 @@ fn body_in(
     if is_session(kind) {
         Ok(Body::Admin(admin_in(alloc, kind, begin, fields)?))
     } else {
-        Ok(Body::App(flat_app(alloc, kind, fields)?))
+        let app = flat_app(alloc, kind, fields)?;
+        Ok(Body::App(BoxedApp::new(alloc, app)?))
     }
 }
 
@@ -149,19 +150,19 @@ fn message_in(
     })
 }
 
-// What is behind the header of a message with groups.
-fn grouped_body(
+// What a message with groups says behind its header.
+fn grouped_app(
     alloc: Global,
     kind: MessageType,
     fields: &[Field],
     placed: &[Standing],
-) -> Result<Body, AllocError>
+) -> Result<App, AllocError>
     requires grouped { is_grouped kind ≡ true }
     requires placed { places placed.now ≡ placed_as kind (entries fields.now) }
     requires clean { Clean header_rows (rows_of kind 0) (places placed.now) }
-    ensures { IfOk result (λ b. b ≡ body_in kind (entries fields.now)) }
+    ensures { IfOk result (λ m. Body.App m ≡ body_in kind (entries fields.now)) }
 {
-    Ok(Body::App(match kind {
+    Ok(match kind {
         MessageType::QuoteRequest => {
             App::QuoteRequest(quote_parts::quote_request(alloc, placed)?)
         }
@@ -179,7 +180,23 @@ fn grouped_body(
             group_parts::market_data_snapshot(alloc, placed)?,
         ),
         _ => unreachable!(),
-    }))
+    })
+}
+
+// What is behind the header of a message with groups.
+fn grouped_body(
+    alloc: Global,
+    kind: MessageType,
+    fields: &[Field],
+    placed: &[Standing],
+) -> Result<Body, AllocError>
+    requires grouped { is_grouped kind ≡ true }
+    requires placed { places placed.now ≡ placed_as kind (entries fields.now) }
+    requires clean { Clean header_rows (rows_of kind 0) (places placed.now) }
+    ensures { IfOk result (λ b. b ≡ body_in kind (entries fields.now)) }
+{
+    let app = grouped_app(alloc, kind, fields, placed)?;
+    Ok(Body::App(BoxedApp::new(alloc, app)?))
 }
 
 fn grouped_message(
@@ -325,7 +342,7 @@ fn application(body: Body) -> App
     ensures { body ≡ Body.App result }
 {
     match body {
-        Body::App(app) => app,
+        Body::App(app) => app.into_inner(),
         Body::Admin(_) => unreachable!(),
     }
 }

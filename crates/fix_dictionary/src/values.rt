@@ -1,30 +1,30 @@
 //! The values of single fields.
 ghost use Rattle.std.specs.Prelude.{◌≡◌, ◌≤◌, ℕ, length, IfOk, IsTrue, bytes_eq};
 ghost use Rattle.fix_dictionary.specs.Kinds.{IsOtherKind};
-ghost use Rattle.fix_dictionary.specs.Values.{IsText, in_room, is_graphic, IsFixInt, IsSequenceNumber, IsNewSequenceNumber, IsInterval, IsQuantity, IsAmount, IsPrice};
+ghost use Rattle.fix_dictionary.specs.Values.{IsText, zero_padded, is_graphic, IsFixInt, IsSequenceNumber, IsNewSequenceNumber, IsInterval, IsQuantity, IsAmount, IsPrice};
 
 use std::alloc::{AllocError, Global};
 use std::marker::Model;
 
 /// An identifier: 1 to 64 bytes, each from 32 to 126. It lies in the value: nothing is allocated for it.
-#[derive(Clone, Copy, Drop)]
+#[derive(Clone, Copy)]
 pub struct Identifier {
     // The bytes, and 0 behind them.
-    room: [u8; 64],
+    padded: [u8; 64],
     len: u8,
 }
 
 impl Model for Identifier {
     ghost use Rattle.std.specs.Prelude.{ℕ, List, ◌≡◌, length, take};
-    ghost use Rattle.fix_dictionary.specs.Values.{IsText, in_room};
+    ghost use Rattle.fix_dictionary.specs.Values.{IsText, zero_padded};
 
     ghost Value = { List ℕ };
 
-    ghost view = { λ a. take a.len a.room };
+    ghost view = { λ a. take a.len a.padded };
 
-    ghost invariant = { λ a. IsText 64 (take a.len a.room) × (a.len ≡ length (take a.len a.room)) × (a.room ≡ in_room (take a.len a.room)) };
+    ghost invariant = { λ a. IsText 64 (take a.len a.padded) × (a.len ≡ length (take a.len a.padded)) × (a.padded ≡ zero_padded (take a.len a.padded)) };
 
-    ghost inverse = { λ bytes. record { room = in_room bytes; len = length bytes } };
+    ghost inverse = { λ bytes. record { padded = zero_padded bytes; len = length bytes } };
 
     ghost use Rattle.std.proofs.Common.{refl};
 
@@ -32,25 +32,25 @@ impl Model for Identifier {
 }
 
 // The bytes, and 0 behind them.
-#[tactic(auto, using(crate::proofs::ValueLemmas::room_behind))]
-fn in_room(bytes: &[u8]) -> [u8; 64]
+#[tactic(auto, using(crate::proofs::ValueLemmas::zeros_behind))]
+fn zero_padded(bytes: &[u8]) -> [u8; 64]
     requires { length bytes.now ≤ 64 }
-    ensures { result ≡ in_room bytes.now }
+    ensures { result ≡ zero_padded bytes.now }
 {
-    let mut room = [0; 64];
-    room[..bytes.len()].copy_from_slice(bytes);
-    room
+    let mut all = [0; 64];
+    all[..bytes.len()].copy_from_slice(bytes);
+    all
 }
 
 impl Identifier {
     /// The identifier with these bytes.
-    #[tactic(auto, using(crate::proofs::ValueLemmas::room_in_front))]
+    #[tactic(auto, using(crate::proofs::ValueLemmas::bytes_in_front))]
     pub fn from_slice(bytes: &[u8]) -> Identifier
         requires { IsText 64 bytes.now }
         ensures { result ≡ bytes.now }
     {
         Identifier {
-            room: in_room(bytes),
+            padded: zero_padded(bytes),
             len: bytes.len() as u8,
         }
     }
@@ -59,7 +59,7 @@ impl Identifier {
         ensures value { result.now ≡ self.now }
         ensures range { IsText 64 result.now }
     {
-        &self.room[..usize::from(self.len)]
+        &self.padded[..usize::from(self.len)]
     }
 
     /// Whether the other has the same bytes.
@@ -400,7 +400,7 @@ pub enum Side {
 }
 
 /// A message type that is none of the venue or of the session.
-#[derive(Clone, Copy, Drop)]
+#[derive(Clone, Copy)]
 pub struct OtherKind {
     kind: Identifier,
 }

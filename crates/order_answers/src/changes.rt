@@ -15,7 +15,6 @@ ghost use Rattle.order_answers.specs.Reads.{AreCounts, IsRead};
 use crate::answer::OrderAnswer;
 use crate::counts::Counts;
 use crate::laws::parts_are_read_alone;
-use crate::listing::symbol_of;
 use crate::used::is_used;
 use cross_delay::{Held, HoldPlan};
 use fix_dictionary::{Amount, Identifier, OrderCancelRequest};
@@ -25,7 +24,7 @@ use price_book::{FillPlan, PriceBook, Resting};
 use std::alloc::{AllocError, Global};
 use venue_rules::{
     ChangeKind, ChangeRefusal, ChangeRefused, ChangedReport, HeldSide, OrderReport, Reply,
-    Standing, Taken, What,
+    Standing, Taken, What, symbol_of,
 };
 
 /// What is told of a resting order that a refused change names.

@@ -13,7 +13,6 @@ ghost use Rattle.order_answers.specs.Reads.{AreCounts, IsRead};
 use crate::answer::OrderAnswer;
 use crate::counts::Counts;
 use crate::laws::parts_are_read_alone;
-use crate::listing::symbol_of;
 use crate::reports::entry_replies;
 use cross_delay::HoldPlan;
 use instruments::Instruments;
@@ -21,7 +20,7 @@ use participants::Participants;
 use price_book::{PriceBook, Refusal};
 use sef_moment::Moment;
 use std::alloc::Global;
-use venue_rules::OrderFact;
+use venue_rules::{OrderFact, symbol_of};
 
 /// What is answered to an order as it enters, where the book does not refuse it; makes room for what it adds to the book.
 /// Nothing is said of the held sides.

@@ -1,10 +1,9 @@
 //! What the files say of an instrument.
 ghost use Rattle.std.specs.Prelude.{◌≡◌, ◌<◌, true, false, length, nat_lt, MatchOption, Some};
-ghost use Rattle.instruments.specs.Listing.{instrument_of, is_off_tick, is_unknown_instrument, least_of, symbol_of, tick_of};
+ghost use Rattle.instruments.specs.Listing.{instrument_of, is_off_tick, is_unknown_instrument, least_of, tick_of};
 
 use fix_dictionary::{Identifier, Price, Quantity};
 use instruments::Instruments;
-use venue_rules::symbol_identifier;
 
 /// The instrument of a symbol, by its place in the file.
 pub fn instrument_of(instruments: &Instruments, symbol: &Identifier) -> Option<u32>
@@ -28,12 +27,4 @@ pub fn is_below_least(instruments: &Instruments, instrument: u32, quantity: Quan
     ensures { result ≡ nat_lt quantity (least_of instruments.now instrument) }
 {
     quantity.get() < instruments.get(instrument).least
-}
-
-/// The symbol of an instrument, as messages have it.
-pub fn symbol_of(instruments: &Instruments, instrument: u32) -> Identifier
-    requires { instrument < length instruments.now }
-    ensures { result ≡ symbol_of instruments.now instrument }
-{
-    symbol_identifier(instruments.get(instrument).symbol.as_slice())
 }

@@ -46,7 +46,7 @@ pub fn unprocessed(
     ensures planned { IfOk result (λ a. answer_of a ≡ unprocessed (sender taken.now) cause) }
     ensures quiet { IfOk result (λ a. (a.book ≡ []) × (a.delay ≡ [])) }
 {
-    let kind = Identifier::from_slice(type_of(&taken.item.app));
+    let kind = Identifier::from_slice(type_of(taken.item.app.get()));
     let what = What::Unprocessed(Unprocessed {
         number: taken.item.number,
         kind,

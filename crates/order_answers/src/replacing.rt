@@ -16,7 +16,7 @@ use crate::answer::OrderAnswer;
 use crate::changes::{change_refused, standing};
 use crate::counts::Counts;
 use crate::laws::parts_are_read_alone;
-use crate::listing::{is_below_least, is_off_tick, symbol_of};
+use crate::listing::{is_below_least, is_off_tick};
 use crate::messages::unprocessed;
 use crate::orders::is_limit;
 use crate::reports::replaced_replies;
@@ -28,7 +28,7 @@ use participants::Participants;
 use price_book::{FillPlan, PriceBook, Refusal, Resting};
 use sef_moment::Moment;
 use std::alloc::{AllocError, Global};
-use venue_rules::{BusinessRefusal, ChangeKind, ChangeRefusal, Standing, Taken, Who};
+use venue_rules::{BusinessRefusal, ChangeKind, ChangeRefusal, Standing, Taken, Who, symbol_of};
 
 /// Why a replacement of a resting order is turned away before the book is asked.
 #[derive(Clone, Copy)]

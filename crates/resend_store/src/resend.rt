@@ -72,7 +72,7 @@ impl<'a> Iterator for Resends<'a> {
             self.number += 1;
             return Some(Resend::Repeat {
                 number,
-                app,
+                app: app.get(),
                 first_sent: *first_sent,
             });
         }

@@ -8,7 +8,7 @@ ghost use Rattle.resend_store.specs.declared.store.StoreFault.TheVariants.{Full,
 
 use crate::entry::Entry;
 use crate::resend::Resends;
-use fix_dictionary::{App, SequenceNumber};
+use fix_dictionary::{App, BoxedApp, SequenceNumber};
 use sef_moment::Moment;
 use std::alloc::{AllocError, Global};
 use std::marker::Model;
@@ -93,7 +93,8 @@ impl Store {
             return Err(StoreFault::Full);
         }
         self.entries.reserve(1)?;
-        let app = app.copy(*self.entries.allocator())?;
+        let alloc = *self.entries.allocator();
+        let app = BoxedApp::new(alloc, app.copy(alloc)?)?;
         self.entries
             .push_reserved(Entry::Application { app, first_sent: t });
         Ok(())

@@ -1,19 +1,10 @@
 //! What the files say of instruments.
 ghost use Rattle.std.specs.Prelude.{◌≡◌, ◌<◌, length, option_map, IfSome};
-ghost use Rattle.instruments.specs.Listing.{symbol_of};
 ghost use Rattle.room_answers.specs.Sent.{symbol_in};
 
 use fix_dictionary::Identifier;
 use instruments::Instruments;
-use venue_rules::{Room, symbol_identifier};
-
-/// The symbol of an instrument, as messages have it.
-pub(crate) fn symbol_of(instruments: &Instruments, instrument: u32) -> Identifier
-    requires { instrument < length instruments.now }
-    ensures { result ≡ symbol_of instruments.now instrument }
-{
-    symbol_identifier(instruments.get(instrument).symbol.as_slice())
-}
+use venue_rules::{Room, symbol_of};
 
 /// The symbol of a room, where there is one.
 pub(crate) fn symbol_in(instruments: &Instruments, room: Option<&Room>) -> Option<Identifier>

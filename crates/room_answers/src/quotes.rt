@@ -18,7 +18,7 @@ ghost use Rattle.room_answers.specs.Senders.{market, sent_by};
 ghost use Rattle.room_answers.specs.Sent.{prices_sent, quote_sent, rests, shown_unless, symbol_in};
 
 use crate::answer::RoomAnswer;
-use crate::listing::{symbol_in, symbol_of};
+use crate::listing::symbol_in;
 use crate::sender::Sender;
 use fix_dictionary::{Identifier, Quote};
 use instruments::Instruments;
@@ -29,7 +29,7 @@ use sef_moment::Moment;
 use std::alloc::{AllocError, Global};
 use venue_rules::{
     Fact, PictureEntries, Prices, QuoteRefusal, QuoteSent, QuoteState, QuoteStatus, Reply, Room,
-    RoomQuote, What, name_identifier,
+    RoomQuote, What, name_identifier, symbol_of,
 };
 
 // What is said of a quote to its maker, by the maker's identifiers.

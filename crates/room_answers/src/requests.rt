@@ -11,7 +11,6 @@ ghost use Rattle.room_answers.specs.Senders.{market, sent_by};
 ghost use Rattle.room_answers.specs.Sent.{request_sent};
 
 use crate::answer::RoomAnswer;
-use crate::listing::symbol_of;
 use crate::sender::Sender;
 use fix_dictionary::{Identifier, QuoteRequest};
 use instruments::Instruments;
@@ -19,7 +18,9 @@ use participants::{Participants, Who};
 use rfq_room::{Cause, RoomPlan, Rooms, rooms_decide};
 use sef_moment::Moment;
 use std::alloc::{AllocError, Global};
-use venue_rules::{Fact, Reply, RequestRefusal, RequestRefused, RequestSent, Room, What};
+use venue_rules::{
+    Fact, Reply, RequestRefusal, RequestRefused, RequestSent, Room, What, symbol_of,
+};
 
 // A request refused.
 fn refused(

@@ -18,7 +18,7 @@ ghost use Rattle.room_answers.specs.Senders.{market, sent_by};
 ghost use Rattle.room_answers.specs.Sent.{other_side, symbol_in, traded_report};
 
 use crate::answer::RoomAnswer;
-use crate::listing::{symbol_in, symbol_of};
+use crate::listing::symbol_in;
 use crate::sender::Sender;
 use crate::unprocessed::unprocessed;
 use crate::withdrawals::to_maker;
@@ -30,7 +30,7 @@ use sef_moment::Moment;
 use std::alloc::{AllocError, Global};
 use venue_rules::{
     BusinessRefusal, QuoteState, QuoteStatus, Reply, ResponseRefusal, Room, RoomQuote, RoomReport,
-    What,
+    What, symbol_of,
 };
 
 // The requester's identifier of the request of a room, where there is one.

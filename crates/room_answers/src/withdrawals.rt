@@ -15,7 +15,6 @@ ghost use Rattle.room_answers.specs.Senders.{market, sent_by};
 ghost use Rattle.room_answers.specs.Sent.{both_told, named_status, to_maker, to_requester};
 
 use crate::answer::RoomAnswer;
-use crate::listing::symbol_of;
 use crate::sender::Sender;
 use crate::unprocessed::unprocessed;
 use fix_dictionary::{Identifier, QuoteCancel};
@@ -25,6 +24,7 @@ use sef_moment::Moment;
 use std::alloc::{AllocError, Global};
 use venue_rules::{
     BusinessRefusal, QuoteState, QuoteStatus, Reply, Room, RoomQuote, What, printed_identifier,
+    symbol_of,
 };
 
 /// What is said of a quote of a room to its maker: by its own identifier of the quote, and the venue's of the room.

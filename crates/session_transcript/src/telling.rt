@@ -74,7 +74,7 @@ fn tell_item(alloc: Global, item: &Item, told: &mut Vec<u8>) -> Result<(), Alloc
     let number = item.number.get();
     let front = format!(in alloc; "{number}: ")?;
     let mut text = Vec::from_slice(alloc, front.as_bytes())?;
-    print_app(&item.app, &mut text)?;
+    print_app(item.app.get(), &mut text)?;
     tell_bytes(&text, told)
 }
 

@@ -30,7 +30,7 @@ pub(crate) fn plan_message(
     ensures planned { IfOk result (IsPlanned (standing day.old) (λ h. answer (market_of market.now) h taken.now moment)) }
     ensures made { IfOk result (IsMade (market_of market.now) day.new) }
 {
-    match &taken.item.app {
+    match taken.item.app.get() {
         App::NewOrderSingle(order) => plan_order(alloc, market, day, taken, order, moment),
         App::OrderCancelRequest(request) => plan_cancel(alloc, market, day, taken, request),
         App::OrderCancelReplaceRequest(request) => {

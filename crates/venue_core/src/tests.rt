@@ -5,7 +5,7 @@ ghost use Rattle.venue_core.specs.Plan.{IsPlanOf};
 
 use crate::timed::{Timed, all_said, said_at, said_of};
 use crate::{Plan, Venue, message_of};
-use fix_dictionary::{App, Item, SequenceNumber, print_app, read_app};
+use fix_dictionary::{App, BoxedApp, Item, SequenceNumber, print_app, read_app};
 use fix_fields::split;
 use sef_moment::Moment;
 use std::alloc::{AllocError, Global};
@@ -60,7 +60,10 @@ pub(crate) fn taken(alloc: Global, number: u32, line: &[u8]) -> Option<Taken>
     let number = SequenceNumber::new(number);
     Some(Taken {
         from: participant(*from),
-        item: Item { number, app },
+        item: Item {
+            number,
+            app: BoxedApp::new(alloc, app).ok()?,
+        },
     })
 }
 

@@ -1,14 +1,15 @@
 //! Names and symbols of the files, and the venue's numbers, as identifiers of messages.
 
-ghost use Rattle.std.specs.Prelude.{◌≡◌, true};
+ghost use Rattle.std.specs.Prelude.{◌≡◌, ◌<◌, true, length};
 ghost use Rattle.fix_dictionary.specs.Values.{is_printable};
 ghost use Rattle.participants.specs.Names.{is_name};
-ghost use Rattle.instruments.specs.Symbols.{is_symbol};
+ghost use Rattle.instruments.specs.Listing.{symbol_of};
 ghost use Rattle.venue_rules.specs.Rooms.{printed};
 
 use crate::laws::printed_numbers_are_identifiers;
 use arrayvec::ArrayVec;
 use fix_dictionary::Identifier;
+use instruments::Instruments;
 use itoa::Buffer;
 
 /// A participant's name as the identifier that a message has of it.
@@ -19,12 +20,12 @@ pub fn name_identifier(name: &[u8]) -> Identifier
     Identifier::from_slice(name)
 }
 
-/// An instrument's symbol as the identifier that a message has of it.
-pub fn symbol_identifier(symbol: &[u8]) -> Identifier
-    requires { is_symbol symbol.now ≡ true }
-    ensures { result ≡ symbol.now }
+/// The symbol of an instrument as the identifier that a message has of it.
+pub fn symbol_of(instruments: &Instruments, instrument: u32) -> Identifier
+    requires { instrument < length instruments.now }
+    ensures { result ≡ symbol_of instruments.now instrument }
 {
-    Identifier::from_slice(symbol)
+    Identifier::from_slice(instruments.get(instrument).symbol.as_slice())
 }
 
 /// The identifier that the venue prints for a number: a letter, as `O` for an order, then the digits.
@@ -34,7 +35,7 @@ pub fn printed_identifier(letter: u8, number: u64) -> Identifier
 {
     let mut digits = Buffer::new();
     let digits = digits.format(number).as_bytes();
-    let mut bytes = ArrayVec::<u8, 41>::new();
+    let mut bytes = ArrayVec::<u8, 21>::new();
     bytes.push(letter);
     bytes.try_extend_from_slice(digits).unwrap();
     printed_numbers_are_identifiers();

@@ -17,7 +17,7 @@ pub use facts::{
     Trade, Withdrawal,
 };
 pub use fixture::{fixture_instruments, fixture_participants};
-pub use identifiers::{name_identifier, printed_identifier, symbol_identifier};
+pub use identifiers::{name_identifier, printed_identifier, symbol_of};
 pub use laws::{
     amounts_stay_within, every_book_trade_is_lawful, every_report_is_numbered,
     every_room_trade_is_lawful, every_row_is_read_back, every_run_is_lawful, fills_are_within,

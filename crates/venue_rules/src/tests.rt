@@ -3,7 +3,7 @@ use crate::{
     every_book_trade_is_lawful, every_report_is_numbered, every_room_trade_is_lawful,
     every_row_is_read_back, every_run_is_lawful, fills_are_within, fixture_instruments,
     fixture_participants, name_identifier, printed_identifier, printed_numbers_are_identifiers,
-    symbol_identifier,
+    symbol_of,
 };
 use std::test::Fail;
 
@@ -43,7 +43,11 @@ fn lists_are_given_back(rt: HostRuntime) -> Result<(), Fail> {
 #[test]
 fn names_as_identifiers(rt: HostRuntime) -> Result<(), Fail> {
     assert_eq!(rt; name_identifier(b"ALPHA").as_slice(), b"ALPHA".as_slice());
-    assert_eq!(rt; symbol_identifier(b"IRS5Y").as_slice(), b"IRS5Y".as_slice());
+    let instruments = fixture_instruments(rt.alloc(), 15_000)?;
+    assert_eq!(rt;
+        symbol_of(&instruments, 1).as_slice(),
+        b"BASIS1Y".as_slice()
+    );
     assert_eq!(rt;
         printed_identifier(b'T', 907).as_slice(),
         b"T907".as_slice()

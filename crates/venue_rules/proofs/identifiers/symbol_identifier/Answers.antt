@@ -1,5 +1,0 @@
-use Rattle.venue_rules.proofs.NameLemmas.{symbol-IsText}
-use Rattle.venue_rules.proofs.identifiers.symbol_identifier.Goals as goal
-
-pub from_slice-requires : goal.from_slice-requires
-from_slice-requires c = symbol-IsText c.args.symbol.now c.requires
