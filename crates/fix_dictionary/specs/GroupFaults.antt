@@ -1,15 +1,14 @@
 -- The first fault of a list of fields, seen by a table with repeating groups.
 use Rattle.std.specs.Prelude.{ℕ, ◌==◌, Bool, false, ◌&&◌, ◌||◌, not, if◌then◌else◌, List, [], ◌∷◌, ◌++◌, length, Option, None, Some}
-use Rattle.fix_fields.specs.declared.value.ValueFault.TheVariants as value
 use Rattle.fix_fields.specs.Fields.{Entry}
 use Rattle.fix_fields.specs.GroupParts.{tells}
 use Rattle.fix_dictionary.specs.Told.{some_or}
 use Rattle.fix_dictionary.specs.declared.faults.DictFault.{DictFault}
-use Rattle.fix_dictionary.specs.declared.faults.DictFault.TheVariants.{Twice, Count, Missing, Format, Range}
+use Rattle.fix_dictionary.specs.declared.faults.DictFault.TheVariants.{Twice, Count, Missing}
 use Rattle.fix_dictionary.specs.declared.table.Row.{Row}
 use Rattle.fix_dictionary.specs.declared.places.Stand.{Stand}
 use Rattle.fix_dictionary.specs.declared.places.Stand.TheVariants.{Aside, Within, Begins, Stray}
-use Rattle.fix_dictionary.specs.Faults.{has_tag, faulty, or_else}
+use Rattle.fix_dictionary.specs.Faults.{has_tag, misfit, or_else}
 use Rattle.fix_dictionary.specs.Places.{Placed, group_of, first_tag, is_count, part, begins}
 
 -- the tag stands before in its part
@@ -69,6 +68,4 @@ placed_fault header rows ps fields =
     or_else Twice (twice [] ps)
     (or_else Count (miscounted rows ps ps)
     (or_else Missing (missing_in rows header ps)
-    (or_else Missing (missing_in rows rows ps)
-    (or_else Format (faulty value.Format (header ++ rows) fields)
-    (or_else Range (faulty value.Range (header ++ rows) fields) None)))))
+    (or_else Missing (missing_in rows rows ps) (misfit (header ++ rows) fields))))

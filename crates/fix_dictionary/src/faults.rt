@@ -1,5 +1,5 @@
 //! The first fault of a body's fields.
-ghost use Rattle.std.specs.Prelude.{◌≡◌, ℕ, ◌++◌, ◌≤◌, ◌+◌, length, List, [], is_some, Some, None, ◌&&◌};
+ghost use Rattle.std.specs.Prelude.{◌≡◌, ◌++◌, ◌+◌, [], is_some, Some, None, ◌&&◌};
 ghost use Rattle.fix_fields.specs.Views.{entries};
 ghost use Rattle.fix_dictionary.specs.Faults.{form_of, has_tag, repeated, missing, fault_as, misfit, first_fault};
 

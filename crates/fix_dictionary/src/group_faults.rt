@@ -1,5 +1,5 @@
 //! The first fault of the fields of a message with repeating groups.
-ghost use Rattle.std.specs.Prelude.{◌≡◌, ℕ, ◌++◌, ◌≤◌, ◌+◌, length, List, [], Some, None};
+ghost use Rattle.std.specs.Prelude.{◌≡◌, ◌+◌, length, [], Some, None};
 ghost use Rattle.fix_fields.specs.Views.{entry, entries};
 ghost use Rattle.fix_fields.specs.GroupParts.{tells};
 ghost use Rattle.fix_dictionary.specs.Faults.{has_tag};

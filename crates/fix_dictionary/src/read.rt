@@ -1,6 +1,6 @@
 //! Reads messages.
 ghost use Rattle.std.specs.Prelude.{◌≡◌, ◌++◌, ◌⊎◌, ◌≤◌, true, false, None, List, length, IfOk, MatchResult};
-ghost use Rattle.fix_fields.specs.Fields.{Entry, value_of, AreFields, fields_text};
+ghost use Rattle.fix_fields.specs.Fields.{Entry, AreFields, fields_text};
 ghost use Rattle.fix_dictionary.specs.Tables.{header_rows, rows_of};
 ghost use Rattle.fix_dictionary.specs.Holding.{Holds};
 ghost use Rattle.fix_dictionary.specs.GroupHolding.{Clean};

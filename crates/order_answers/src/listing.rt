@@ -1,6 +1,6 @@
 //! What the files say of an instrument.
-ghost use Rattle.std.specs.Prelude.{◌≡◌, ◌<◌, true, false, length, nat_lt, MatchOption, Some};
-ghost use Rattle.instruments.specs.Listing.{instrument_of, is_off_tick, is_unknown_instrument, least_of, tick_of};
+ghost use Rattle.std.specs.Prelude.{◌≡◌, ◌<◌, true, false, length, nat_lt, MatchOption};
+ghost use Rattle.instruments.specs.Listing.{instrument_of, is_off_tick, is_unknown_instrument, least_of};
 
 use fix_dictionary::{Identifier, Price, Quantity};
 use instruments::Instruments;
