@@ -561,9 +561,10 @@ pub struct Message {
     pub body: Body,
 }
 
-/// An application message as a session accepted it: its number (34) and what it says.
+/// An application message as a session accepted it: its era, from 1, its number (34) in that era, and what it says.
 #[derive(Drop)]
 pub struct Item {
+    pub era: u32,
     pub number: SequenceNumber,
     pub app: BoxedApp,
 }

@@ -24,6 +24,7 @@ use Rattle.fix_session.specs.declared.plan.Notice.TheVariants as notice
 use Rattle.fix_session.specs.declared.plan.Sends.{Sends}
 use Rattle.fix_session.specs.declared.plan.Sends.TheVariants.{Nothing, One, Two}
 use Rattle.fix_session.specs.declared.plan.Plan.{Plan}
+use Rattle.fix_session.specs.State.{State}
 
 -- the text (58) of a Logout
 unfoldable pub too_low_text : ℕ → ℕ → List ℕ
@@ -121,10 +122,20 @@ abbrev pub asked_frames : CompIds → ℕ → List Entry → Option Resend → L
 asked_frames ids t entries None = []
 asked_frames ids t entries (Some request) = again_frames ids t (resent request.begin (asked request.begin request.end entries))
 
--- what a plan writes at moment t: what is asked for again, then the new messages under the next numbers
+-- what a plan writes at moment t: in a new era its messages from number 1 on; else what is asked for again of these entries,
+-- which are those of the era, then the new messages under the next numbers
 unfoldable pub written : CompIds → List Entry → ℕ → List ℕ → Content → Plan → List ℕ
 written ids entries t kind said plan =
-    asked_frames ids t entries plan.again ++ sends_frames ids t kind said (length entries + 1) plan.sends
+    if plan.begins
+    then sends_frames ids t kind said 1 plan.sends
+    else asked_frames ids t entries plan.again ++ sends_frames ids t kind said (length entries + 1) plan.sends
+
+-- the eras that are over, and the entries of the era, where a new one begins or does not
+abbrev pub past_after : Bool → List (List Entry) → List Entry → List (List Entry)
+past_after begins past entries = if begins then past ++ entries ∷ [] else past
+
+abbrev pub entries_in : Bool → List Entry → List Entry
+entries_in begins entries = if begins then [] else entries
 
 -- the entries that these messages make
 abbrev pub marks : Sends → List Entry
@@ -140,3 +151,15 @@ apps_of (entry.Application app first_sent) = app ∷ []
 abbrev pub apps : List Entry → List App
 apps [] = []
 apps (e ∷ es) = apps_of e ++ apps es
+
+-- those among the entries of these eras
+abbrev pub apps_past : List (List Entry) → List App
+apps_past [] = []
+apps_past (es ∷ past) = apps es ++ apps_past past
+
+-- the application messages that were numbered for the counterparty, era after era, in order
+abbrev pub numbered_in : List (List Entry) → List Entry → List App
+numbered_in past entries = apps_past past ++ apps entries
+
+abbrev pub numbered : State → List App
+numbered s = numbered_in s.past s.entries

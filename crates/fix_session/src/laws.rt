@@ -1,40 +1,47 @@
 //! Laws over every list of a session's calls: each is the contract of a function with no parameters.
 
-ghost use Rattle.std.specs.Prelude.{◌≡◌, ℕ, List, [], ◌++◌, map};
+ghost use Rattle.std.specs.Prelude.{◌≡◌, ℕ, List, [], ◌++◌, length, map};
 ghost use Rattle.fix_session.specs.declared.comp_ids.CompIds.{CompIds};
 ghost use Rattle.fix_session.specs.Body.{frame_in};
-ghost use Rattle.fix_session.specs.Chain.{accepted, due_after, Rises};
+ghost use Rattle.fix_session.specs.Chain.{accepted, due_after, era_after, Rises};
 ghost use Rattle.fix_session.specs.Heard.{Heard};
 ghost use Rattle.fix_session.specs.Machine.{step, AtEnd};
 ghost use Rattle.fix_session.specs.Reader.{Reader};
 ghost use Rattle.fix_session.specs.Runs.{AreFirst, Event, begin, frames_since, replies, run};
-ghost use Rattle.fix_session.specs.Sent.{apps};
-ghost use Rattle.fix_session.specs.State.{State};
+ghost use Rattle.fix_session.specs.Sent.{numbered};
+ghost use Rattle.fix_session.specs.Shorter.{Shortens};
+ghost use Rattle.fix_session.specs.State.{State, era_of};
 
 use fix_fields::{one_fault, one_list, some_reading};
 use fix_frame::stream_laws;
 
 /// Over every list of calls, what was taken and then what is ready is what the heard frames spell, and the number due is the
-/// chain's.
+/// chain's, and so is the era.
 pub fn taken_then_ready()
     ensures accepted { (r : Reader) (ids : CompIds) (events : List Event) → (run r events (begin ids)).taken ++ (run r events (begin ids)).session.ready ≡ accepted (run r events (begin ids)).heard }
+    ensures era { (r : Reader) (ids : CompIds) (events : List Event) → era_of (run r events (begin ids)).session.past ≡ era_after (run r events (begin ids)).heard }
     ensures due { (r : Reader) (ids : CompIds) (events : List Event) → (run r events (begin ids)).session.line.due ≡ due_after (run r events (begin ids)).heard }
 {}
 
-/// Whatever is heard, the numbers of what is accepted rise: each message once.
+/// Whatever is heard, the eras of what is accepted, and within an era the numbers, rise: each message once.
 pub fn numbers_rise()
-    ensures { (heard : List Heard) → Rises 1 (accepted heard) }
+    ensures { (heard : List Heard) → Rises 1 1 (accepted heard) }
 {}
 
-/// Over every list of calls, the application messages among what was numbered are the replies that were sent, in order,
-/// whatever lines broke.
+/// Over every list of calls, the application messages among what was numbered, era after era, are the replies that were sent,
+/// in order, whatever lines broke and whatever eras began.
 pub fn replies_in_order()
-    ensures { (r : Reader) (ids : CompIds) (events : List Event) → apps (run r events (begin ids)).session.entries ≡ replies r (begin ids) events }
+    ensures { (r : Reader) (ids : CompIds) (events : List Event) → numbered (run r events (begin ids)).session ≡ replies r (begin ids) events }
 {}
 
 /// A step answers Idle only where no frame is unread or the line is down.
 pub fn idle_at_the_end()
     ensures { (r : Reader) (s : State) (t : ℕ) → AtEnd r (step r s t).0 (step r s t).1 }
+{}
+
+/// A step that did something leaves fewer bytes unread.
+pub fn steps_shorten()
+    ensures { (r : Reader) (s : State) (t : ℕ) → Shortens (step r s t).1 (length s.unread) (length (step r s t).0.unread) }
 {}
 
 /// Over every list of calls, what was heard since the last resume are the first so many of the frames of all bytes that were

@@ -13,7 +13,7 @@ use crate::plan::{Notice, Step, Why};
 use crate::table::LAST_NUMBER;
 use crate::unread::{forget, next_body, no_bytes, settle};
 use crate::wire::{Wire, write_app, write_notice};
-use crate::work::{Work, add_marks, join, prepare};
+use crate::work::{Work, add_plan, join, prepare};
 use fix_dictionary::{App, Identifier, Item};
 use fix_frame::Cutter;
 use resend_store::Store;
@@ -55,7 +55,7 @@ impl Model for Session {
     ghost Value = { Seen };
 
     ghost view = { λ a. record {
-      state = record { ids = a.ids; line = a.line; unread = a.cutter.unread; entries = a.store.entries; ready = a.ready.items; wire = a.wire };
+      state = record { ids = a.ids; line = a.line; unread = a.cutter.unread; past = a.store.past; entries = a.store.entries; ready = a.ready.items; wire = a.wire };
       spare = deque_capacity a.ready - deque_len a.ready;
     } };
 
@@ -160,6 +160,20 @@ impl Session {
         self.wire.take(self.alloc)
     }
 
+    /// The queued frames, lent.
+    pub fn wire(&self) -> &[u8]
+        ensures { result.now ≡ self.now.state.wire }
+    {
+        self.wire.all()
+    }
+
+    /// The queued frames are gone, and their memory is used again.
+    pub fn clear_wire(&mut self)
+        ensures { self.new.state ≡ record self.old.state { wire = [] } }
+    {
+        self.wire.clear();
+    }
+
     /// Does what the next unread frame asks. A step that is refused leaves the frame unread.
     pub fn step(&mut self, t: Moment) -> Result<Step, AllocError>
         ensures state { (r : Reader) → OnOk result (self.new.state ≡ (machine.step r self.old.state t).0) }
@@ -192,7 +206,7 @@ impl Session {
         };
         let Work { plan, item } = work;
         self.line = self.line.after(t, &plan, self.wire.since(len));
-        add_marks(&mut self.store, &plan.sends);
+        add_plan(&mut self.store, &plan);
         join(&mut self.ready, item);
         settle(&mut self.cutter);
         Ok(plan.answer)
@@ -300,6 +314,7 @@ impl Session {
 fn add_app(store: &mut Store, number: u32, app: &App, t: Moment) -> Result<(), AllocError>
     requires { number ≡ length store.old.entries + 1 }
     ensures ok { OnOk result (store.new.entries ≡ store.old.entries ++ entry.Application app.now t ∷ []) }
+    ensures past { store.new.past ≡ store.old.past }
     ensures err { OnErr result (store.new.entries ≡ store.old.entries) }
 {
     match store.add_app(number, app, t) {

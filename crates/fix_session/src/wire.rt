@@ -6,7 +6,7 @@ ghost use Rattle.fix_dictionary.specs.Lent.{lent_body, lent_header};
 ghost use Rattle.fix_dictionary.specs.Values.{IsSequenceNumber};
 ghost use Rattle.resend_store.specs.Resent.{resent_by};
 ghost use Rattle.fix_session.specs.Sent as sent;
-ghost use Rattle.fix_session.specs.Table.{count};
+ghost use Rattle.fix_session.specs.Table.{before, count};
 
 use crate::comp_ids::CompIds;
 use crate::frame::Content;
@@ -70,6 +70,13 @@ impl Wire {
         ensures { self.new ≡ [] }
     {
         self.frames.clear();
+    }
+
+    /// The queued frames, lent.
+    pub(crate) fn all(&self) -> &[u8]
+        ensures { result.now ≡ self.now }
+    {
+        &self.frames
     }
 
     /// The queued frames, once.
@@ -190,7 +197,8 @@ fn append_sends(
     }
 }
 
-// Appends what a plan writes: what is asked for again, then the new messages under the next numbers.
+// Appends what a plan writes: in a new era its messages from number 1 on; else what is asked for again, then the new messages
+// under the next numbers.
 #[tactic(auto, unfolding(crate::specs::Sent::written))]
 fn append_plan(
     alloc: Global,
@@ -199,9 +207,12 @@ fn append_plan(
     plan: &Plan,
     wire: &mut Wire,
 ) -> Result<(), AllocError>
-    requires { length store.now.entries + count plan.now.sends ≤ 999999999 }
+    requires { before plan.now.begins (length store.now.entries) + count plan.now.sends ≤ 999999999 }
     ensures { Appends wire.old wire.new (sent.written on.now.ids.now store.now.entries on.now.t on.now.kind.now on.now.content.now plan.now) result }
 {
+    if plan.begins {
+        return append_sends(alloc, on, 1, plan.sends, wire);
+    }
     append_again(on.ids, on.t, store, plan.again, wire)?;
     append_sends(alloc, on, store.next_number(), plan.sends, wire)
 }
@@ -226,7 +237,7 @@ pub(crate) fn write_plan(
     plan: &Plan,
     wire: &mut Wire,
 ) -> Result<(), AllocError>
-    requires { length store.now.entries + count plan.now.sends ≤ 999999999 }
+    requires { before plan.now.begins (length store.now.entries) + count plan.now.sends ≤ 999999999 }
     ensures ok { OnOk result (wire.new ≡ wire.old ++ sent.written on.now.ids.now store.now.entries on.now.t on.now.kind.now on.now.content.now plan.now) }
     ensures err { OnErr result (wire.new ≡ wire.old) }
 {

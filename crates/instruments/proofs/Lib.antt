@@ -1,3 +1,4 @@
+mod DelayLemmas
 mod DocumentLemmas
 mod ListLemmas
 mod SoundLemmas

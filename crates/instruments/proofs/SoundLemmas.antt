@@ -10,8 +10,8 @@ use Rattle.instruments.specs.declared.fault.FileFault.TheVariants.{NotToml, Miss
 use Rattle.instruments.specs.declared.instruments.Instrument.{Instrument}
 use Rattle.instruments.specs.Symbols.{is_symbol}
 use Rattle.instruments.specs.Rows.{is_instrument, is_least, is_request_life, is_tick, most_instruments}
-use Rattle.instruments.specs.Document.{entries_in, is_no_list, is_no_number, is_no_symbol, is_without_entry, lacks, number_at, number_in, text_at, text_in}
-use Rattle.instruments.specs.Reading.{IsFaultOf, Reads, Refuses, has_bad_value, has_too_many, instruments, is_bad_instrument, is_missing, read_of, row_of, rows, rows_of}
+use Rattle.instruments.specs.Document.{entries_in, is_no_list, is_no_number, is_no_symbol, is_without_entry, lacks, number_at, number_in, stated_or, text_at, text_in}
+use Rattle.instruments.specs.Reading.{IsFaultOf, Reads, Refuses, has_bad_value, has_too_many, instruments, is_bad_instrument, is_missing, read_of, row_of, rows, rows_of, usual_delay}
 
 -- A document without the first faults has the rows of instruments.
 
@@ -41,6 +41,17 @@ number_there low high (Some (datetime d)) h k = absurd (true≢false k)
 number_there low high (Some (array ds)) h k = absurd (true≢false k)
 number_there low high (Some (table ms)) h k = absurd (true≢false k)
 
+-- and so a number that may be left out
+number_left_out : (low high usual : ℕ) (o : Option Data) → (nat_le low usual && nat_le usual high) ≡ true → is_no_number low high o ≡ false → (nat_le low (stated_or usual o) && nat_le (stated_or usual o) high) ≡ true
+number_left_out low high usual None u k = u
+number_left_out low high usual (Some (integer z)) u k = not-false (nat_le low (nat_abs z) && nat_le (nat_abs z) high) (or_parts (int_lt z (pos 0)) (not (nat_le low (nat_abs z) && nat_le (nat_abs z) high)) k).1
+number_left_out low high usual (Some (string s)) u k = absurd (true≢false k)
+number_left_out low high usual (Some (float x)) u k = absurd (true≢false k)
+number_left_out low high usual (Some (boolean b)) u k = absurd (true≢false k)
+number_left_out low high usual (Some (datetime d)) u k = absurd (true≢false k)
+number_left_out low high usual (Some (array ds)) u k = absurd (true≢false k)
+number_left_out low high usual (Some (table ms)) u k = absurd (true≢false k)
+
 -- of a table that does not lack the key
 key_there : (t : Option Members) (o : Option Data) → is_none t ≡ false → (is_some t && is_none o) ≡ false → is_none o ≡ false
 key_there None o h k = absurd (true≢false h)
@@ -69,11 +80,13 @@ good_row d s t l f bad =
     let b1 = or_parts (is_none (as_table d)) _ bad in
     let b2 = or_parts (is_no_symbol (get (codes "symbol") d)) _ b1.1 in
     let b3 = or_parts (is_no_number 1 (10 ^ 12) (get (codes "tick") d)) _ b2.1 in
-    let b4 = or_parts (is_no_number 1 (10 ^ 15) (get (codes "least") d)) (is_no_number 1 86400 (get (codes "rfq_life") d)) b3.1 in
+    let b4 = or_parts (is_no_number 1 (10 ^ 15) (get (codes "least") d)) _ b3.1 in
+    let b5 = or_parts (is_no_number 1 86400 (get (codes "rfq_life") d)) (is_no_number 1000 3600000 (get (codes "delay_ms") d)) b4.1 in
     both (is_symbol (text_at (codes "symbol") d)) _ (symbol_there (get (codes "symbol") d) (key_there (as_table d) (get (codes "symbol") d) b1.0 s) b2.0)
     (both (is_tick (number_at (codes "tick") d)) _ (number_there 1 (10 ^ 12) (get (codes "tick") d) (key_there (as_table d) (get (codes "tick") d) b1.0 t) b3.0)
     (both (is_least (number_at (codes "least") d)) _ (number_there 1 (10 ^ 15) (get (codes "least") d) (key_there (as_table d) (get (codes "least") d) b1.0 l) b4.0)
-    (both (is_request_life (number_at (codes "rfq_life") d)) true (number_there 1 86400 (get (codes "rfq_life") d) (key_there (as_table d) (get (codes "rfq_life") d) b1.0 f) b4.1) refl)))
+    (both (is_request_life (number_at (codes "rfq_life") d)) _ (number_there 1 86400 (get (codes "rfq_life") d) (key_there (as_table d) (get (codes "rfq_life") d) b1.0 f) b5.0)
+    (number_left_out 1000 3600000 usual_delay (get (codes "delay_ms") d) refl b5.1))))
 
 good_rows : (ds : List Data) → Whole ds → list_any is_bad_instrument ds ≡ false → list_all is_instrument (map row_of ds) ≡ true
 good_rows [] w h = refl

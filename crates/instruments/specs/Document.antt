@@ -54,3 +54,11 @@ number_in _ = 0
 
 abbrev pub number_at : List ℕ → Data → ℕ
 number_at key entry = number_in (get key entry)
+
+-- a number; the usual one where none is stated
+abbrev pub stated_or : ℕ → Option Data → ℕ
+stated_or usual (Some (integer z)) = nat_abs z
+stated_or usual _ = usual
+
+abbrev pub number_or : ℕ → List ℕ → Data → ℕ
+number_or usual key entry = stated_or usual (get key entry)

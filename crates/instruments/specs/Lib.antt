@@ -4,6 +4,8 @@ pub mod Symbols
 pub mod Rows
 -- what the instrument file says of an instrument
 pub mod Listing
+-- other delays for the instruments of a file
+pub mod Delays
 -- what a TOML document has at its keys
 pub mod Document
 -- what a file says, and its faults

@@ -6,7 +6,7 @@ use Rattle.instruments.specs.declared.fault.FileFault.{FileFault}
 use Rattle.instruments.specs.declared.fault.FileFault.TheVariants.{NotToml, Missing, Twice, TooMany, BadValue, NoMemory}
 use Rattle.instruments.specs.declared.instruments.Instrument.{Instrument}
 use Rattle.instruments.specs.Rows.{are_distinct, most_instruments}
-use Rattle.instruments.specs.Document.{entries_in, is_no_list, is_no_number, is_no_symbol, is_without_entry, lacks, number_at, text_at}
+use Rattle.instruments.specs.Document.{entries_in, is_no_list, is_no_number, is_no_symbol, is_without_entry, lacks, number_at, number_or, text_at}
 
 -- What an instrument file says, as a TOML document.
 
@@ -17,9 +17,9 @@ instruments file = entries_in (get (codes "instrument") file)
 abbrev pub usual_delay : ℕ
 usual_delay = 15000
 
--- the row of an entry
+-- the row of an entry; the delay may be left out (17 CFR 37.9(b)(2))
 abbrev pub row_of : Data → Instrument
-row_of entry = record { symbol = text_at (codes "symbol") entry; tick = number_at (codes "tick") entry; least = number_at (codes "least") entry; request_life = number_at (codes "rfq_life") entry; delay = usual_delay }
+row_of entry = record { symbol = text_at (codes "symbol") entry; tick = number_at (codes "tick") entry; least = number_at (codes "least") entry; request_life = number_at (codes "rfq_life") entry; delay = number_or usual_delay (codes "delay_ms") entry }
 
 abbrev pub rows : Data → List Instrument
 rows file = map row_of (instruments file)
@@ -43,7 +43,8 @@ is_bad_instrument entry =
     || (is_no_symbol (get (codes "symbol") entry)
     || (is_no_number 1 (10 ^ 12) (get (codes "tick") entry)
     || (is_no_number 1 (10 ^ 15) (get (codes "least") entry)
-    || is_no_number 1 86400 (get (codes "rfq_life") entry))))
+    || (is_no_number 1 86400 (get (codes "rfq_life") entry)
+    || is_no_number 1000 3600000 (get (codes "delay_ms") entry)))))
 
 -- a value is stated that may not stand there
 abbrev pub has_bad_value : Data → Bool

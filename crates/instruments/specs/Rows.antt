@@ -19,9 +19,9 @@ is_least n = nat_le 1 n && nat_le n (10 ^ 15)
 abbrev pub is_request_life : ℕ → Bool
 is_request_life n = nat_le 1 n && nat_le n 86400
 
--- a delay of at most an hour, in milliseconds
+-- a delay of a second to an hour, in milliseconds
 abbrev pub is_delay : ℕ → Bool
-is_delay n = nat_le n 3600000
+is_delay n = nat_le 1000 n && nat_le n 3600000
 
 abbrev pub is_instrument : Instrument → Bool
 is_instrument x = is_symbol x.symbol && (is_tick x.tick && (is_least x.least && (is_request_life x.request_life && is_delay x.delay)))

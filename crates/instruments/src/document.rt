@@ -3,7 +3,7 @@
 ghost use Rattle.std.specs.Prelude.{◌≡◌, ◌||◌, ◌&&◌, not, pos, nat_abs, nat_le, int_lt, map, option_map, option_and_then};
 ghost use Rattle.toml.specs.Data.{as_array, get};
 ghost use Rattle.toml.specs.View.{array_view, view};
-ghost use Rattle.instruments.specs.Document.{entries_in, is_no_list, is_no_number, is_no_symbol, is_without_entry, lacks, number_at, text_at};
+ghost use Rattle.instruments.specs.Document.{entries_in, is_no_list, is_no_number, is_no_symbol, is_without_entry, lacks, number_at, number_or, text_at};
 
 use crate::symbol::is_symbol;
 use toml::Value;
@@ -100,5 +100,15 @@ pub(crate) fn number_at(entry: &Value, key: &str) -> u64
     match entry.get(key) {
         Some(Value::Integer(number)) => number.unsigned_abs(),
         _ => 0,
+    }
+}
+
+/// The number at a key; the usual one where none is stated.
+pub(crate) fn number_or(entry: &Value, usual: u64, key: &str) -> u64
+    ensures { result ≡ number_or usual key.now (view entry.now) }
+{
+    match entry.get(key) {
+        Some(Value::Integer(number)) => number.unsigned_abs(),
+        _ => usual,
     }
 }

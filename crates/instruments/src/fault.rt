@@ -1,4 +1,4 @@
-//! Why an instrument file is refused.
+//! Why an instrument file, or a list of delays, is refused.
 
 use thiserror::Error;
 
@@ -20,6 +20,20 @@ pub enum FileFault {
     /// 6: a value of another type or outside its range, or a symbol outside its rule.
     #[error("a value is not allowed")]
     BadValue,
+    /// Memory was refused.
+    #[error("out of memory")]
+    NoMemory,
+}
+
+/// Why a list of delays is refused. The faults are looked for in this order.
+#[derive(Clone, Copy, Debug, PartialEq, Eq, Error)]
+pub enum DelayFault {
+    /// 1: not one delay for each instrument.
+    #[error("not one delay for each instrument")]
+    Count,
+    /// 2: a delay below a second, or above an hour.
+    #[error("a delay is not allowed")]
+    Range,
     /// Memory was refused.
     #[error("out of memory")]
     NoMemory,

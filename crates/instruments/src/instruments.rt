@@ -4,7 +4,7 @@ ghost use Rattle.std.specs.Prelude.{◌≡◌, ◌<◌, true, length, slice_get,
 ghost use Rattle.std.specs.List.{position_or_len};
 ghost use Rattle.instruments.specs.Reading.{IsFaultOf, Reads};
 ghost use Rattle.instruments.specs.Listing.{delay_of, is_off_tick, least_of, request_life_of, symbol_of, tick_of};
-ghost use Rattle.instruments.specs.Rows.{is_instrument, is_instrument_file};
+ghost use Rattle.instruments.specs.Rows.{is_delay, is_instrument, is_instrument_file};
 
 use crate::fault::FileFault;
 use crate::reading::read_document;
@@ -23,7 +23,7 @@ pub struct Instrument {
     pub least: u64,
     /// how long a request for quotes stays open, in seconds: 1 to 86,400
     pub request_life: u64,
-    /// the delay between the entries of linked orders, in milliseconds: at most 3,600,000
+    /// the delay between the entries of linked orders, in milliseconds: 1,000 to 3,600,000
     pub delay: u64,
 }
 
@@ -83,6 +83,14 @@ impl Instruments {
         }
     }
 
+    /// The rows, in the file's order.
+    pub(crate) fn as_slice(&self) -> &[Instrument]
+        ensures rows { result.now ≡ self.now }
+        ensures rule { is_instrument_file result.now ≡ true }
+    {
+        &self.rows
+    }
+
     /// How many instruments there are: 1 to 256.
     pub fn len(&self) -> usize
         ensures count { result ≡ length self.now }
@@ -112,10 +120,11 @@ impl Instruments {
         &self.rows[instrument as usize]
     }
 
-    /// The delay between the entries of linked orders, in milliseconds.
+    /// The delay between the entries of linked orders, in milliseconds: 1,000 to 3,600,000.
     pub fn delay(&self, instrument: u32) -> u64
         requires { instrument < length self.now }
-        ensures { result ≡ delay_of self.now instrument }
+        ensures delay { result ≡ delay_of self.now instrument }
+        ensures rule { is_delay result ≡ true }
     {
         self.get(instrument).delay
     }

@@ -10,7 +10,8 @@ ghost use Rattle.instruments.specs.Document.{entries_in, lacks, text_at};
 ghost use Rattle.instruments.specs.Reading.{Refuses, has_bad_value, has_too_many, instruments, is_bad_instrument, is_missing, read_of, row_of, rows_of};
 
 use crate::document::{
-    entries, is_no_list, is_no_number, is_no_symbol, is_without_entry, lacks, number_at, text_at,
+    entries, is_no_list, is_no_number, is_no_symbol, is_without_entry, lacks, number_at, number_or,
+    text_at,
 };
 use crate::fault::FileFault;
 use crate::instruments::{Instrument, Instruments};
@@ -62,6 +63,7 @@ fn is_bad_instrument(entry: &Value) -> bool
         || is_no_number(entry, "tick", 1, 1_000_000_000_000)
         || is_no_number(entry, "least", 1, 1_000_000_000_000_000)
         || is_no_number(entry, "rfq_life", 1, 86_400)
+        || is_no_number(entry, "delay_ms", 1_000, 3_600_000)
 }
 
 fn any_bad_instrument(list: &[Value]) -> bool
@@ -101,7 +103,7 @@ fn row_of(alloc: Global, entry: &Value) -> Result<Instrument, AllocError>
         tick: number_at(entry, "tick"),
         least: number_at(entry, "least"),
         request_life: number_at(entry, "rfq_life"),
-        delay: USUAL_DELAY,
+        delay: number_or(entry, USUAL_DELAY, "delay_ms"),
     })
 }
 

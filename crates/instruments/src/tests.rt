@@ -1,4 +1,4 @@
-use crate::{FileFault, Instruments};
+use crate::{DelayFault, FileFault, Instruments};
 use std::alloc::{AllocError, Global};
 use std::test::Fail;
 
@@ -13,7 +13,7 @@ symbol = \"BASIS1Y\"
 tick = 2500
 least = 100
 rfq_life = 60
-delay_ms = 7
+delay_ms = 1000
 ";
 
 const NO_TOML: &[u8] = b"symbol = \n";
@@ -67,9 +67,10 @@ fn a_file_is_read(rt: HostRuntime) -> Result<(), Fail> {
     assert_eq!(rt; basis.symbol.as_slice(), b"BASIS1Y".as_slice());
     assert_eq!(rt;
         (basis.tick, basis.least, basis.request_life, basis.delay),
-        (2_500, 100, 60, 15_000)
+        (2_500, 100, 60, 1_000)
     );
     assert_eq!(rt; file.delay(0), 15_000);
+    assert_eq!(rt; file.delay(1), 1_000);
     Ok(())
 }
 
@@ -134,4 +135,60 @@ fn single_faults(rt: HostRuntime) {
     for (text, fault) in faults {
         assert_eq!(rt; fault_of(alloc, text), Some(fault));
     }
+}
+
+/// A text of one instrument with this delay.
+fn waiting(alloc: Global, delay: &str) -> Result<Vec<u8>, AllocError> {
+    let text = format!(in alloc;
+        "instrument = [{{ symbol = \"A\", tick = 1, least = 1, rfq_life = 1, delay_ms = {delay} }}]"
+    )?;
+    Vec::from_slice(alloc, text.as_bytes())
+}
+
+#[test]
+fn delays_at_their_bounds(rt: HostRuntime) -> Result<(), Fail> {
+    let alloc = rt.alloc();
+    let cases = [
+        ("1000", Some(1_000)),
+        ("3600000", Some(3_600_000)),
+        ("999", None),
+        ("0", None),
+        ("-1000", None),
+        ("3600001", None),
+        ("1000.0", None),
+        ("\"1000\"", None),
+    ];
+    for (delay, wanted) in cases {
+        let text = waiting(alloc, delay)?;
+        match Instruments::read(alloc, &text) {
+            Ok(file) => assert_eq!(rt; Some(file.delay(0)), wanted, "{delay}"),
+            Err(fault) => assert_eq!(rt; (fault, None), (FileFault::BadValue, wanted), "{delay}"),
+        }
+    }
+    Ok(())
+}
+
+#[test]
+fn other_delays(rt: HostRuntime) -> Result<(), Fail> {
+    let alloc = rt.alloc();
+    let file = Instruments::read(alloc, TWO)?;
+    let changed = file.with_delays(alloc, &[3_600_000, 20_000])?;
+    assert_eq!(rt; changed.len(), 2);
+    assert_eq!(rt; changed.delay(0), 3_600_000);
+    assert_eq!(rt; changed.delay(1), 20_000);
+    assert_eq!(rt; changed.find(b"BASIS1Y"), Some(1));
+    assert_eq!(rt; changed.get(1).least, 100);
+    assert_eq!(rt; file.delay(1), 1_000);
+    let faults: [(&[u64], DelayFault); 6] = [
+        (&[], DelayFault::Count),
+        (&[15_000], DelayFault::Count),
+        (&[15_000, 15_000, 15_000], DelayFault::Count),
+        (&[999], DelayFault::Count),
+        (&[15_000, 999], DelayFault::Range),
+        (&[3_600_001, 15_000], DelayFault::Range),
+    ];
+    for (delays, fault) in faults {
+        assert_eq!(rt; file.with_delays(alloc, delays).err(), Some(fault));
+    }
+    Ok(())
 }

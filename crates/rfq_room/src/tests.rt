@@ -111,7 +111,7 @@ fn quote(
 /// DELTA's quote in ALPHA's room, which is open for 30 seconds from a moment on.
 fn quoted(alloc: Global, moment: Moment) -> Result<Rooms, AllocError> {
     let participants = fixture_participants(alloc)?;
-    let instruments = fixture_instruments(alloc, 0)?;
+    let instruments = fixture_instruments(alloc, 15_000)?;
     let mut rooms = Rooms::new(alloc);
     let request = request(four(alloc)?);
     ask(&mut rooms, &participants, &instruments, &request, moment);
@@ -155,7 +155,7 @@ fn withdraw(rooms: &mut Rooms, moment: Moment) -> usize {
 fn three_unrelated_are_asked(rt: HostRuntime) -> Result<(), Fail> {
     let alloc = rt.alloc();
     let participants = fixture_participants(alloc)?;
-    let instruments = fixture_instruments(alloc, 0)?;
+    let instruments = fixture_instruments(alloc, 15_000)?;
     let mut rooms = Rooms::new(alloc);
     let start = Moment::of_ms(1_741_012_200_000).ok_or("no moment")?;
     let parties = vec![in alloc;

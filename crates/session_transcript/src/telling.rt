@@ -72,7 +72,12 @@ fn tell_bytes(bytes: &[u8], told: &mut Vec<u8>) -> Result<(), AllocError> {
 
 fn tell_item(alloc: Global, item: &Item, told: &mut Vec<u8>) -> Result<(), AllocError> {
     let number = item.number.get();
-    let front = format!(in alloc; "{number}: ")?;
+    let era = item.era;
+    let front = if era == 1 {
+        format!(in alloc; "{number}: ")?
+    } else {
+        format!(in alloc; "era {era}, {number}: ")?
+    };
     let mut text = Vec::from_slice(alloc, front.as_bytes())?;
     print_app(item.app.get(), &mut text)?;
     tell_bytes(&text, told)

@@ -77,7 +77,7 @@ fn add_of_orders(day: &mut Day, answer: OrderAnswer)
     day.traded.add(fills.facts());
     day.book.apply(fills);
     day.held.apply(holds);
-    let _book = day.book.facts();
+    let _book = day.book.facts_are_own();
     let _held = day.held.facts();
 }
 

@@ -61,7 +61,7 @@ fn read_text(alloc: Global, venue: &Venue) -> Result<Vec<u8>, AllocError> {
 fn read_after(alloc: Global, lines: &[Timed], more: &[Timed]) -> Option<(Vec<u8>, Vec<u8>)>
     requires { length lines.now + length more.now ≤ 20 }
 {
-    let mut venue = opened_with(alloc, 0)?;
+    let mut venue = opened_with(alloc, 15_000)?;
     let _said = all_said(alloc, &mut venue, lines)?;
     let first = match read_text(alloc, &venue) {
         Ok(text) => text,

@@ -42,9 +42,9 @@ fn opened_of_many(alloc: Global) -> Option<Venue>
     ensures { IfSome result (λ v. v.items ≤ 0) }
 {
     let participants = many_read(alloc)?;
-    let instruments = match fixture_instruments(alloc, 0) {
+    let instruments = match fixture_instruments(alloc, 15_000) {
         Ok(file) => file,
-        Err(_) => fixture_instruments(alloc, 0).ok()?,
+        Err(_) => fixture_instruments(alloc, 15_000).ok()?,
     };
     let Ok(venue) = Venue::open(alloc, participants, instruments) else {
         return None;

@@ -1,6 +1,7 @@
 //! Worked messages as text, and what the venue answers. Each test holds whichever growth is refused: what met a refusal is tried once more.
-ghost use Rattle.std.specs.Prelude.{◌≤◌, ◌+◌, length, IfOk, IfSome};
+ghost use Rattle.std.specs.Prelude.{◌≡◌, ◌≤◌, ◌+◌, true, length, IfOk, IfSome};
 ghost use Rattle.fix_dictionary.specs.Values.{IsSequenceNumber};
+ghost use Rattle.instruments.specs.Rows.{is_delay};
 ghost use Rattle.venue_core.specs.Plan.{IsPlanOf};
 
 use crate::timed::{Timed, all_said, said_at, said_of};
@@ -61,6 +62,7 @@ pub(crate) fn taken(alloc: Global, number: u32, line: &[u8]) -> Option<Taken>
     Some(Taken {
         from: participant(*from),
         item: Item {
+            era: 1,
             number,
             app: BoxedApp::new(alloc, app).ok()?,
         },
@@ -120,7 +122,7 @@ pub(crate) fn after_half_past(ms: u64) -> Option<Moment> {
 
 // A venue of the fixture's files, whose linked orders wait so long.
 fn opened_waiting(alloc: Global, delay: u64) -> Result<Venue, AllocError>
-    requires { delay ≤ 3600000 }
+    requires { is_delay delay ≡ true }
     ensures { IfOk result (λ v. v.items ≤ 0) }
 {
     let participants = fixture_participants(alloc)?;
@@ -130,7 +132,7 @@ fn opened_waiting(alloc: Global, delay: u64) -> Result<Venue, AllocError>
 
 // The same, tried once more where memory was refused.
 pub(crate) fn opened_with(alloc: Global, delay: u64) -> Option<Venue>
-    requires { delay ≤ 3600000 }
+    requires { is_delay delay ≡ true }
     ensures { IfSome result (λ v. v.items ≤ 0) }
 {
     if let Ok(venue) = opened_waiting(alloc, delay) {
@@ -144,18 +146,20 @@ pub(crate) fn opened_with(alloc: Global, delay: u64) -> Option<Venue>
 
 #[test]
 fn orders_meet(rt: HostRuntime) -> Result<(), Fail> {
-    let lines: [Timed; 4] = [
+    let lines: [Timed; 5] = [
         (0, b"A 35=D|11=a1|55=IRS5Y|54=1|38=100|40=2|"),
         (0, b"A 35=D|11=a1|55=IRS5Y|54=1|38=100|40=2|44=2.5|"),
-        (0, b"A 35=D|11=a2|55=IRS5Y|54=2|38=40|40=2|44=2.5|"),
-        (0, b"E 35=V|262=v3|263=1|264=0|267=1|269=0|146=1|55=IRS5Y|"),
+        (999, b"A 35=D|11=a0|55=IRS5Y|54=2|38=40|40=2|44=2.5|"),
+        (1_000, b"A 35=D|11=a2|55=IRS5Y|54=2|38=40|40=2|44=2.5|"),
+        (1_000, b"E 35=V|262=v3|263=1|264=0|267=1|269=0|146=1|55=IRS5Y|"),
     ];
-    let said = said_of(rt.alloc(), 0, &lines).ok_or("memory")?;
+    let said = said_of(rt.alloc(), 1_000, &lines).ok_or("memory")?;
     let expected = b"A 35=j|45=2|372=D|380=5|58=Price missing|\n\
 A 35=8|37=O1|17=E1|150=0|39=0|55=IRS5Y|54=1|151=100|14=0|11=a1|\n\
-A 35=8|37=O2|17=E2|150=0|39=0|55=IRS5Y|54=2|151=40|14=0|11=a2|\n\
-A 35=8|37=O2|17=E3|150=F|39=2|55=IRS5Y|54=2|151=0|14=40|11=a2|31=2.5|32=40|880=T1|\n\
-A 35=8|37=O1|17=E4|150=F|39=1|55=IRS5Y|54=1|151=60|14=40|11=a1|31=2.5|32=40|880=T1|\n\
+A 35=8|37=NONE|17=E2|150=8|39=8|55=IRS5Y|54=2|151=0|14=0|11=a0|103=99|58=Linked order too recent|\n\
+A 35=8|37=O2|17=E3|150=0|39=0|55=IRS5Y|54=2|151=40|14=0|11=a2|\n\
+A 35=8|37=O2|17=E4|150=F|39=2|55=IRS5Y|54=2|151=0|14=40|11=a2|31=2.5|32=40|880=T1|\n\
+A 35=8|37=O1|17=E5|150=F|39=1|55=IRS5Y|54=1|151=60|14=40|11=a1|31=2.5|32=40|880=T1|\n\
 E 35=Y|262=v3|281=4|58=Snapshots only|\n";
     assert_eq!(rt; said.as_slice(), expected.as_slice());
     Ok(())
@@ -174,7 +178,7 @@ pub(crate) fn five() -> [Timed; 5] {
 
 #[test]
 fn buyer_meets_two_sellers(rt: HostRuntime) -> Result<(), Fail> {
-    let said = said_of(rt.alloc(), 0, &five()).ok_or("memory")?;
+    let said = said_of(rt.alloc(), 15_000, &five()).ok_or("memory")?;
     let expected = b"B 35=8|37=O1|17=E1|150=0|39=0|55=IRS5Y|54=2|151=60|14=0|11=b1|\n\
 D 35=8|37=O2|17=E2|150=0|39=0|55=IRS5Y|54=2|151=70|14=0|11=d1|\n\
 A 35=8|37=O3|17=E3|150=0|39=0|55=IRS5Y|54=1|151=100|14=0|11=a1|\n\
@@ -193,7 +197,7 @@ G 35=8|37=O5|17=E10|150=4|39=4|55=IRS5Y|54=1|151=0|14=0|11=g1|\n";
 pub(crate) fn then(alloc: Global, lines: &[Timed]) -> Option<Vec<u8>>
     requires { length lines.now ≤ 20 }
 {
-    let mut venue = opened_with(alloc, 0)?;
+    let mut venue = opened_with(alloc, 15_000)?;
     let _answers = all_said(alloc, &mut venue, &five())?;
     all_said(alloc, &mut venue, lines)
 }
@@ -239,7 +243,7 @@ fn immediate_order_does_not_rest(rt: HostRuntime) -> Result<(), Fail> {
         (0, b"D 35=D|11=d1|55=IRS5Y|54=2|38=70|40=2|44=2.5|"),
         (0, b"G 35=D|11=g3|55=IRS5Y|54=1|38=100|40=2|44=2.5|59=3|"),
     ];
-    let said = said_of(rt.alloc(), 0, &lines).ok_or("memory")?;
+    let said = said_of(rt.alloc(), 15_000, &lines).ok_or("memory")?;
     let expected = b"D 35=8|37=O1|17=E1|150=0|39=0|55=IRS5Y|54=2|151=70|14=0|11=d1|\n\
 G 35=8|37=O2|17=E2|150=0|39=0|55=IRS5Y|54=1|151=100|14=0|11=g3|\n\
 G 35=8|37=O2|17=E3|150=F|39=1|55=IRS5Y|54=1|151=30|14=70|11=g3|31=2.5|32=70|880=T1|\n\
@@ -273,7 +277,7 @@ fn add_sellers(alloc: Global, venue: &mut Venue, count: u32) -> Option<()>
 fn beside_a_full_side(alloc: Global, lines: &[Timed]) -> Option<Vec<u8>>
     requires { length lines.now ≤ 20 }
 {
-    let mut venue = opened_with(alloc, 0)?;
+    let mut venue = opened_with(alloc, 15_000)?;
     add_sellers(alloc, &mut venue, 200)?;
     all_said(alloc, &mut venue, lines)
 }

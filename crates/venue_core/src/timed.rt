@@ -1,5 +1,6 @@
 //! Worked messages at their moments, and what the venue answers.
-ghost use Rattle.std.specs.Prelude.{◌≡◌, ◌≤◌, ◌+◌, length, IfSome};
+ghost use Rattle.std.specs.Prelude.{◌≡◌, ◌≤◌, ◌+◌, true, length, IfSome};
+ghost use Rattle.instruments.specs.Rows.{is_delay};
 ghost use Rattle.venue_core.specs.Plan.{IsPlanOf};
 
 use crate::tests::{after_half_past, applied, opened_with, planned, taken};
@@ -73,7 +74,7 @@ pub(crate) fn all_said(alloc: Global, venue: &mut Venue, lines: &[Timed]) -> Opt
 
 /// What is answered to all of some lines where linked orders wait so long, in milliseconds.
 pub(crate) fn said_of(alloc: Global, delay: u64, lines: &[Timed]) -> Option<Vec<u8>>
-    requires delay { delay ≤ 3600000 }
+    requires delay { is_delay delay ≡ true }
     requires few { length lines.now ≤ 20 }
 {
     let mut venue = opened_with(alloc, delay)?;

@@ -12,9 +12,6 @@ use venue_rules::{fixture_instruments, fixture_participants};
 
 const TIME: &str = "20250303-14:30:00";
 
-/// The delay between linked orders where they need not wait, in milliseconds.
-const AT_ONCE: u64 = 0;
-
 /// The usual delay, in milliseconds.
 const USUAL_DELAY: u64 = 15_000;
 
@@ -25,7 +22,7 @@ const LOGON: &str =
 const LOGGED_ON: &str =
     "8=FIXT.1.1|9=70|35=A|49=SEF|56=ALPHA|34=1|52=20250303-14:30:00.000|98=0|108=30|1137=9|10=185|";
 
-/// The worked order, a sale that trades with it, and one whose number is too low.
+/// The worked order, a sale that would trade with it at the same moment, and one whose number is too low.
 const BUY: &str =
     "8=FIXT.1.1|9=107|35=D|49=ALPHA|56=SEF|34=2|52=20250303-14:30:00|11=a1|55=IRS5Y|54=1|38=100|40=2|44=2.5|60=20250303-14:30:00|10=071|";
 
@@ -34,9 +31,6 @@ const SELL: &str =
 
 const BOUGHT: &str =
     "8=FIXT.1.1|9=107|35=8|49=SEF|56=ALPHA|34=2|52=20250303-14:30:00.000|37=O1|17=E1|150=0|39=0|55=IRS5Y|54=1|151=100|14=0|11=a1|10=015|";
-
-const SOLD: &str =
-    "8=FIXT.1.1|9=106|35=8|49=SEF|56=ALPHA|34=3|52=20250303-14:30:00.000|37=O2|17=E2|150=0|39=0|55=IRS5Y|54=2|151=40|14=0|11=a2|10=230|8=FIXT.1.1|9=126|35=8|49=SEF|56=ALPHA|34=4|52=20250303-14:30:00.000|37=O2|17=E3|150=F|39=2|55=IRS5Y|54=2|151=0|14=40|11=a2|31=2.5|32=40|880=T1|10=163|8=FIXT.1.1|9=127|35=8|49=SEF|56=ALPHA|34=5|52=20250303-14:30:00.000|37=O1|17=E4|150=F|39=1|55=IRS5Y|54=1|151=60|14=40|11=a1|31=2.5|32=40|880=T1|10=216|";
 
 const TOO_LOW: &str =
     "8=FIXT.1.1|9=96|35=5|49=SEF|56=ALPHA|34=3|52=20250303-14:30:00.000|58=MsgSeqNum too low, expecting 3 received 2|10=137|";
@@ -176,14 +170,14 @@ const STREAMS: [(&[&str], &[&str]); 11] = [
     (&[], &[]),
     (&[BUY], &[]),
     (&[BUY, SELL, LOGON, BUY], &[]),
-    (&[LOGON, BUY, SELL], &[LOGGED_ON, BOUGHT, SOLD]),
+    (&[LOGON, BUY, SELL], &[LOGGED_ON, BOUGHT, TOO_RECENT]),
     (
         &[LOGON, BUY, BUY, SELL, LOGON],
         &[LOGGED_ON, BOUGHT, TOO_LOW],
     ),
     (
         &["no frame", LOGON, DAMAGED, "x", BUY, SELL],
-        &[LOGGED_ON, BOUGHT, SOLD],
+        &[LOGGED_ON, BOUGHT, TOO_RECENT],
     ),
     (&[LOGON, NO_PRICE], &[LOGGED_ON, PRICE_MISSING]),
     (
@@ -233,7 +227,7 @@ fn answers_streams(rt: HostRuntime) -> Result<(), Fail> {
         let input = bytes_of(alloc, input)?;
         let expected = bytes_of(alloc, output)?;
         let mut written = Vec::new(alloc);
-        let instruments = fixture_instruments(alloc, AT_ONCE)?;
+        let instruments = fixture_instruments(alloc, USUAL_DELAY)?;
         let ended = run_once(alloc, instruments, &mut input.as_slice(), &mut written)?;
         assert_eq!(rt; ended, Ok(()));
         assert_eq!(rt; written.as_slice(), expected.as_slice());
@@ -317,7 +311,7 @@ fn the_rest_is_read_once_the_line_is_down(rt: HostRuntime) -> Result<(), Fail> {
             fails,
         };
         let mut written = Vec::new(alloc);
-        let instruments = fixture_instruments(alloc, AT_ONCE)?;
+        let instruments = fixture_instruments(alloc, USUAL_DELAY)?;
         let ended = run_once(alloc, instruments, &mut reader, &mut written)?;
         assert_eq!(rt; ended, end);
         assert!(rt; reader.left.is_empty());
@@ -352,7 +346,7 @@ fn stops_where_a_write_fails(rt: HostRuntime) -> Result<(), Fail> {
     let input = bytes_of(alloc, &[LOGON, BUY])?;
     for (room, left) in [(0, 0), (200, 107)] {
         let mut writer = Full { room };
-        let instruments = fixture_instruments(alloc, AT_ONCE)?;
+        let instruments = fixture_instruments(alloc, USUAL_DELAY)?;
         let ended = run_once(alloc, instruments, &mut input.as_slice(), &mut writer)?;
         assert_eq!(rt; ended, Err(OnceFault::Output), "with room for {room} bytes");
         assert_eq!(rt; writer.room, left);

@@ -45,7 +45,7 @@ two_and_a_half = pos 2500000
 
 -- a message numbered n
 abbrev pub sends : ℕ → ℕ → App → ℕ → Input
-sends who n app t = Message (record { from = who; item = record { number = n; app = app } }) t
+sends who n app t = Message (record { from = who; item = record { era = 1; number = n; app = app } }) t
 
 -- a limit order without a time in force or a link
 abbrev pub order : List ℕ → List ℕ → Side → ℕ → ℤ → App

@@ -1,5 +1,6 @@
-use Rattle.std.proofs.Common.{◌≡◌, refl, sym, ap, ◌∙◌, subst, inl, inr, ℕ, ◌+◌, Bool, true, false, cond, not, ◌&&◌, ◌||◌, nat_lt, List, [], ◌∷◌, ◌++◌, map, length, Option, Some, None, arith, is_some, ◌==◌, eqb-true, eq-eqb, bytes_eq}
+use Rattle.std.proofs.Common.{◌≡◌, refl, sym, ap, ◌∙◌, subst, inl, inr, ℕ, ◌+◌, Bool, true, false, cond, not, ◌&&◌, ◌||◌, nat_lt, List, [], ◌∷◌, ◌++◌, map, length, Option, Some, None, arith, is_some, ◌==◌, eqb-true, eq-eqb, bytes_eq, unwrap_or}
 use Rattle.std.specs.List.{list_any}
+use Rattle.std.proofs.Math.Nat.{min-le_right}
 use Rattle.std.proofs.lemmas.Bool.{true≢false, not-false}
 use Rattle.std.proofs.lemmas.List.Folds.{Any-from_list_any}
 use Rattle.fix_dictionary.specs.declared.messages.App.{App}
@@ -147,7 +148,7 @@ due-Keeps m h k places =
 -- requests
 
 request-Keeps : (m : Market) (h : History) (s : Sender) (d : RequestMessage) (t : ℕ) → Keeps m h.facts (answer_request m h s d t)
-request-Keeps m h s d t = first_of-Keeps m h.facts (request_refusals m h s d t) (request_accepted m (opened m h s d t)) (tt, (tt, (tt, (tt, (tt, (tt, (tt, (tt, (tt, (tt, tt)))))))))) (λ n. record { each = ((refl, not-false (three_unrelated m.participants s.who (opened m h s d t).recipients) n.1.1.1.1.1.1.1.1.0), tt) })
+request-Keeps m h s d t = first_of-Keeps m h.facts (request_refusals m h s d t) (request_accepted m (opened m h s d t)) (tt, (tt, (tt, (tt, (tt, (tt, (tt, (tt, (tt, (tt, tt)))))))))) (λ n. record { each = ((refl, not-false (three_unrelated m.participants s.who (opened m h s d t).recipients) n.1.1.1.1.1.1.1.1.0, n.1.1.1.1.0), tt) })
 
 -- quotes
 
@@ -184,7 +185,7 @@ quote_of-Keeps m h s d t None i = record { each = tt }
 quote_of-Keeps m h s d t (Some r) i =
     first_of-Keeps m h.facts (quote_refusals m h s r d t) (quote_accepted m h s r d) (tt, (tt, (tt, (tt, (tt, (tt, (tt, (tt, tt)))))))) (λ n. record {
       each = (
-        (r, refl, i r refl, refl, among r.recipients s.who (not-false (list_any (λ p. p == s.who) r.recipients) n.0), first-IsShownBefore m h s r d (first_quote h.facts r.number)),
+        (r, refl, i r refl, refl, among r.recipients s.who (not-false (list_any (λ p. p == s.who) r.recipients) n.0), first-IsShownBefore m h s r d (first_quote h.facts r.number), min-le_right (unwrap_or d.valid_until r.end) r.end),
         tt,
       );
     })

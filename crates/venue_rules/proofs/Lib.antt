@@ -48,6 +48,13 @@ pub mod EveryRoomTrade
 pub mod Shut
 pub mod ShutEach
 pub mod OneTrade
+-- no answer but that to a request opens a room, so few are open
+pub mod OpenRooms
+pub mod OpenRoomsEach
+-- a participant has one live quote in each open room at most
+pub mod LiveQuotes
+-- a withdrawal tells each participant of each quote once at most
+pub mod Told
 pub mod AmountLemmas
 pub mod NameLemmas
 pub mod RowLemmas

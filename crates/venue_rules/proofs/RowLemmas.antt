@@ -16,9 +16,9 @@ back n = omega arith
 
 message_back : (read : List ℕ → App) (n : ℕ) (taken : Taken) (t : ℕ) → read (app_text taken.item.app) ≡ taken.item.app → input_of read (row n (Message taken t)) ≡ Message taken t
 message_back read n taken t same =
-    ap (λ b. if b then Tick t else Message (record { from = taken.from + 1 - 1; item = record { number = taken.item.number; app = read (app_text taken.item.app) } }) t) (no_tick taken.from)
-    ∙ (ap (λ w. Message (record { from = w; item = record { number = taken.item.number; app = read (app_text taken.item.app) } }) t) (back taken.from)
-    ∙ ap (λ a. Message (record { from = taken.from; item = record { number = taken.item.number; app = a } }) t) same)
+    ap (λ b. if b then Tick t else Message (record { from = taken.from + 1 - 1; item = record { era = taken.item.era; number = taken.item.number; app = read (app_text taken.item.app) } }) t) (no_tick taken.from)
+    ∙ (ap (λ w. Message (record { from = w; item = record { era = taken.item.era; number = taken.item.number; app = read (app_text taken.item.app) } }) t) (back taken.from)
+    ∙ ap (λ a. Message (record { from = taken.from; item = record { era = taken.item.era; number = taken.item.number; app = a } }) t) same)
 
 rows_back : (read : List ℕ → App) (n : ℕ) (is : List Input) → AreReadBack read is → map (input_of read) (map (λ p. row p.0 p.1) (enumerate_from n is)) ≡ is
 rows_back read n [] k = refl

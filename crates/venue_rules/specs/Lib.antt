@@ -39,6 +39,8 @@ pub mod ReadBack
 -- what every list of inputs keeps
 pub mod Lawful
 pub mod RoomTrades
+-- what inputs whose moments do not fall are limited to
+pub mod Limits
 -- what is left and filled of orders stays an amount
 pub mod Amounts
 -- what a keeper of rows promises

@@ -7,7 +7,7 @@ use Rattle.venue_rules.specs.Run.{Input, Message, Tick, rows}
 -- The inputs that rows tell of, by what their texts say.
 
 abbrev pub input_of : (List ℕ → App) → TrailRow → Input
-input_of read r = if r.who == 0 then Tick r.moment else Message (record { from = r.who - 1; item = record { number = r.number; app = read r.text } }) r.moment
+input_of read r = if r.who == 0 then Tick r.moment else Message (record { from = r.who - 1; item = record { era = r.era; number = r.number; app = read r.text } }) r.moment
 
 -- the text of each message is read back as the message
 abbrev pub AreReadBack : (List ℕ → App) → List Input → Type 0

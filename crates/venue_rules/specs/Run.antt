@@ -84,10 +84,10 @@ replies_to who rs = filter (λ r. r.to == who) rs
 abbrev pub owed : Market → ℕ → List Input → List App
 owed m who is = map (λ r. message r.what) (replies_to who (run m is).replies)
 
--- the row of an input: a participant is its place and one more, and a tick has who 0, number 0 and no text
+-- the row of an input: a participant is its place and one more, and a tick has who 0, era 0, number 0 and no text
 abbrev pub row : ℕ → Input → TrailRow
-row n (Message taken t) = record { n = n; who = taken.from + 1; number = taken.item.number; moment = t; text = app_text taken.item.app }
-row n (Tick t) = record { n = n; who = 0; number = 0; moment = t; text = [] }
+row n (Message taken t) = record { n = n; who = taken.from + 1; era = taken.item.era; number = taken.item.number; moment = t; text = app_text taken.item.app }
+row n (Tick t) = record { n = n; who = 0; era = 0; number = 0; moment = t; text = [] }
 
 -- the k-th row has number k, from 1
 abbrev pub rows : List Input → List TrailRow

@@ -1,6 +1,7 @@
 //! A small market: five participants and two instruments, for first runs and for tests.
 
-ghost use Rattle.std.specs.Prelude.{◌≡◌, ◌≤◌, IfOk};
+ghost use Rattle.std.specs.Prelude.{◌≡◌, true, IfOk};
+ghost use Rattle.instruments.specs.Rows.{is_delay};
 ghost use Rattle.venue_rules.specs.Fixture.{fixture_instrument, fixture_instruments, fixture_participants};
 
 use instruments::{Instrument, Instruments, Symbol};
@@ -36,9 +37,9 @@ fn fixture_instrument(symbol: Symbol, delay: u64) -> Instrument
     }
 }
 
-/// IRS5Y and BASIS1Y, with this delay between linked orders, in milliseconds.
+/// IRS5Y and BASIS1Y, with this delay between linked orders, in milliseconds: 1,000 to 3,600,000.
 pub fn fixture_instruments(alloc: Global, delay: u64) -> Result<Instruments, AllocError>
-    requires { delay ≤ 3600000 }
+    requires { is_delay delay ≡ true }
     ensures { IfOk result (λ file. file ≡ fixture_instruments delay) }
 {
     let swap = Symbol::from_slice(alloc, b"IRS5Y")?;

@@ -3,6 +3,7 @@
 ghost use Rattle.std.specs.Prelude.{List};
 ghost use Rattle.venue_rules.specs.Amounts.{AmountsStayWithin, FillsAreWithin, PrintedNumbersAreIdentifiers};
 ghost use Rattle.venue_rules.specs.Lawful.{BestOrderTrades, EveryRunIsLawful, LinkedOrdersWait, NumbersArePlaces, OrdersTradeWithin, PricesComeWithFirstQuote, RecipientsAskedTogether, RequestsComeFirst};
+ghost use Rattle.venue_rules.specs.Limits.{LiveQuotesAreFew, OpenRoomsAreFew, WithdrawalsAreFew};
 ghost use Rattle.venue_rules.specs.Market.{Market};
 ghost use Rattle.venue_rules.specs.ReadBack.{RowsAreReadBack};
 ghost use Rattle.venue_rules.specs.Reported.{ReportsAreNumbered, TradesAreReported};
@@ -62,4 +63,12 @@ pub fn printed_numbers_are_identifiers()
 /// The rows of a list of inputs give the list back, by whatever reads the texts of its messages back.
 pub fn every_row_is_read_back()
     ensures { RowsAreReadBack }
+{}
+
+/// At a moment no earlier than the last, at most 1,000 rooms are open, and at most 1,000 quotes of one participant are
+/// live; so a withdrawal tells each participant at most 1,000 times. This is over inputs whose moments do not fall.
+pub fn open_rooms_are_few()
+    ensures rooms { (m : Market) (is : List Input) → OpenRoomsAreFew m is }
+    ensures quotes { (m : Market) (is : List Input) → LiveQuotesAreFew m is }
+    ensures withdrawals { (m : Market) (is : List Input) → WithdrawalsAreFew m is }
 {}

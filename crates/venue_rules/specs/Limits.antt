@@ -1,0 +1,31 @@
+use Rattle.std.specs.Prelude.{ℕ, ◌≤◌, List, [], ◌∷◌, length}
+use Rattle.venue_rules.specs.Market.{Market}
+use Rattle.venue_rules.specs.Requests.{open_room}
+use Rattle.venue_rules.specs.Rooms.{live_quotes, open_rooms}
+use Rattle.venue_rules.specs.Run.{Input, Message, Tick, replies_to, run}
+use Rattle.venue_rules.specs.Answer.{Sender}
+use Rattle.venue_rules.specs.Withdrawals.{answer_withdrawal}
+use Rattle.fix_dictionary.specs.declared.messages.QuoteCancel.{QuoteCancel}
+
+-- What a list of inputs whose moments do not fall is limited to.
+
+abbrev pub moment_of : Input → ℕ
+moment_of (Message taken t) = t
+moment_of (Tick t) = t
+
+-- the moments of inputs do not fall, from one moment to another
+abbrev pub IsRising : ℕ → List Input → ℕ → Type 0
+IsRising from [] to = from ≤ to
+IsRising from (i ∷ is) to = (from ≤ moment_of i) × IsRising (moment_of i) is to
+
+-- at a moment no earlier than the last input's, at most 1,000 rooms are open
+abbrev pub OpenRoomsAreFew : Market → List Input → Type 0
+OpenRoomsAreFew m is = (t : ℕ) → IsRising 0 is t → length (open_rooms (run m is).history.facts t) ≤ open_room
+
+-- and at most as many quotes of one participant are live, which one message may withdraw all at once
+abbrev pub LiveQuotesAreFew : Market → List Input → Type 0
+LiveQuotesAreFew m is = (t maker : ℕ) → IsRising 0 is t → length (live_quotes (run m is).history.facts maker t) ≤ open_room
+
+-- so a withdrawal tells nobody more often than that
+abbrev pub WithdrawalsAreFew : Market → List Input → Type 0
+WithdrawalsAreFew m is = (t j : ℕ) (s : Sender) (d : QuoteCancel) → IsRising 0 is t → length (replies_to j (answer_withdrawal m (run m is).history s d t).replies) ≤ open_room
