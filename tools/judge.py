@@ -1,0 +1,77 @@
+"""The judge of wrong bodies: which are tried at once, and what the prover's answer tells of each."""
+import os
+import shutil
+import tempfile
+import time
+
+from edits import edits_of
+from functions import is_of
+from prover import ask
+from repository import folder_of
+
+
+def groups_of(edits):
+    """The edits that stand in one function each, in groups that can be tried at once: as few as the first that has room gives."""
+    groups = []
+    for edit in edits:
+        if edit.function:
+            group = next((group for group in groups if edit.goes_with(group)), None)
+            if group is None:
+                groups.append([edit])
+            else:
+                group.append(edit)
+    return groups
+
+
+def told_by_group(group, answer):
+    """What the answer to a group tells of its edits: of some that they are refused, and of the others nothing."""
+    if not answer.was_judged:
+        return {}
+    is_edited = lambda name: any(is_of(name, edit.function) for edit in group)
+    if not all(is_edited(name) for name in answer.refused):
+        return {}
+    at_goal = lambda edit: any(is_of(name, edit.function) for name in answer.at_goals)
+    return {edit: f"refused: {edit.function}" for edit in group if at_goal(edit)}
+
+
+def told_alone(answer):
+    """What the answer to one edit tells of it."""
+    if answer.is_proved:
+        return "NOT REFUSED: the crate is still proved with this edit"
+    if not answer.was_judged:
+        return f"BAD EDIT: the prover did not judge it: {answer.stopped}"
+    if not answer.goals:
+        return f"NO GOAL: it is refused, but at no goal: {answer.first}"
+    return f"refused alone: {', '.join(answer.goals[:3])}"
+
+
+def try_crate(crate, uses, is_quick):
+    """Tries the edits of a crate, prints what came of it, and returns how many are refused and how many are not."""
+    began = time.monotonic()
+    edits = edits_of(crate)
+    told = {edit: f"BAD EDIT: {edit.fault}" for edit in edits if edit.fault}
+    groups = groups_of(edits)
+    with tempfile.TemporaryDirectory(prefix="wrong-bodies-kept-") as room:
+        kept, before = f"{room}/kept", f"{folder_of(crate)}/out/incremental"
+        if is_quick and os.path.isdir(before):
+            shutil.copytree(before, kept)
+        else:
+            os.mkdir(kept)
+        for group in groups:
+            told.update(told_by_group(group, ask(crate, uses, kept, group)))
+        alone = [edit for edit in edits if edit not in told]
+        whole = ask(crate, uses, kept, []) if alone else None
+        for edit in alone:
+            if whole.is_proved:
+                told[edit] = told_alone(ask(crate, uses, kept, [edit]))
+            else:
+                told[edit] = f"NOT TRIED: the crate as it stands is not proved: {whole.first}"
+    refused = sum(told[edit].startswith("refused") for edit in edits)
+    how = f"{len(groups)} group{'s' * (len(groups) != 1)}, {len(alone)} alone, {minutes_since(began)}"
+    lines = [f"{edit.label}: {told[edit]}" for edit in edits]
+    print("\n".join([*lines, f"== {crate}: {refused} of {len(edits)} refused ({how})"]), flush=True)
+    return refused, len(edits) - refused
+
+
+def minutes_since(began):
+    return f"{(time.monotonic() - began) / 60:.1f} minutes"

@@ -1,0 +1,106 @@
+"""The prover, asked of a crate with edits, and what it says."""
+import os
+import re
+import shutil
+import subprocess
+import tempfile
+
+from repository import PARTS, ROOT, crates_below, folder_of, library_of, text_of
+
+# What antt says where a proof file names something that the crate no longer has.
+NAME_IS_GONE = re.compile(r"has no field|is not in scope|has no `|was not admitted")
+# What antt says where it cannot read a text at all, so that nothing was tried. (rt's judge of must-fail edits has the same words.)
+CANNOT_READ = re.compile(r"is not in scope|has no field|is no name|operand is missing|expected the end|cannot continue")
+# What antt says where a library's kept work does not fit this crate.
+STALE = re.compile(r"module .Rattle-(\w+)-.*Run the lower steps again")
+
+
+def command(crate, uses, kept):
+    """The check of the crate whose parts stand in the current folder, in rt ci's words: over the libraries in crates/*/out/rlib, at
+    one job, over the work that earlier checks kept, to which it adds its own."""
+    kit = os.path.dirname(os.path.dirname(os.path.realpath(shutil.which("rt"))))
+    top = "main" if os.path.isfile(f"{folder_of(crate)}/src/main.rt") else "lib"
+    words = [f"{kit}/bin/rattle", "check", "--crate-name", crate, f"src/{top}.rt"]
+    for library in ["std", *uses[crate]]:
+        words += ["--extern", f"{library}={library_of(library) if library in uses else f'{kit}/rlibs/{library}.rlib'}"]
+    words += ["-L", f"dependency={kit}/rlibs"]
+    for library in crates_below(crate, uses):
+        words += ["-L", f"dependency={os.path.dirname(library_of(library))}"]
+    words += ["--antt-project", f"{kit}/rattle/logic/antt-project.json", "--logic-built", f"{kit}/logic_built"]
+    return [*words, "--links", f"{crate}=", "--jobs", "1", "--incremental", kept]
+
+
+def write_edited_copy(crate, edits, folder):
+    """Writes the crate's parts into a folder, with these edits applied."""
+    for part in PARTS:
+        if os.path.isdir(f"{folder_of(crate)}/{part}"):
+            shutil.copytree(f"{folder_of(crate)}/{part}", f"{folder}/{part}")
+    changes = [change for edit in edits for change in edit.changes]
+    for path in {change.path for change in changes}:
+        text = text_of(f"{folder}/{path}")
+        # (from the last to the first, so that each stands where it was found)
+        for change in sorted((it for it in changes if it.path == path), key=lambda it: -it.begin):
+            text = text[: change.begin] + change.new + text[change.end :]
+        with open(f"{folder}/{path}", "w", encoding="utf-8") as it:
+            it.write(text)
+
+
+def ask(crate, uses, kept, edits):
+    """What the prover says of the crate with these edits."""
+    with tempfile.TemporaryDirectory(prefix="wrong-bodies-") as folder:
+        write_edited_copy(crate, edits, folder)
+        how = {"cwd": folder, "stdin": subprocess.DEVNULL, "stdout": subprocess.PIPE, "stderr": subprocess.STDOUT}
+        ran = subprocess.run(command(crate, uses, kept), errors="replace", check=False, **how)
+    return Answer(ran.returncode, ran.stdout)
+
+
+class Answer:
+    """What the prover said of a crate.
+
+    is_proved    the crate is proved
+    was_judged   it is not, and all of it was read; where neither holds, `stopped` is the line that says why
+    refused      what it refuses for more than that functions which it calls are not proved
+    at_goals     of these, what it refuses at a goal, and not only since a proof file names what is gone, or lacks what is new
+    goals        what it says of these, or of a law or a definition that is refused
+    """
+
+    def __init__(self, status, said):
+        self.errors = re.findall(r"(?m)^(?:\./)?(\S+?):\d+:\d+: error: (.*)$", said)
+        last = said.rstrip("\n").rpartition("\n")[2]
+        unread = [f"{file}: {error}" for file, error in self.errors if is_unread(file, error)]
+        stale = ["the kept work of a library could not be used"] if STALE.search(said) else []
+        self.is_proved = status == 0 and last.startswith("logic=proved")
+        self.was_judged = status == 1 and last.startswith("logic=not-proved") and not unread and not stale
+        self.stopped = [*stale, *unread, last][0][:200]
+        lines = re.findall(r"(?m)^(?:fn|struct|enum|impl|trait) (\S+): (.*)$", said)
+        self.refused = [name for name, told in lines if reasons_of(told)]
+        self.at_goals = [name for name, told in lines if self.is_at_goal(name, reasons_of(told))]
+        statements = [f"{file}: {error}" for file, error in self.errors if file.startswith(("src/", "specs/"))]
+        self.goals = [*self.at_goals, *statements]
+        self.first = [*(f"{file}: {error}" for file, error in self.errors), *self.refused, last][0][:200]
+
+    def is_at_goal(self, name, reasons):
+        """Whether the function, refused for these reasons, is refused at a goal. Errors in its proof files that all tell of names
+        count as none, even where `search` then fails too: an invariant that cannot be read leaves its loop without one."""
+        folder = f"proofs/{'/'.join(name.split('::')[1:])}/"
+        errors = [error for file, error in self.errors if file.startswith(folder)]
+        if errors:
+            return any(not NAME_IS_GONE.search(error) for error in errors)
+        return any("did not prove" in reason for reason in reasons)
+
+
+def reasons_of(told):
+    """The reasons, of those that the prover gives behind the name of what it refuses, that lie in the function itself: that one
+    which it calls is not proved is none. Words other than `not proved` and `no proof`, as `could not tell`, are no refusal."""
+    if not re.match(r"(not proved|no proof)\b", told):
+        return []
+    reasons = re.split(r"[:;] ", told)
+    if reasons[0] == "no proof" and len(reasons) > 1:
+        reasons = reasons[1:]
+    return [reason for reason in reasons if not reason.startswith("it calls ")]
+
+
+def is_unread(file, error):
+    """Whether antt could not read a text of the code or the definitions; else it says of an item that it is not so."""
+    item = re.match(r"`[^`]*`: ", error)
+    return file.startswith(("src/", "specs/")) and (not item or bool(CANNOT_READ.search(re.sub("`[^`]*`", "", error))))
