@@ -1,6 +1,5 @@
 -- The application messages among the entries are the replies that were sent.
-use Rattle.std.proofs.Common.{◌≡◌, ℕ, ◌+◌, List, [], ◌∷◌, ◌++◌, length, Bool, true, false, Option, Some, None, refl, sym, ap, ◌∙◌, cond, append_assoc, append-nil, max}
-use Rattle.std.specs.Prelude.{nat_lt}
+use Rattle.std.proofs.Common.{◌≡◌, ℕ, List, [], ◌∷◌, ◌++◌, length, Bool, true, false, Option, Some, None, refl, sym, ap, ◌∙◌, cond, append_assoc, append-nil, max}
 use Rattle.fix_dictionary.specs.declared.messages.App.{App}
 use Rattle.fix_dictionary.specs.declared.messages.Item.{Item}
 use Rattle.resend_store.specs.declared.entry.Entry.{Entry}
@@ -17,9 +16,9 @@ use Rattle.fix_session.specs.Reader.{Reader}
 use Rattle.fix_session.specs.Sent.{apps_of, apps, apps_past, numbered_in, numbered, marks, past_after, entries_in}
 use Rattle.fix_session.specs.Body.{frame_in}
 use Rattle.fix_session.specs.State.{State}
-use Rattle.fix_session.specs.Table.{are_spent, last_number}
+use Rattle.fix_session.specs.Table.{are_spent, are_numbers_spent}
 use Rattle.fix_session.specs.Ticks.{asked_at}
-use Rattle.fix_session.specs.Machine.{step, step_on, tick_by, sends_now, plan_for}
+use Rattle.fix_session.specs.Machine.{step, step_on, tick, tick_by, sends_now, sent, pushed, plan_for}
 use Rattle.fix_session.specs.Runs.{Event, Push, Step_at, Tick_at, Break, Resume, Send, Pop, Unpop, Take_wire, History, begin, happens, run, popped, reply_of, replies}
 use Rattle.fix_session.proofs.Rows.{if_either}
 
@@ -49,7 +48,7 @@ step_on_same : (r : Reader) (s : State) (t : ℕ) (found : Option (List ℕ × L
 step_on_same r s t None = refl
 step_on_same r s t (Some found) = era_entries (plan_for s (frame_in r s.ids found.0)).begins s.past s.entries (plan_for s (frame_in r s.ids found.0)).sends
 
-step_same : (r : Reader) (s : State) (t : ℕ) → numbered (step r s t).0 ≡ numbered s
+pub step_same : (r : Reader) (s : State) (t : ℕ) → numbered (step r s t).0 ≡ numbered s
 step_same r s t = if_either (λ (p : State × Step). numbered p.0 ≡ numbered s) s.line.up _ _ (step_on_same r s (max s.line.moment t) (r.front s.unread).found) refl
 
 sends_now_same : (s : State) (t : ℕ) (message : Notice) (test_at : Option ℕ) → numbered (sends_now s t message test_at).0 ≡ numbered s
@@ -62,6 +61,17 @@ tick_by_same s t tick_asks.Heartbeat = sends_now_same s t notice.Heartbeat s.lin
 tick_by_same s t tick_asks.Test = sends_now_same s t notice.Test (Some t)
 tick_by_same s t tick_asks.Silent = refl
 
+pub tick_same : (s : State) (t : ℕ) → numbered (tick s t).0 ≡ numbered s
+tick_same s t = tick_by_same s (max s.line.moment t) (asked_at s.line (max s.line.moment t))
+
+pub pushed_same : (r : Reader) (s : State) (piece : List ℕ) → numbered (pushed r s piece) ≡ numbered s
+pushed_same r s piece = if_either (λ (new : State). numbered new ≡ numbered s) s.line.up _ _ refl refl
+
+pub sent_more : (s : State) (app : App) (t : ℕ) → numbered (sent s app t) ≡ numbered s ++ app ∷ []
+sent_more s app t =
+    ap (λ (l : List App). apps_past s.past ++ l) (apps-append s.entries (entry.Application app t ∷ []))
+    ∙ sym (append_assoc (apps_past s.past) (apps s.entries) (app ∷ []))
+
 popped_same : (h : History) (ready : List Item) → numbered (popped h ready).session ≡ numbered h.session
 popped_same h [] = refl
 popped_same h (x ∷ rest) = refl
@@ -71,14 +81,14 @@ if_pair P true x y u v p q = p
 if_pair P false x y u v p q = q
 
 event_replies : (r : Reader) (h : History) (e : Event) → numbered (happens r h e).session ≡ numbered h.session ++ reply_of h e
-event_replies r h (Push piece) = rw (append-nil (numbered h.session)) (if_either (λ (s : State). numbered s ≡ numbered h.session) h.session.line.up _ _ refl refl)
+event_replies r h (Push piece) = rw (append-nil (numbered h.session)) (pushed_same r h.session piece)
 event_replies r h (Step_at t) = rw (append-nil (numbered h.session)) (step_same r h.session t)
-event_replies r h (Tick_at t) = rw (append-nil (numbered h.session)) (tick_by_same h.session (max h.session.line.moment t) (asked_at h.session.line (max h.session.line.moment t)))
+event_replies r h (Tick_at t) = rw (append-nil (numbered h.session)) (tick_same h.session t)
 event_replies r h Break = sym (append-nil (numbered h.session))
 event_replies r h (Resume t) = sym (append-nil (numbered h.session))
 event_replies r h (Send app t) =
-    if_pair (λ (new : History) (reply : List App). numbered new.session ≡ numbered h.session ++ reply) (nat_lt last_number (length h.session.entries + 1)) _ _ _ _
-    (sym (append-nil (numbered h.session))) (ap (λ (l : List App). apps_past h.session.past ++ l) (apps-append h.session.entries (entry.Application app _ ∷ [])) ∙ sym (append_assoc (apps_past h.session.past) (apps h.session.entries) (app ∷ [])))
+    if_pair (λ (new : History) (reply : List App). numbered new.session ≡ numbered h.session ++ reply) (are_numbers_spent h.session) _ _ _ _
+    (sym (append-nil (numbered h.session))) (sent_more h.session app (max h.session.line.moment t))
 event_replies r h Pop = rw (append-nil (numbered h.session)) (popped_same h h.session.ready)
 event_replies r h Unpop = sym (append-nil (numbered h.session))
 event_replies r h Take_wire = sym (append-nil (numbered h.session))

@@ -1,9 +1,9 @@
 -- What a step leaves unread.
-use Rattle.std.proofs.Common.{◌≡◌, ℕ, ◌+◌, ◌≤◌, ◌<◌, ◌%◌, sum, List, [], ◌∷◌, ◌++◌, length, drop, max, Bool, true, false, if◌then◌else◌, Option, Some, None, ap, length-append, length-drop, arith}
+use Rattle.std.proofs.Common.{ℕ, ◌≤◌, ◌<◌, ◌%◌, sum, List, length, drop, max, Bool, true, false, if◌then◌else◌, Option, Some, None, ap, length-append, length-drop, arith}
 use Rattle.fix_frame.specs.Frame.{counted, trailer}
 use Rattle.fix_frame.specs.Stream.{Begins}
-use Rattle.fix_session.specs.Body.{frame_in, kind_in}
-use Rattle.fix_session.specs.Machine.{heard_frame, moved, plan_for, step, step_on}
+use Rattle.fix_session.specs.Body.{frame_in}
+use Rattle.fix_session.specs.Machine.{moved, plan_for, step, step_on}
 use Rattle.fix_session.specs.Reader.{Reader, Stands, settled}
 use Rattle.fix_session.specs.Shorter.{Shortens}
 use Rattle.fix_session.specs.State.{State}

@@ -1,16 +1,18 @@
 //! Laws over every list of a session's calls: each is the contract of a function with no parameters.
 
-ghost use Rattle.std.specs.Prelude.{◌≡◌, ℕ, List, [], ◌++◌, length, map};
+ghost use Rattle.std.specs.Prelude.{◌≡◌, ℕ, List, [], ◌∷◌, ◌++◌, length, map};
+ghost use Rattle.fix_dictionary.specs.declared.messages.App.{App};
+ghost use Rattle.fix_dictionary.specs.declared.messages.Item.{Item};
 ghost use Rattle.fix_session.specs.declared.comp_ids.CompIds.{CompIds};
 ghost use Rattle.fix_session.specs.Body.{frame_in};
 ghost use Rattle.fix_session.specs.Chain.{accepted, due_after, era_after, Rises};
 ghost use Rattle.fix_session.specs.Heard.{Heard};
-ghost use Rattle.fix_session.specs.Machine.{step, AtEnd};
+ghost use Rattle.fix_session.specs.Machine.{step, tick, sent, pushed, AtEnd};
 ghost use Rattle.fix_session.specs.Reader.{Reader};
 ghost use Rattle.fix_session.specs.Runs.{AreFirst, Event, begin, frames_since, replies, run};
 ghost use Rattle.fix_session.specs.Sent.{numbered};
 ghost use Rattle.fix_session.specs.Shorter.{Shortens};
-ghost use Rattle.fix_session.specs.State.{State, era_of};
+ghost use Rattle.fix_session.specs.State.{State, era_of, resumed, broken};
 
 use fix_fields::{one_fault, one_list, some_reading};
 use fix_frame::stream_laws;
@@ -32,6 +34,19 @@ pub fn numbers_rise()
 /// in order, whatever lines broke and whatever eras began.
 pub fn replies_in_order()
     ensures { (r : Reader) (ids : CompIds) (events : List Event) → numbered (run r events (begin ids)).session ≡ replies r (begin ids) events }
+{}
+
+/// Only a send numbers an application message, behind those numbered before it. Every other call leaves them as they are,
+/// whatever era begins.
+pub fn sends_alone_number()
+    ensures step { (r : Reader) (s : State) (t : ℕ) → numbered (step r s t).0 ≡ numbered s }
+    ensures tick { (s : State) (t : ℕ) → numbered (tick s t).0 ≡ numbered s }
+    ensures push { (r : Reader) (s : State) (piece : List ℕ) → numbered (pushed r s piece) ≡ numbered s }
+    ensures break_line { (s : State) → numbered (broken s) ≡ numbered s }
+    ensures resume { (s : State) (t : ℕ) → numbered (resumed s t) ≡ numbered s }
+    ensures ready { (s : State) (ready : List Item) → numbered (record s { ready = ready }) ≡ numbered s }
+    ensures take_wire { (s : State) → numbered (record s { wire = [] }) ≡ numbered s }
+    ensures send { (s : State) (app : App) (t : ℕ) → numbered (sent s app t) ≡ numbered s ++ app ∷ [] }
 {}
 
 /// A step answers Idle only where no frame is unread or the line is down.

@@ -1,10 +1,10 @@
 //! The session itself.
 
-ghost use Rattle.std.specs.Prelude.{◌≡◌, ◌↔◌, ◌≤◌, ◌+◌, ◌∷◌, [], ◌++◌, max, length, IfOk, OnOk, OnErr, IfSome, IfNone, Some, OnSome, Err, slice_get};
+ghost use Rattle.std.specs.Prelude.{◌≡◌, ◌↔◌, ◌≤◌, ◌+◌, ◌∷◌, [], ◌++◌, max, length, IfOk, OnOk, OnErr, IfSome, IfNone, Some, OnSome, Err, slice_get, true};
 ghost use Rattle.fix_session.specs.Machine as machine;
 ghost use Rattle.fix_session.specs.Reader.{Reader};
 ghost use Rattle.fix_session.specs.State.{fresh, resumed, broken};
-ghost use Rattle.fix_session.specs.Table.{last_number};
+ghost use Rattle.fix_session.specs.Table.{are_numbers_spent};
 ghost use Rattle.resend_store.specs.declared.entry.Entry.TheVariants as entry;
 
 use crate::comp_ids::CompIds;
@@ -272,7 +272,7 @@ impl Session {
     /// Numbers and stores an application message, and queues its frame on a logged-on line.
     pub fn send(&mut self, app: &App, t: Moment) -> Result<(), SendFault>
         ensures sent { OnOk result (self.new.state ≡ machine.sent self.old.state app.now (max self.old.state.line.moment t)) }
-        ensures full { (result ≡ Err SendFault.Full) ↔ (last_number ≤ length self.old.state.entries) }
+        ensures full { (result ≡ Err SendFault.Full) ↔ (are_numbers_spent self.old.state ≡ true) }
         ensures err { OnErr result (self.new.state ≡ self.old.state) }
     {
         let number = self.store.next_number();

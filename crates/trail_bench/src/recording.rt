@@ -35,6 +35,7 @@ fn row(alloc: Global, n: u64) -> Result<TrailRow>
     Ok(TrailRow {
         n,
         who: 1,
+        era: 1,
         number: 2,
         moment,
         text: RowText::from_vec(text),

@@ -160,7 +160,7 @@ earlier_of : (x : HeldSide) (xs : List HeldSide) (k : HeldSide) (o : Option Held
 earlier_of x xs k None member h = inl (some_same x k h)
 earlier_of x xs k (Some z) member h = chosen x z xs k (nat_lt z.due x.due) (member z refl) h
 
-In-earliest : (hs : List HeldSide) (k : HeldSide) → earliest hs ≡ Some k → In k hs
+pub In-earliest : (hs : List HeldSide) (k : HeldSide) → earliest hs ≡ Some k → In k hs
 In-earliest [] k e = absurd (none_some k e)
 In-earliest (x ∷ xs) k e = earlier_of x xs k (earliest xs) (λ z g. In-earliest xs z g) e
 

@@ -80,7 +80,7 @@ order-Keeps m h s d t places = first_of-Keeps m h.facts (order_refusals m h s d 
 -- cancels and replacements
 
 -- a resting order that was named is one of the entries
-abbrev IsEntered : List Fact → Named → Type 0
+abbrev pub IsEntered : List Fact → Named → Type 0
 IsEntered facts (IsResting r) = In r.entry (entries facts)
 IsEntered facts (IsHeld k) = Unit {0}
 IsEntered facts IsUnknown = Unit {0}
@@ -97,7 +97,7 @@ found_entered : (facts : List Fact) (who : ℕ) (id : List ℕ) (x : Resting) �
 found_entered facts who id x e =
     (with_left_from (left facts) (entries facts) x (In-find (λ (r : Resting). rests r.entry.order.instrument r.entry.order.side r && (r.entry.order.who == who && bytes_eq r.entry.order.id id)) (map (with_left (left facts)) (entries facts)) x e).0).0
 
-named-IsEntered : (h : History) (who : ℕ) (id : List ℕ) → IsEntered h.facts (named h who id)
+pub named-IsEntered : (h : History) (who : ℕ) (id : List ℕ) → IsEntered h.facts (named h who id)
 named-IsEntered h who id = order_entered h.facts (find_order h.facts who id) (find_held h.facts who id) (found_entered h.facts who id)
 
 cancel_of-Keeps : (m : Market) (h : History) (s : Sender) (d : CancelMessage) (n : Named) → IsEntered h.facts n → Keeps m h.facts (answer_cancel_of m h s d n)

@@ -55,6 +55,15 @@ pub mod OpenRoomsEach
 pub mod LiveQuotes
 -- a withdrawal tells each participant of each quote once at most
 pub mod Told
+-- one input more, and more of them
+pub mod MoreInputLemmas
+-- an order comes to rest alone where there is room, so few orders rest on a side
+pub mod ShortSides
+pub mod ShortSidesEach
+-- one input tells each participant few times
+pub mod FewReplies
 pub mod AmountLemmas
+-- every reply goes to a participant
+pub mod Addressed
 pub mod NameLemmas
 pub mod RowLemmas

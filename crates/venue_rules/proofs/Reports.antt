@@ -120,7 +120,7 @@ same_side Buy Sell h = absurd (true≢false (sym h))
 same_side Sell Buy h = absurd (true≢false (sym h))
 same_side Sell Sell h = refl
 
-In-paired : (rs : List Resting) (qs : List ℕ) (f : Fill) → In f (paired rs qs) → In f.resting rs
+pub In-paired : (rs : List Resting) (qs : List ℕ) (f : Fill) → In f (paired rs qs) → In f.resting rs
 In-paired [] qs f i = absurd i
 In-paired (r ∷ rs) [] f i = absurd i
 In-paired (r ∷ rs) (q ∷ qs) f (inl e) = inl (ap (λ (g : Fill). g.resting) e)

@@ -32,6 +32,10 @@ pub mod Answers
 pub mod Messages
 -- the venue over a list of inputs
 pub mod Run
+-- what one input more changes
+pub mod MoreInputs
+-- whom replies go to
+pub mod Addressees
 -- what is reported over a list of inputs
 pub mod Reported
 -- the inputs that rows tell of

@@ -1,13 +1,20 @@
 use Rattle.std.specs.Prelude.{ℕ, ◌≤◌, List, [], ◌∷◌, length}
+use Rattle.fix_dictionary.specs.declared.values.Side.{Side}
 use Rattle.venue_rules.specs.Market.{Market}
+use Rattle.venue_rules.specs.Book.{resting, side_room}
 use Rattle.venue_rules.specs.Requests.{open_room}
 use Rattle.venue_rules.specs.Rooms.{live_quotes, open_rooms}
 use Rattle.venue_rules.specs.Run.{Input, Message, Tick, replies_to, run}
+use Rattle.venue_rules.specs.MoreInputs.{answer_after}
 use Rattle.venue_rules.specs.Answer.{Sender}
 use Rattle.venue_rules.specs.Withdrawals.{answer_withdrawal}
 use Rattle.fix_dictionary.specs.declared.messages.QuoteCancel.{QuoteCancel}
 
--- What a list of inputs whose moments do not fall is limited to.
+-- What a list of inputs is limited to; of rooms and quotes, where the moments do not fall.
+
+-- at most 200 orders rest on a side of an instrument
+abbrev pub SidesAreShort : Market → List Input → Type 0
+SidesAreShort m is = (x : ℕ) (side : Side) → length (resting (run m is).history.facts x side) ≤ side_room
 
 abbrev pub moment_of : Input → ℕ
 moment_of (Message taken t) = t
@@ -29,3 +36,10 @@ LiveQuotesAreFew m is = (t maker : ℕ) → IsRising 0 is t → length (live_quo
 -- so a withdrawal tells nobody more often than that
 abbrev pub WithdrawalsAreFew : Market → List Input → Type 0
 WithdrawalsAreFew m is = (t j : ℕ) (s : Sender) (d : QuoteCancel) → IsRising 0 is t → length (replies_to j (answer_withdrawal m (run m is).history s d t).replies) ≤ open_room
+
+-- one input, at its moment, adds at most so many replies for one participant
+abbrev pub reply_room : ℕ
+reply_room = 1536
+
+abbrev pub RepliesAreFew : Market → Type 0
+RepliesAreFew m = (is : List Input) (i : Input) (j : ℕ) → IsRising 0 is (moment_of i) → length (replies_to j (answer_after m is i).replies) ≤ reply_room

@@ -1,10 +1,12 @@
 //! What every list of inputs keeps.
 
 ghost use Rattle.std.specs.Prelude.{List};
+ghost use Rattle.venue_rules.specs.Addressees.{AnswersGoToParticipants, RepliesGoToParticipants};
 ghost use Rattle.venue_rules.specs.Amounts.{AmountsStayWithin, FillsAreWithin, PrintedNumbersAreIdentifiers};
 ghost use Rattle.venue_rules.specs.Lawful.{BestOrderTrades, EveryRunIsLawful, LinkedOrdersWait, NumbersArePlaces, OrdersTradeWithin, PricesComeWithFirstQuote, RecipientsAskedTogether, RequestsComeFirst};
-ghost use Rattle.venue_rules.specs.Limits.{LiveQuotesAreFew, OpenRoomsAreFew, WithdrawalsAreFew};
+ghost use Rattle.venue_rules.specs.Limits.{LiveQuotesAreFew, OpenRoomsAreFew, RepliesAreFew, SidesAreShort, WithdrawalsAreFew};
 ghost use Rattle.venue_rules.specs.Market.{Market};
+ghost use Rattle.venue_rules.specs.MoreInputs.{HistoriesJoin, HistoryGoesOn, OwedGoesOn, OwedJoins, RepliesGoOn, RepliesJoin, RowsGoOn, RowsJoin, TimelyGoesOn, TimelyJoins};
 ghost use Rattle.venue_rules.specs.ReadBack.{RowsAreReadBack};
 ghost use Rattle.venue_rules.specs.Reported.{ReportsAreNumbered, TradesAreReported};
 ghost use Rattle.venue_rules.specs.RoomTrades.{RoomsTradeOnce, RoomTradesAreLawful};
@@ -71,4 +73,37 @@ pub fn open_rooms_are_few()
     ensures rooms { (m : Market) (is : List Input) → OpenRoomsAreFew m is }
     ensures quotes { (m : Market) (is : List Input) → LiveQuotesAreFew m is }
     ensures withdrawals { (m : Market) (is : List Input) → WithdrawalsAreFew m is }
+{}
+
+/// What one input more changes: the history is that after its answer; the answer's replies, their messages and the
+/// input's row come behind those before; and the list is timely where it was and the input is.
+pub fn run_goes_on()
+    ensures history { HistoryGoesOn }
+    ensures replies { RepliesGoOn }
+    ensures owed { OwedGoesOn }
+    ensures timely { TimelyGoesOn }
+    ensures rows { RowsGoOn }
+{}
+
+/// The same of any inputs that come after others: the venue goes on from the history of those.
+pub fn runs_join()
+    ensures history { HistoriesJoin }
+    ensures replies { RepliesJoin }
+    ensures owed { OwedJoins }
+    ensures timely { TimelyJoins }
+    ensures rows { RowsJoin }
+{}
+
+/// Where each message comes from a participant, every reply goes to one: over a whole list of inputs, and of the answer
+/// to one input more.
+pub fn replies_go_to_participants()
+    ensures all { RepliesGoToParticipants }
+    ensures answer { AnswersGoToParticipants }
+{}
+
+/// At most 200 orders rest on a side of an instrument; so one input adds at most 1,536 replies for one participant: of an
+/// order at most 402, of a request 12, of a withdrawal 1,000. This last is over inputs whose moments do not fall.
+pub fn replies_are_few()
+    ensures orders { (m : Market) (is : List Input) → SidesAreShort m is }
+    ensures replies { (m : Market) → RepliesAreFew m }
 {}

@@ -1,0 +1,52 @@
+"""Times book_bench and its peer in C++ in turn, at several sizes, and prints the nanoseconds of each request and their ratio."""
+
+import os
+import subprocess
+import sys
+
+PROGRAM = "crates/book_bench/out/book_bench"
+# how many rest on each side of each instrument, how many orders came and went, how many instruments, how many orders are timed in
+# the plain book
+SIZES = (
+    (10, 1_000, 1, 20),
+    (10, 10_000, 1, 0),
+    (10, 100_000, 1, 0),
+    (199, 1_000, 1, 20),
+    (199, 100_000, 1, 0),
+    (10, 1_000, 256, 0),
+    (100, 1_000, 256, 0),
+)
+KINDS = ("rest", "replace", "cancel", "fill", "picture", "plain")
+TURNS = 3
+
+
+def times(words):
+    said = subprocess.run(words, check=True, capture_output=True, text=True).stdout
+    return {line.split()[0]: int(line.split()[1]) for line in said.splitlines()}
+
+
+def best(words, turns):
+    told = [times(words) for _ in range(turns)]
+    return {kind: min(it[kind] for it in told) for kind in told[0]}
+
+
+def main():
+    timed, place = sys.argv[1], sys.argv[2]
+    # builds it where it is not built
+    subprocess.run(["rt", "run"], cwd="crates/book_bench", check=True, stdin=subprocess.DEVNULL, capture_output=True)
+    for resting, gone, instruments, plain in SIZES:
+        # where many rest, it is the making of the book that takes the time
+        turns = 1 if resting * instruments > 10_000 else TURNS
+        size = [str(resting), str(gone), str(instruments), timed]
+        book = best([PROGRAM, *size, str(plain)], turns)
+        peer = best([os.path.join(place, "book_peer"), *size], turns)
+        print(f"{resting} rest on each side, {gone} gone, {instruments} instruments:")
+        for kind in KINDS:
+            if kind in peer:
+                print(f"  {kind}: {book[kind]} ns, C++ {peer[kind]} ns, ratio {book[kind] / max(peer[kind], 1):.1f}")
+            elif kind in book and book[kind]:
+                print(f"  {kind}: {book[kind]} ns an order", flush=True)
+
+
+if __name__ == "__main__":
+    main()

@@ -1,0 +1,99 @@
+//! The requests that are timed, each as a venue makes it: looked up, planned and applied.
+
+use crate::stream::quantity;
+use anyhow::{Result, anyhow};
+use fix_dictionary::{Identifier, Price};
+use instruments::Instruments;
+use participants::{Participants, Who};
+use price_book::{PriceBook, ScannedBook};
+use sef_moment::Moment;
+use venue_rules::OrderFact;
+
+/// Who trades what, and when.
+#[derive(Drop)]
+pub(crate) struct Market {
+    pub(crate) participants: Participants,
+    pub(crate) instruments: Instruments,
+    pub(crate) moment: Moment,
+}
+
+pub(crate) fn enter(market: &Market, book: &mut PriceBook, order: &OrderFact) -> Result<()> {
+    if book.used(order.who, &order.id) {
+        return Err(anyhow!("used"));
+    }
+    let Ok(plan) = book.plan_entry(
+        &market.participants,
+        &market.instruments,
+        order,
+        market.moment,
+    ) else {
+        return Err(anyhow!("refused"));
+    };
+    book.apply(plan);
+    Ok(())
+}
+
+pub(crate) fn enter_plain(
+    market: &Market,
+    book: &mut ScannedBook,
+    order: &OrderFact,
+) -> Result<()> {
+    if book.used(order.who, &order.id) {
+        return Err(anyhow!("used"));
+    }
+    let Ok(plan) = book.plan_entry(
+        &market.participants,
+        &market.instruments,
+        order,
+        market.moment,
+    ) else {
+        return Err(anyhow!("refused"));
+    };
+    book.apply(plan);
+    Ok(())
+}
+
+pub(crate) fn cancel(
+    book: &mut PriceBook,
+    who: Who,
+    old: &Identifier,
+    id: &Identifier,
+) -> Result<()> {
+    if book.used(who, id) || book.order(who, old).is_none() {
+        return Err(anyhow!("unknown"));
+    }
+    let plan = book.plan_cancel(who, old, id)?;
+    book.apply(plan);
+    Ok(())
+}
+
+pub(crate) fn replace(
+    market: &Market,
+    book: &mut PriceBook,
+    who: Who,
+    old: &Identifier,
+    id: &Identifier,
+    price: Price,
+) -> Result<()> {
+    let units = quantity(49);
+    let Some(order) = book.order(who, old) else {
+        return Err(anyhow!("unknown"));
+    };
+    if units.get() <= order.filled().get() {
+        return Err(anyhow!("filled"));
+    }
+    let Ok(plan) = book.plan_replace(
+        &market.participants,
+        &market.instruments,
+        who,
+        old,
+        id,
+        units,
+        price,
+        market.moment,
+    ) else {
+        return Err(anyhow!("refused"));
+    };
+    book.apply(plan);
+    Ok(())
+}
