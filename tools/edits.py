@@ -54,7 +54,7 @@ def pairs_of(text):
         elif line.startswith("new:"):
             if not path or not old:
                 raise BadEdit("a 'new:' line stands before any 'file:' or 'old:' line")
-            pairs.append((path, old, line[len("new:") :].removeprefix(" ")))
+            pairs.append((path, old, re.sub("^ ", "", line[len("new:") :])))
             old = None
     if not pairs or old:
         raise BadEdit("it has no pair, or half of one, of an 'old:' and a 'new:' line")

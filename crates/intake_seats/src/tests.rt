@@ -1,5 +1,5 @@
 ghost use Rattle.std.specs.Prelude.{◌≡◌, ◌+◌, true, None, Some, IfOk, vec_len};
-ghost use Rattle.intake_seats.specs.Ends.{AreHands, AreTakes, IsSameTaker};
+ghost use Rattle.intake_seats.specs.Ends.{AreHands, AreTakes, IsSameHander, IsSameTaker};
 
 use crate::{Board, HandSeat, MOST_SEATS, TakeSeat, Unclosed};
 use std::alloc::{AllocError, Global};
@@ -51,39 +51,102 @@ fn close_one(
     Ok(left.pop().unwrap())
 }
 
+// Hands 7 and 8 over, takes, puts back and clears: how many calls answered as they should before one did not, ten where all did.
+fn through_one_seat(board: &Board<u32>, hand: &mut HandSeat<u32>, take: &mut TakeSeat<u32>) -> u32
+    requires hand { hand.old.board ≡ board.now }
+    requires take { take.old.board ≡ board.now }
+    ensures hand { IsSameHander hand.old hand.new }
+    ensures take { IsSameTaker take.old take.new }
+{
+    if hand.hand(board, 7) != Ok(()) {
+        return 0;
+    }
+    if hand.hand(board, 8) != Err(8) {
+        return 1;
+    }
+    if take.take(board) != Some(7) {
+        return 2;
+    }
+    if take.take(board).is_some() {
+        return 3;
+    }
+    if hand.hand(board, 8) != Err(8) {
+        return 4;
+    }
+    put_back_and_clear(board, hand, take)
+}
+
+// The calls from the fifth on, with 7 in hand.
+fn put_back_and_clear(board: &Board<u32>, hand: &mut HandSeat<u32>, take: &mut TakeSeat<u32>) -> u32
+    requires hand { hand.old.board ≡ board.now }
+    requires take { take.old.board ≡ board.now }
+    requires held { take.old.in_hand ≡ Some 7 }
+    ensures hand { IsSameHander hand.old hand.new }
+    ensures take { IsSameTaker take.old take.new }
+{
+    if take.put_back(board, 7) != Ok(()) {
+        return 5;
+    }
+    if take.take(board) != Some(7) {
+        return 6;
+    }
+    if !take.clear(board) {
+        return 7;
+    }
+    if take.clear(board) {
+        return 8;
+    }
+    if hand.hand(board, 8) != Ok(()) {
+        return 9;
+    }
+    10
+}
+
 #[test]
 fn a_message_goes_through_one_seat(rt: HostRuntime) -> Result<(), Fail> {
     let (board, mut hands, mut takes) = Board::new(rt.alloc(), 1)?;
     let mut hand = hands.pop().unwrap();
     let mut take = takes.pop().unwrap();
-    assert_eq!(rt; hand.hand(&board, 7u32), Ok(()));
-    assert_eq!(rt; hand.hand(&board, 8), Err(8));
-    assert_eq!(rt; take.take(&board), Some(7));
-    assert_eq!(rt; take.take(&board), None);
-    assert_eq!(rt; hand.hand(&board, 8), Err(8));
-    assert_eq!(rt; take.put_back(&board, 7), Ok(()));
-    assert_eq!(rt; take.take(&board), Some(7));
-    assert!(rt; take.clear(&board));
-    assert!(rt; !take.clear(&board));
-    assert_eq!(rt; hand.hand(&board, 8), Ok(()));
-    assert_eq!(rt; close_one(rt.alloc(), board, hand, take)?, Some(8));
+    let answered = through_one_seat(&board, &mut hand, &mut take);
+    let was_held = take.clear(&board);
+    let left = close_one(rt.alloc(), board, hand, take)?;
+    assert_eq!(rt; (answered, was_held), (10, false));
+    assert_eq!(rt; left, Some(8));
     Ok(())
+}
+
+// Whether an end tells that nothing is in hand, then 7, then nothing.
+fn tells_what_is_in_hand(
+    board: &Board<u32>,
+    hand: &mut HandSeat<u32>,
+    take: &mut TakeSeat<u32>,
+) -> bool
+    requires hand { hand.old.board ≡ board.now }
+    requires take { take.old.board ≡ board.now }
+    requires empty { take.old.in_hand ≡ None }
+    ensures hand { IsSameHander hand.old hand.new }
+    ensures take { IsSameTaker take.old take.new }
+{
+    if take.holding() || take.put_back(board, 7) != Err(7) {
+        return false;
+    }
+    if hand.hand(board, 7) != Ok(()) || take.take(board) != Some(7) || !take.holding() {
+        return false;
+    }
+    take.clear(board) && !take.holding()
 }
 
 #[test]
 fn an_end_tells_what_is_in_hand(rt: HostRuntime) -> Result<(), Fail> {
     let (board, mut hands, mut takes) = Board::new(rt.alloc(), 1)?;
-    assert_eq!(rt; board.seats(), 1);
+    let seats = board.seats();
     let mut hand = hands.pop().unwrap();
     let mut take = takes.pop().unwrap();
-    assert!(rt; !take.holding());
-    assert_eq!(rt; take.put_back(&board, 7), Err(7));
-    assert_eq!(rt; hand.hand(&board, 7u32), Ok(()));
-    assert_eq!(rt; take.take(&board), Some(7));
-    assert!(rt; take.holding());
-    assert!(rt; take.clear(&board));
-    assert!(rt; !take.holding());
-    assert_eq!(rt; close_one(rt.alloc(), board, hand, take)?, None);
+    let is_told = tells_what_is_in_hand(&board, &mut hand, &mut take);
+    let was_held = take.clear(&board);
+    let left = close_one(rt.alloc(), board, hand, take)?;
+    assert_eq!(rt; (seats, is_told, was_held), (1, true, false));
+    assert_eq!(rt; left, None);
     Ok(())
 }
 
@@ -130,6 +193,16 @@ fn take_all(
     Ok((take, taken))
 }
 
+// How many messages there are, where they are 1, 2, ..
+fn counted(messages: Vec<u32>) -> Option<usize> {
+    for (i, message) in messages.iter().enumerate() {
+        if *message as usize != i + 1 {
+            return None;
+        }
+    }
+    Some(messages.len())
+}
+
 #[test]
 fn two_threads_hand_and_take(rt: HostRuntime) -> Result<(), Fail> {
     let (board, mut hands, mut takes) = Board::new(rt.alloc(), 1)?;
@@ -153,10 +226,7 @@ fn two_threads_hand_and_take(rt: HostRuntime) -> Result<(), Fail> {
     if let Some(left) = close_one(alloc, board, hand, take)? {
         arrived.push(left)?;
     }
-    assert_eq!(rt; arrived.len(), last as usize);
-    for (i, message) in arrived.iter().enumerate() {
-        assert_eq!(rt; *message as usize, i + 1);
-    }
+    assert_eq!(rt; counted(arrived), Some(last as usize));
     Ok(())
 }
 
