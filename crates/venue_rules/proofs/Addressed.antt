@@ -1,7 +1,6 @@
-use Rattle.std.proofs.Common.{◌≡◌, refl, sym, ap, ◌∙◌, subst, inl, inr, ◌⊎◌, ℕ, ℤ, ◌+◌, ◌<◌, Bool, true, false, not, ◌&&◌, ◌==◌, nat_lt, nat_le, List, [], ◌∷◌, ◌++◌, length, map, filter, filter_map, flat_map, bytes_eq, Option, Some, None, arith, if◌then◌else◌, cond}
+use Rattle.std.proofs.Common.{◌≡◌, refl, ◌∙◌, subst, inl, inr, ℕ, ℤ, ◌+◌, ◌<◌, Bool, true, false, not, ◌&&◌, ◌==◌, nat_lt, nat_le, List, [], ◌∷◌, ◌++◌, length, map, filter, flat_map, bytes_eq, Option, Some, None, if◌then◌else◌}
 use Rattle.std.proofs.lemmas.List.Quantifiers.{position-Some}
-use Rattle.std.specs.Prelude.{Contains}
-use Rattle.std.specs.List.{enumerate_from, list_any, cons_option}
+use Rattle.std.specs.List.{enumerate_from, list_any}
 use Rattle.fix_dictionary.specs.declared.messages.App.{App}
 use Rattle.fix_dictionary.specs.declared.messages.App.TheVariants.{QuoteRequest, Quote, QuoteCancel, QuoteResponse, QuoteStatusReport, QuoteRequestReject, NewOrderSingle, OrderCancelRequest, OrderCancelReplaceRequest, NewOrderCross, ExecutionReport, OrderCancelReject, MarketDataRequest, MarketDataSnapshot, MarketDataRequestReject, BusinessMessageReject, Unsupported}
 use Rattle.fix_dictionary.specs.declared.messages.NewOrderSingle.{NewOrderSingle as OrderMessage}
@@ -39,19 +38,19 @@ use Rattle.venue_rules.specs.Orders.{accepted, answer_order, order_asked, order_
 use Rattle.venue_rules.specs.Changes.{Named, IsResting, IsHeld, IsUnknown, named, standing, answer_cancel_of, answer_replace_of, cancel_refusals, held_replace_refusals, replace_refusals, replace_refused, cancelled, held_cancelled, replaced, replacement}
 use Rattle.venue_rules.specs.Crosses.{answer_cross, answer_due, cross_accepted, cross_refusals, due_refusals, first_side, side_order}
 use Rattle.venue_rules.specs.Requests.{answer_request, named_recipients, opened, recipients, request_accepted, request_refusals, request_sent}
-use Rattle.venue_rules.specs.Quotes.{answer_quote_of, quote_accepted, quote_refusals, shown_with, quote_sent, quoted}
+use Rattle.venue_rules.specs.Quotes.{answer_quote_of, quote_accepted, quote_refusals, shown_with}
 use Rattle.venue_rules.specs.Withdrawals.{answer_withdrawal_of, both_told, not_found, to_maker, to_requester, withdraw_one, withdrawn_or}
-use Rattle.venue_rules.specs.Responses.{answer_hit, answer_hit_at, answer_response, answer_response_in, answer_response_to, kind_refusals, price_for, response_refusals, room_traded, taken_side}
+use Rattle.venue_rules.specs.Responses.{answer_hit, answer_hit_at, answer_response, answer_response_in, answer_response_to, kind_refusals, price_for, response_refusals, taken_side}
 use Rattle.venue_rules.specs.MarketData.{answer_market_data, market_data, market_data_refusals}
 use Rattle.venue_rules.specs.Answers.{answer_app}
 use Rattle.venue_rules.specs.Run.{Input, Message, Tick, after, answer_due_of, answer_input, run, run_from}
-use Rattle.venue_rules.specs.Addressees.{AnswersGoToParticipants, ComeFromParticipants, ComesFromParticipant, IsParticipant, RepliesGoToParticipants}
+use Rattle.venue_rules.specs.Addressees.{AnswersGoToParticipants, ComeFromParticipants, ComesFromParticipant, RepliesGoToParticipants}
 use Rattle.venue_rules.proofs.Members.{In, In-filter, In-find, In-from_Contains, picked_from}
 use Rattle.venue_rules.proofs.Lefts.{In-resting}
 use Rattle.venue_rules.proofs.Reports.{In-paired}
 use Rattle.venue_rules.proofs.AmountLemmas.{In-earliest}
 use Rattle.venue_rules.proofs.FollowsEach.{IsEntered, named-IsEntered}
-use Rattle.venue_rules.proofs.OpenRooms.{EachRefusal, first_of-each}
+use Rattle.venue_rules.proofs.OpenRooms.{first_of-each}
 
 -- Every reply goes to a participant: to the sender, to a recipient that the participant file names, or to somebody of whom a fact tells, who was a sender.
 

@@ -1,4 +1,4 @@
-use Rattle.std.proofs.Common.{◌≡◌, refl, sym, ap, ◌∙◌, ℕ, ℤ, suc, ◌+◌, ◌≤◌, Bool, true, false, if◌then◌else◌, ◌==◌, nat_lt, List, [], ◌∷◌, ◌++◌, length, map, filter, flat_map, Option, Some, None, arith, length-append}
+use Rattle.std.proofs.Common.{◌≡◌, refl, ap, ℕ, ℤ, suc, ◌+◌, ◌≤◌, Bool, true, false, if◌then◌else◌, ◌==◌, nat_lt, List, [], ◌∷◌, ◌++◌, length, map, filter, flat_map, Option, Some, None, arith, length-append}
 use Rattle.std.proofs.lemmas.List.{length-map}
 use Rattle.std.specs.List.{enumerate_from}
 use Rattle.std.proofs.lemmas.Bool.Decides.{nat_tests}
@@ -30,7 +30,7 @@ use Rattle.venue_rules.specs.Book.{Fill, Resting, accepts, against, filled, fill
 use Rattle.venue_rules.specs.Delay.{due}
 use Rattle.venue_rules.specs.Rooms.{find_quote, find_room, first_quote, room_by_number}
 use Rattle.venue_rules.specs.Entering.{entering, entry_reports, fill_reports, order_report, unfilled_reports}
-use Rattle.venue_rules.specs.Answer.{Answer, Sender, first_of, numbered, reply}
+use Rattle.venue_rules.specs.Answer.{Answer, Sender, numbered, reply}
 use Rattle.venue_rules.specs.Orders.{accepted, answer_order, order_asked, order_refusals}
 use Rattle.venue_rules.specs.Changes.{IsHeld, IsResting, IsUnknown, Named, answer_cancel_of, answer_replace_of, cancel_refusals, cancelled, held_cancelled, held_replace_refusals, named, replace_refusals, replace_refused, replaced, replacement, standing}
 use Rattle.venue_rules.specs.Crosses.{answer_cross, answer_due, cross_accepted, cross_refusals, due_refusals, first_side, side_order}
@@ -39,7 +39,7 @@ use Rattle.venue_rules.specs.Quotes.{answer_quote_of, quote_accepted, quote_refu
 use Rattle.venue_rules.specs.Responses.{answer_hit, answer_hit_at, answer_response, answer_response_in, answer_response_to, kind_refusals, price_for, response_refusals, taken_side}
 use Rattle.venue_rules.specs.MarketData.{answer_market_data, market_data, market_data_refusals}
 use Rattle.venue_rules.specs.Answers.{answer_app, type_of}
-use Rattle.venue_rules.specs.Run.{Input, Message, Tick, answer_due_of, answer_input, replies_to, run}
+use Rattle.venue_rules.specs.Run.{Input, Message, Tick, answer_due_of, replies_to, run}
 use Rattle.venue_rules.specs.Limits.{IsRising, RepliesAreFew, reply_room}
 use Rattle.venue_rules.proofs.OpenRooms.{filter_short, first_of-each}
 use Rattle.venue_rules.proofs.ShortSides.{IsShort}
@@ -149,7 +149,7 @@ shown-short m h r (Some q) x y = omega arith
 quote_of-Few : (m : Market) (h : History) (s : Sender) (d : QuoteMessage) (t : ℕ) (r : Option Room) → Few (answer_quote_of m h s d t r)
 quote_of-Few m h s d t None = one_few
 quote_of-Few m h s d t (Some r) =
-    first_of-each Few (quote_refusals m h s r d t) (quote_accepted m h s r d) (one_few, (one_few, (one_few, (one_few, (one_few, (one_few, (one_few, (one_few, tt)))))))) 
+    first_of-each Few (quote_refusals m h s r d t) (quote_accepted m h s r d) (one_few, (one_few, (one_few, (one_few, (one_few, (one_few, (one_few, (one_few, tt))))))))
     (λ n. shown-short m h r (first_quote h.facts r.number) (quote_status s d (Some (symbol_of m.instruments r.instrument)) Accepted) (quote_sent m r (quoted h s r d)))
 
 hit_at-Few : (m : Market) (h : History) (s : Sender) (r : Room) (q : RoomQuote) (d : ResponseMessage) (t : ℕ) (side : Side) (p : Option ℤ) → Few (answer_hit_at m h s r q d t side p)

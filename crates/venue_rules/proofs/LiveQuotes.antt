@@ -1,4 +1,4 @@
-use Rattle.std.proofs.Common.{◌≡◌, refl, sym, ap, ◌∙◌, subst, inl, inr, ◌⊎◌, ℕ, suc, ◌+◌, ◌<◌, ◌≤◌, Bool, true, false, cond, not, ◌&&◌, ◌==◌, nat_le, List, [], ◌∷◌, ◌++◌, map, length, filter, Option, Some, None, arith, eqb-true, eq-eqb}
+use Rattle.std.proofs.Common.{◌≡◌, refl, sym, ap, ◌∙◌, subst, inl, inr, ◌⊎◌, ℕ, suc, ◌+◌, ◌<◌, ◌≤◌, Bool, true, false, cond, not, ◌&&◌, ◌==◌, nat_le, List, [], ◌∷◌, map, length, filter, Option, Some, None, arith, eqb-true, eq-eqb}
 use Rattle.std.proofs.lemmas.Bool.{true≢false, and_parts}
 use Rattle.std.proofs.lemmas.Bool.Decides.{nat_tests}
 use Rattle.std.proofs.lemmas.List.{length-map}
@@ -12,7 +12,7 @@ use Rattle.venue_rules.specs.Facts.{quotes, rooms}
 use Rattle.venue_rules.specs.Rooms.{is_closed, is_last, is_live, is_open, is_replaced, is_withdrawn, last_quote, live_quotes, open_rooms}
 use Rattle.venue_rules.specs.Requests.{open_room}
 use Rattle.venue_rules.specs.Run.{Input, run}
-use Rattle.venue_rules.specs.Limits.{IsRising, LiveQuotesAreFew}
+use Rattle.venue_rules.specs.Limits.{LiveQuotesAreFew}
 use Rattle.venue_rules.proofs.Members.{In, In-filter, Places}
 use Rattle.venue_rules.proofs.Follows.{Follows, Each}
 use Rattle.venue_rules.proofs.EveryRun.{member_follows, quotes_placed, quoted_in, rooms_more, run-Follows}
@@ -145,10 +145,10 @@ live_within : (m : Market) (rs : List Reply) (fs : List Fact) (t maker : ℕ) �
 live_within m rs fs t maker p =
     let test : RoomQuote → Bool = λ q. q.maker == maker && is_live fs t q in
     let few : length (live_quotes fs maker t) ≤ length (map (λ (r : Room). r.number) (open_rooms fs t)) =
-      fits (λ (q : RoomQuote). q.room) (λ (q : RoomQuote). q.number) 0 (live_quotes fs maker t) (map (λ (r : Room). r.number) (open_rooms fs t))
-        (rising_filter (λ (q : RoomQuote). q.number) 0 test (quotes fs) (Places-Rising (λ (q : RoomQuote). q.number) 0 (quotes fs) (quotes_placed m rs fs p)))
-        (λ x y i j e. one_live fs t maker x y (In-filter test (quotes fs) x i).1 (In-filter test (quotes fs) y j).1 e)
-        (λ x i. let k = In-filter test (quotes fs) x i in room_of_live m rs fs t p x k.0 (and_parts (x.maker == maker) (is_live fs t x) k.1).1) in
+    fits (λ (q : RoomQuote). q.room) (λ (q : RoomQuote). q.number) 0 (live_quotes fs maker t) (map (λ (r : Room). r.number) (open_rooms fs t))
+    (rising_filter (λ (q : RoomQuote). q.number) 0 test (quotes fs) (Places-Rising (λ (q : RoomQuote). q.number) 0 (quotes fs) (quotes_placed m rs fs p)))
+    (λ x y i j e. one_live fs t maker x y (In-filter test (quotes fs) x i).1 (In-filter test (quotes fs) y j).1 e)
+    (λ x i. let k = In-filter test (quotes fs) x i in room_of_live m rs fs t p x k.0 (and_parts (x.maker == maker) (is_live fs t x) k.1).1) in
     let count : length (map (λ (r : Room). r.number) (open_rooms fs t)) ≡ length (open_rooms fs t) = length-map (open_rooms fs t) (λ (r : Room). r.number) in
     omega (arith, few, count)
 

@@ -1,16 +1,14 @@
-use Rattle.std.proofs.Common.{◌≡◌, refl, sym, ap, ◌∙◌, subst, inl, inr, ◌⊎◌, ℕ, suc, ◌+◌, ◌≤◌, Bool, true, false, cond, not, ◌&&◌, ◌||◌, nat_le, List, [], ◌∷◌, ◌++◌, length, filter, None, arith, length-append}
+use Rattle.std.proofs.Common.{◌≡◌, refl, sym, ap, ◌∙◌, inl, inr, ◌⊎◌, ℕ, suc, ◌+◌, ◌≤◌, Bool, true, false, cond, not, ◌&&◌, ◌||◌, nat_le, List, [], ◌∷◌, ◌++◌, length, filter, arith, length-append}
 use Rattle.std.specs.List.{cons_option, list_any}
-use Rattle.std.proofs.lemmas.Bool.{true≢false, and_parts, or_parts, not-false}
+use Rattle.std.proofs.lemmas.Bool.{true≢false, and_parts, or_parts}
 use Rattle.std.proofs.lemmas.Bool.Decides.{nat_tests}
 use Rattle.std.proofs.lemmas.List.Elements.{filter_map-append, filter-append}
 use Rattle.venue_rules.specs.declared.facts.Fact.{Fact}
 use Rattle.venue_rules.specs.declared.facts.Room.{Room}
-use Rattle.venue_rules.specs.Market.{Market}
-use Rattle.venue_rules.specs.Facts.{History, no_history, room_in, rooms}
+use Rattle.venue_rules.specs.Facts.{room_in, rooms}
 use Rattle.venue_rules.specs.Rooms.{closes, is_closed, is_open, open_rooms}
 use Rattle.venue_rules.specs.Requests.{open_room}
 use Rattle.venue_rules.specs.Answer.{Answer, first_of}
-use Rattle.venue_rules.specs.Run.{Input, after, answer_input, run_from}
 use Rattle.venue_rules.proofs.Together.{NoRoom}
 
 -- How many rooms are open.
@@ -87,9 +85,9 @@ no_rooms (f ∷ fs) n = ap (λ o. cons_option o (rooms fs)) n.0 ∙ no_rooms fs 
 open_after : (fs gs : List Fact) (u v : ℕ) → u ≤ v → length (open_rooms (fs ++ gs) v) ≤ length (open_rooms fs u) + length (rooms gs)
 open_after fs gs u v le =
     let split : open_rooms (fs ++ gs) v ≡ filter (is_open (fs ++ gs) v) (rooms fs) ++ filter (is_open (fs ++ gs) v) (rooms gs) =
-      ap (filter (is_open (fs ++ gs) v)) (filter_map-append room_in fs gs) ∙ filter-append (is_open (fs ++ gs) v) (rooms fs) (rooms gs) in
+    ap (filter (is_open (fs ++ gs) v)) (filter_map-append room_in fs gs) ∙ filter-append (is_open (fs ++ gs) v) (rooms fs) (rooms gs) in
     let count : length (open_rooms (fs ++ gs) v) ≡ length (filter (is_open (fs ++ gs) v) (rooms fs)) + length (filter (is_open (fs ++ gs) v) (rooms gs)) =
-      ap length split ∙ length-append (filter (is_open (fs ++ gs) v) (rooms fs)) (filter (is_open (fs ++ gs) v) (rooms gs)) in
+    ap length split ∙ length-append (filter (is_open (fs ++ gs) v) (rooms fs)) (filter (is_open (fs ++ gs) v) (rooms gs)) in
     let old : length (filter (is_open (fs ++ gs) v) (rooms fs)) ≤ length (open_rooms fs u) = filter_fewer (is_open (fs ++ gs) v) (is_open fs u) (rooms fs) (λ r. open_before fs gs u v r le) in
     let new : length (filter (is_open (fs ++ gs) v) (rooms gs)) ≤ length (rooms gs) = filter_short (is_open (fs ++ gs) v) (rooms gs) in
     omega (arith, count, old, new)

@@ -1,4 +1,4 @@
-use Rattle.std.proofs.Common.{◌≡◌, refl, inl, inr, ℕ, ◌+◌, ◌≤◌, Bool, nat_le, length, arith, true, false, List, [], ◌∷◌, map, filter, bytes_eq, Option, Some, None, ◌==◌}
+use Rattle.std.proofs.Common.{◌≡◌, refl, inl, inr, ℕ, ◌+◌, ◌≤◌, Bool, nat_le, length, arith, true, false, List, [], ◌∷◌, filter, bytes_eq, Option, Some, None, ◌==◌}
 use Rattle.fix_dictionary.specs.declared.messages.App.{App}
 use Rattle.fix_dictionary.specs.declared.messages.App.TheVariants.{QuoteRequest, Quote, QuoteCancel, QuoteResponse, QuoteStatusReport, QuoteRequestReject, NewOrderSingle, OrderCancelRequest, OrderCancelReplaceRequest, NewOrderCross, ExecutionReport, OrderCancelReject, MarketDataRequest, MarketDataSnapshot, MarketDataRequestReject, BusinessMessageReject, Unsupported}
 use Rattle.fix_dictionary.specs.declared.messages.NewOrderSingle.{NewOrderSingle as OrderMessage}
@@ -39,7 +39,7 @@ use Rattle.venue_rules.specs.Answers.{answer_app}
 use Rattle.venue_rules.specs.Run.{Input, Message, Tick, after, answer_input, answer_due_of, run_from}
 use Rattle.venue_rules.specs.Limits.{IsRising, OpenRoomsAreFew, moment_of}
 use Rattle.venue_rules.proofs.Together.{NoRoom, NoRoom-append, NoRoom-map, first_of-NoRoom}
-use Rattle.venue_rules.proofs.OpenRooms.{NoneHolds, OpensFew, few_after, first_of-each}
+use Rattle.venue_rules.proofs.OpenRooms.{OpensFew, few_after, first_of-each}
 
 -- No answer but that to a request opens a room; and so at most 1,000 rooms are open, over every list of inputs whose moments do not fall.
 

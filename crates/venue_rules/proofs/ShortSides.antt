@@ -1,4 +1,4 @@
-use Rattle.std.proofs.Common.{◌≡◌, refl, sym, ap, ◌∙◌, subst, inl, inr, ◌⊎◌, ℕ, suc, ◌+◌, ◌-◌, ◌<◌, ◌≤◌, ◌==◌, Bool, true, false, cond, if◌then◌else◌, ◌&&◌, ◌||◌, nat_lt, nat_le, List, [], ◌∷◌, ◌++◌, length, map, filter, arith, append_assoc, append-nil, length-append, eqb-true, ltb-true, lt-ltb}
+use Rattle.std.proofs.Common.{◌≡◌, refl, sym, ap, ◌∙◌, subst, inl, inr, ℕ, suc, ◌+◌, ◌-◌, ◌<◌, ◌≤◌, ◌==◌, Bool, true, false, cond, if◌then◌else◌, ◌&&◌, ◌||◌, nat_lt, List, [], ◌∷◌, ◌++◌, length, map, filter, arith, append_assoc, append-nil, length-append, eqb-true, ltb-true}
 use Rattle.std.specs.List.{list_any, sum_by}
 use Rattle.std.proofs.lemmas.Bool.{true≢false, and_parts}
 use Rattle.std.proofs.lemmas.Bool.Decides.{nat_tests}
@@ -34,9 +34,9 @@ pub left-less : (facts more : List Fact) (e : Entry) → left (facts ++ more) e 
 left-less facts more e =
     let gone : list_any (removes e.number) (facts ++ more) ≡ (list_any (removes e.number) facts || list_any (removes e.number) more) = list_any-append (removes e.number) facts more in
     let sold : traded (facts ++ more) e.number ≡ traded facts e.number + traded more e.number =
-      ap (sum_by (λ (t : Trade). if takes_part e.number t.place then t.quantity else 0)) (filter_map-append trade_in facts more) ∙ sum_by-append (λ (t : Trade). if takes_part e.number t.place then t.quantity else 0) (trades facts) (trades more) in
+    ap (sum_by (λ (t : Trade). if takes_part e.number t.place then t.quantity else 0)) (filter_map-append trade_in facts more) ∙ sum_by-append (λ (t : Trade). if takes_part e.number t.place then t.quantity else 0) (trades facts) (trades more) in
     let same : left (facts ++ more) e ≡ (if list_any (removes e.number) facts || list_any (removes e.number) more then 0 else e.order.quantity - (traded facts e.number + traded more e.number)) =
-      ap (λ b. if b then 0 else e.order.quantity - traded (facts ++ more) e.number) gone ∙ ap (λ n. if list_any (removes e.number) facts || list_any (removes e.number) more then 0 else e.order.quantity - n) sold in
+    ap (λ b. if b then 0 else e.order.quantity - traded (facts ++ more) e.number) gone ∙ ap (λ n. if list_any (removes e.number) facts || list_any (removes e.number) more then 0 else e.order.quantity - n) sold in
     subst (λ n. n ≤ left facts e) (sym same) (less_left (list_any (removes e.number) facts) (list_any (removes e.number) more) e.order.quantity (traded facts e.number) (traded more e.number))
 
 -- an entry that rests, by what these facts leave of it
@@ -111,7 +111,7 @@ more_resting : (facts more : List Fact) (x : ℕ) (side : Side) → length (rest
 more_resting facts more x side =
     let now : Entry → Bool = stays (facts ++ more) x side in
     let all : length (resting (facts ++ more) x side) ≡ length (filter now (entries facts)) + length (filter now (entries more)) =
-      resting-length (facts ++ more) x side ∙ (ap (λ es. length (filter now es)) (filter_map-append entry_in facts more) ∙ (ap length (filter-append now (entries facts) (entries more)) ∙ length-append (filter now (entries facts)) (filter now (entries more)))) in
+    resting-length (facts ++ more) x side ∙ (ap (λ es. length (filter now es)) (filter_map-append entry_in facts more) ∙ (ap length (filter-append now (entries facts) (entries more)) ∙ length-append (filter now (entries facts)) (filter now (entries more)))) in
     let old : length (filter now (entries facts)) ≤ length (filter (stays facts x side) (entries facts)) = fewer now (stays facts x side) (entries facts) (stayed facts more x side) in
     let was : length (resting facts x side) ≡ length (filter (stays facts x side) (entries facts)) = resting-length facts x side in
     omega (arith, all, old, was)

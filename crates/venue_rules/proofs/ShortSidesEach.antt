@@ -1,4 +1,4 @@
-use Rattle.std.proofs.Common.{◌≡◌, refl, sym, ap, ◌∙◌, subst, inl, inr, ℕ, ℤ, ◌+◌, ◌<◌, ◌≤◌, Bool, true, false, ◌&&◌, ◌==◌, nat_lt, nat_le, List, [], ◌∷◌, ◌++◌, length, map, filter, bytes_eq, Option, Some, None, arith, append_assoc, append-nil, lt-ltb, eq-eqb}
+use Rattle.std.proofs.Common.{◌≡◌, refl, sym, subst, ℕ, ℤ, ◌<◌, ◌≤◌, Bool, true, false, ◌&&◌, ◌==◌, nat_lt, nat_le, List, [], ◌∷◌, ◌++◌, length, map, filter, bytes_eq, Option, Some, None, arith, append_assoc, append-nil, lt-ltb, eq-eqb}
 use Rattle.std.proofs.lemmas.Bool.{true≢false, and_parts}
 use Rattle.std.proofs.lemmas.Bool.Decides.{nat_tests}
 use Rattle.fix_dictionary.specs.declared.messages.App.{App}
@@ -14,7 +14,7 @@ use Rattle.fix_dictionary.specs.declared.messages.QuoteResponse.{QuoteResponse a
 use Rattle.fix_dictionary.specs.declared.messages.MarketDataRequest.{MarketDataRequest as MarketDataMessage}
 use Rattle.fix_dictionary.specs.declared.values.Side.{Side}
 use Rattle.venue_rules.specs.declared.facts.Fact.{Fact}
-use Rattle.venue_rules.specs.declared.facts.Fact.TheVariants.{Held, Removed, Unheld, Withdrawn}
+use Rattle.venue_rules.specs.declared.facts.Fact.TheVariants.{Removed, Unheld, Withdrawn}
 use Rattle.venue_rules.specs.declared.facts.OrderFact.{OrderFact}
 use Rattle.venue_rules.specs.declared.facts.HeldSide.{HeldSide}
 use Rattle.venue_rules.specs.declared.facts.Release.{Release}
@@ -31,7 +31,7 @@ use Rattle.venue_rules.specs.Entering.{entering, entry_facts}
 use Rattle.venue_rules.specs.Answer.{Answer, Sender, first_of}
 use Rattle.venue_rules.specs.Orders.{accepted, answer_order, order_asked, order_refusals}
 use Rattle.venue_rules.specs.Changes.{IsHeld, IsResting, IsUnknown, Named, answer_cancel_of, answer_replace_of, cancel_refusals, cancelled, held_cancelled, held_replace_refusals, named, replace_refusals, replace_refused, replaced, replacement, standing}
-use Rattle.venue_rules.specs.Crosses.{answer_cross, answer_due, cross_accepted, cross_refusals, due_refusals, first_side, second_side, side_order}
+use Rattle.venue_rules.specs.Crosses.{answer_cross, answer_due, cross_accepted, cross_refusals, due_refusals, first_side, side_order}
 use Rattle.venue_rules.specs.Requests.{answer_request, opened, request_accepted, request_refusals}
 use Rattle.venue_rules.specs.Quotes.{answer_quote_of, quote_accepted, quote_refusals}
 use Rattle.venue_rules.specs.Withdrawals.{answer_withdrawal_of, not_found, withdraw_one, withdrawn_or}
@@ -44,7 +44,7 @@ use Rattle.venue_rules.proofs.Members.{In, In-find}
 use Rattle.venue_rules.proofs.Ranks.{with_left_from}
 use Rattle.venue_rules.proofs.Lefts.{resting-unheld}
 use Rattle.venue_rules.proofs.OpenRooms.{first_of-each}
-use Rattle.venue_rules.proofs.ShortSides.{HasRoom, IsShort, entered-IsShort, one_left, quiet-IsShort}
+use Rattle.venue_rules.proofs.ShortSides.{IsShort, entered-IsShort, one_left, quiet-IsShort}
 
 -- No answer lets more orders rest on a side than there is room for.
 
@@ -107,7 +107,7 @@ replaced-IsShort m h s d r t short there =
     let o : OrderFact = replacement d r in
     let without : IsShort (h.facts ++ (Removed x ∷ [])) = quiet-IsShort h.facts (Removed x ∷ []) short refl in
     let less : length (resting (h.facts ++ (Removed x ∷ [])) r.entry.order.instrument r.entry.order.side) < length (resting h.facts r.entry.order.instrument r.entry.order.side) =
-      one_left h.facts x r.entry.order.instrument r.entry.order.side r.entry there.0 (eq-eqb r.entry.number r.entry.number refl) there.1 in
+    one_left h.facts x r.entry.order.instrument r.entry.order.side r.entry there.0 (eq-eqb r.entry.number r.entry.number refl) there.1 in
     let few : length (resting h.facts r.entry.order.instrument r.entry.order.side) ≤ side_room = short r.entry.order.instrument r.entry.order.side in
     subst IsShort (append_assoc h.facts (Removed x ∷ []) (entry_facts (entering h.facts o (filled r) t) (fills h.facts o)))
     (entered-IsShort (h.facts ++ (Removed x ∷ [])) (entering h.facts o (filled r) t) (fills h.facts o) without (λ day some. omega (arith, less, few)))

@@ -1,6 +1,6 @@
 use Rattle.std.proofs.Common.{◌≡◌, refl, sym, ap, ◌∙◌, inl, inr, ℕ, ◌+◌, ◌≤◌, Bool, true, false, cond, ◌&&◌, ◌==◌, List, [], ◌∷◌, ◌++◌, length, filter, flat_map, bytes_eq, Option, Some, None, arith, eqb-true, eq-eqb, length-append}
 use Rattle.std.specs.List.{list_any}
-use Rattle.std.proofs.lemmas.Bool.{true≢false, and_parts, or_parts}
+use Rattle.std.proofs.lemmas.Bool.{true≢false, or_parts}
 use Rattle.std.proofs.lemmas.List.Elements.{filter-append}
 use Rattle.fix_dictionary.specs.declared.messages.QuoteCancel.{QuoteCancel}
 use Rattle.venue_rules.specs.declared.facts.Fact.{Fact}
@@ -16,7 +16,7 @@ use Rattle.venue_rules.specs.Requests.{open_room}
 use Rattle.venue_rules.specs.Answer.{Answer, Sender}
 use Rattle.venue_rules.specs.Withdrawals.{answer_withdrawal_of, both_told, not_found, to_maker, to_requester, withdraw_one, withdrawn_or}
 use Rattle.venue_rules.specs.Run.{Input, replies_to, run}
-use Rattle.venue_rules.specs.Limits.{IsRising, WithdrawalsAreFew}
+use Rattle.venue_rules.specs.Limits.{WithdrawalsAreFew}
 use Rattle.venue_rules.proofs.Members.{In, In-filter, In-find}
 use Rattle.venue_rules.proofs.Follows.{Follows, Each}
 use Rattle.venue_rules.proofs.EveryRun.{asked_in, maker_among, member_follows, run-Follows}
@@ -53,7 +53,7 @@ all_once m rs h j p (q ∷ qs) there =
     let here : length (replies_to j (both_told m h q)) ≤ 1 = both_once m q j (room_by_number h.facts q.room) (maker_asks_not m rs h.facts p q (there q (inl refl))) in
     let more : length (replies_to j (flat_map (both_told m h) qs)) ≤ length qs = all_once m rs h j p qs (λ x i. there x (inr i)) in
     let split : length (replies_to j (both_told m h q ++ flat_map (both_told m h) qs)) ≡ length (replies_to j (both_told m h q)) + length (replies_to j (flat_map (both_told m h) qs)) =
-      ap length (filter-append (λ (x : Reply). x.to == j) (both_told m h q) (flat_map (both_told m h) qs)) ∙ length-append (replies_to j (both_told m h q)) (replies_to j (flat_map (both_told m h) qs)) in
+    ap length (filter-append (λ (x : Reply). x.to == j) (both_told m h q) (flat_map (both_told m h) qs)) ∙ length-append (replies_to j (both_told m h q)) (replies_to j (flat_map (both_told m h) qs)) in
     omega (arith, here, more, split)
 
 -- one reply is few

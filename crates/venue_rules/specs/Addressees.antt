@@ -1,7 +1,6 @@
 use Rattle.std.specs.Prelude.{ℕ, ◌<◌, List, [], ◌∷◌, length, Contains}
 use Rattle.venue_rules.specs.declared.replies.Reply.{Reply}
 use Rattle.venue_rules.specs.Market.{Market}
-use Rattle.venue_rules.specs.Answer.{Answer}
 use Rattle.venue_rules.specs.Run.{Input, Message, Tick, run}
 use Rattle.venue_rules.specs.MoreInputs.{answer_after}
 

@@ -2,8 +2,8 @@ use crate::{
     PictureEntries, Recipients, RowText, Shown, Who, amounts_stay_within,
     every_book_trade_is_lawful, every_report_is_numbered, every_room_trade_is_lawful,
     every_row_is_read_back, every_run_is_lawful, fills_are_within, fixture_instruments,
-    fixture_participants, name_identifier, open_rooms_are_few, printed_identifier, printed_numbers_are_identifiers,
-    symbol_of,
+    fixture_participants, name_identifier, open_rooms_are_few, printed_identifier,
+    printed_numbers_are_identifiers, symbol_of,
 };
 use std::test::Fail;
 
