@@ -70,7 +70,12 @@ fn one_more(
     book: &mut PriceBook,
     moment: Moment,
 ) -> &'static str {
-    match book.plan_entry(participants, instruments, &resting(400, 0, Side::Buy), moment) {
+    match book.plan_entry(
+        participants,
+        instruments,
+        &resting(400, 0, Side::Buy),
+        moment,
+    ) {
         Ok(_) => "accepted",
         Err(Refusal::Full) => "full",
         Err(Refusal::NoMemory) => "no memory",
@@ -113,6 +118,9 @@ pub(crate) fn fill(rt: &HostRuntime, alloc: Global) -> Result<()> {
     println!(rt; "one more: {answer}")?;
     println!(rt; "shown {}", book.picture(0)?.len())?;
     let fills = filled(&participants, &instruments, &mut book, moment);
-    println!(rt; "filled by one order {fills}, shown {}", book.picture(0)?.len())?;
+    println!(rt;
+        "filled by one order {fills}, shown {}",
+        book.picture(0)?.len()
+    )?;
     Ok(())
 }
