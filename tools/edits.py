@@ -99,10 +99,13 @@ def function_of(crate, changes):
     found = set()
     for change in changes:
         around = [body for body in bodies if body.holds(change.begin, change.end)]
-        if not around or brace_shape(text[change.begin : change.end]) != brace_shape(change.new):
+        # (a function within another has a name like that of a closure)
+        if len(around) != 1 or brace_shape(text[change.begin : change.end]) != brace_shape(change.new):
             return None
-        found.add(min(around, key=lambda body: body.end - body.begin))
-    return prover_name(crate, path, *found) if len(found) == 1 else None
+        found.add(around[0])
+    body = found.pop()
+    is_alone = not found and sum(other.function == body.function for other in bodies) == 1
+    return prover_name(crate, path, body) if is_alone else None
 
 
 def read_edit(crate, file):

@@ -45,29 +45,42 @@ def told_alone(answer):
     return f"refused alone: {', '.join(answer.goals[:3])}"
 
 
-def try_crate(crate, uses, is_quick):
+def told_of(edits, groups, is_proved, ask_with):
+    """What is told of each of these edits, and how many were tried alone. `ask_with` asks the prover of the crate with some edits.
+    Nothing is a refusal where the crate as it stands is not proved: that is asked first, unless it was seen just before, and always
+    before an edit is tried alone."""
+    whole = None if is_proved else ask_with([])
+    told = {}
+    if not whole or whole.is_proved:
+        for group in groups:
+            told.update(told_by_group(group, ask_with(group)))
+    alone = [edit for edit in edits if edit not in told]
+    if alone and not whole:
+        whole = ask_with([])
+    for edit in alone:
+        if whole.is_proved:
+            told[edit] = told_alone(ask_with([edit]))
+        else:
+            told[edit] = f"NOT TRIED: the crate as it stands is not proved: {whole.first}"
+    return told, len(alone)
+
+
+def try_crate(crate, uses, is_quick, is_proved):
     """Tries the edits of a crate, prints what came of it, and returns how many are refused and how many are not."""
     began = time.monotonic()
     edits = edits_of(crate)
-    told = {edit: f"BAD EDIT: {edit.fault}" for edit in edits if edit.fault}
-    groups = groups_of(edits)
+    good = [edit for edit in edits if not edit.fault]
+    groups = groups_of(good)
     with tempfile.TemporaryDirectory(prefix="wrong-bodies-kept-") as room:
         kept, before = f"{room}/kept", f"{folder_of(crate)}/out/incremental"
         if is_quick and os.path.isdir(before):
             shutil.copytree(before, kept)
         else:
             os.mkdir(kept)
-        for group in groups:
-            told.update(told_by_group(group, ask(crate, uses, kept, group)))
-        alone = [edit for edit in edits if edit not in told]
-        whole = ask(crate, uses, kept, []) if alone else None
-        for edit in alone:
-            if whole.is_proved:
-                told[edit] = told_alone(ask(crate, uses, kept, [edit]))
-            else:
-                told[edit] = f"NOT TRIED: the crate as it stands is not proved: {whole.first}"
+        told, alone = told_of(good, groups, is_proved, lambda some: ask(crate, uses, kept, some))
+    told.update({edit: f"BAD EDIT: {edit.fault}" for edit in edits if edit.fault})
     refused = sum(told[edit].startswith("refused") for edit in edits)
-    how = f"{len(groups)} group{'s' * (len(groups) != 1)}, {len(alone)} alone, {minutes_since(began)}"
+    how = f"{len(groups)} group{'s' * (len(groups) != 1)}, {alone} alone, {minutes_since(began)}"
     lines = [f"{edit.label}: {told[edit]}" for edit in edits]
     print("\n".join([*lines, f"== {crate}: {refused} of {len(edits)} refused ({how})"]), flush=True)
     return refused, len(edits) - refused
