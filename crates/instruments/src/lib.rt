@@ -11,6 +11,3 @@ mod symbol;
 pub use fault::{DelayFault, FileFault};
 pub use instruments::{Instrument, Instruments};
 pub use symbol::Symbol;
-
-#[cfg(test)]
-mod tests;

@@ -13,6 +13,3 @@ pub use fault::FileFault;
 pub use name::Name;
 pub use participants::Participants;
 pub use who::Who;
-
-#[cfg(test)]
-mod tests;

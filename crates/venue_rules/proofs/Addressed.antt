@@ -268,7 +268,7 @@ named_below file (p ∷ ps) x w (inr i) e = named_below file ps x w i e
 recipient_below : (m : Market) (d : RequestMessage) (w : ℕ) → In w (recipients m d) → w < length m.participants.names
 recipient_below m d w i =
     let k = picked_from (λ (r : Option ℕ). r) (named_recipients m d) w i in
-    named_below m.participants (filter (λ (p : Party). p.source == 68 && p.role == 35) d.parties) k.0 w k.1 k.2
+    named_below m.participants _ k.0 w k.1 k.2
 
 request-Stays : (m : Market) (h : History) (s : Sender) (d : RequestMessage) (t : ℕ) → s.who < length m.participants.names → Stays (length m.participants.names) (answer_request m h s d t)
 request-Stays m h s d t low =

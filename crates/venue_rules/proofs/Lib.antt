@@ -3,6 +3,7 @@
 pub mod Spelling
 -- the venue and the messages of the examples
 pub mod ExampleInputs
+pub mod FixtureExamples
 pub mod BookExamples
 pub mod DelayExamples
 pub mod FillExamples
@@ -13,6 +14,7 @@ pub mod FullExamples
 pub mod LawfulExamples
 pub mod RefusalExamples
 pub mod PrecedenceExamples
+pub mod CornerExamples
 -- members of lists, and numbers that are places
 pub mod Members
 -- what may follow what has happened

@@ -36,6 +36,3 @@ pub use replies::{
     RequestRefused, RequestSent, RoomReport, Standing, Unprocessed, What,
 };
 pub use trail::{EventFault, Keep, RoomFact, ShownOrder, Taken, TradeFact, TrailFault, TrailRow};
-
-#[cfg(test)]
-mod tests;
