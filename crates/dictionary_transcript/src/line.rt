@@ -1,6 +1,7 @@
 //! The lines of a transcript.
 
 use crate::reading::{Answer, Form, answer_to};
+use crate::refusals::Refusals;
 use crate::telling::{append_with, tell};
 use anyhow::{Result, anyhow};
 use std::alloc::{AllocError, Global};
@@ -13,7 +14,7 @@ fn body_in(alloc: Global, text: &str) -> Result<Vec<u8>, AllocError> {
 }
 
 // What the dictionary answers to the body of a line, if it has one.
-fn answer_to_line(alloc: Global, line: &str) -> Result<Option<Answer>> {
+fn answer_to_line(alloc: Global, line: &str, refusals: &mut Refusals) -> Result<Option<Answer>> {
     if line.is_empty() || line.starts_with('#') {
         return Ok(None);
     }
@@ -24,9 +25,12 @@ fn answer_to_line(alloc: Global, line: &str) -> Result<Option<Answer>> {
     };
     let body = match body_in(alloc, text) {
         Ok(body) => body,
-        Err(AllocError) => body_in(alloc, text)?,
+        Err(AllocError) => {
+            refusals.one_more()?;
+            body_in(alloc, text)?
+        }
     };
-    Ok(Some(answer_to(alloc, form, &body)?))
+    Ok(Some(answer_to(alloc, form, &body, refusals)?))
 }
 
 // Appends a line, and the answer that stands below it.
@@ -46,13 +50,14 @@ fn write(
 
 // Plays a line, and appends it with what the dictionary answers, once more where a growth was refused; a line that tells an answer
 // is passed over.
-fn play_line(alloc: Global, line: &str, told: &mut Vec<u8>) -> Result<()> {
+fn play_line(alloc: Global, line: &str, told: &mut Vec<u8>, refusals: &mut Refusals) -> Result<()> {
     if line.starts_with("  ") {
         return Ok(());
     }
-    let answer = answer_to_line(alloc, line)?;
+    let answer = answer_to_line(alloc, line, refusals)?;
     let before = told.len();
     if write(alloc, line, &answer, told).is_err() {
+        refusals.one_more()?;
         told.truncate(before);
         write(alloc, line, &answer, told)?;
     }
@@ -60,10 +65,10 @@ fn play_line(alloc: Global, line: &str, told: &mut Vec<u8>) -> Result<()> {
 }
 
 /// The transcript with what the dictionary answers.
-pub fn told_anew(alloc: Global, transcript: &str) -> Result<Vec<u8>> {
+pub fn told_anew(alloc: Global, transcript: &str, refusals: &mut Refusals) -> Result<Vec<u8>> {
     let mut told = Vec::new(alloc);
     for line in transcript.lines() {
-        play_line(alloc, line, &mut told)?;
+        play_line(alloc, line, &mut told, refusals)?;
     }
     Ok(told)
 }

@@ -1,5 +1,6 @@
 //! Bodies as the dictionary reads and prints them.
 
+use crate::refusals::Refusals;
 use anyhow::{Result, ensure};
 use fix_dictionary::{App, DictFault, Message, print_app, print_message, read_app, read_message};
 use fix_fields::{FieldFault, Fields, split};
@@ -31,10 +32,17 @@ enum Reading {
     App(App),
 }
 
-fn split_again(alloc: Global, body: &[u8]) -> Result<Fields<'_>, FieldFault> {
+fn split_again<'a>(
+    alloc: Global,
+    body: &'a [u8],
+    refusals: &mut Refusals,
+) -> Result<Result<Fields<'a>, FieldFault>> {
     match split(alloc, body) {
-        Err(FieldFault::NoMemory) => split(alloc, body),
-        first => first,
+        Err(FieldFault::NoMemory) => {
+            refusals.one_more()?;
+            Ok(split(alloc, body))
+        }
+        first => Ok(first),
     }
 }
 
@@ -45,10 +53,18 @@ fn read(alloc: Global, form: Form, fields: &Fields) -> Result<Reading, DictFault
     })
 }
 
-fn read_again(alloc: Global, form: Form, fields: &Fields) -> Result<Reading, DictFault> {
+fn read_again(
+    alloc: Global,
+    form: Form,
+    fields: &Fields,
+    refusals: &mut Refusals,
+) -> Result<Result<Reading, DictFault>> {
     match read(alloc, form, fields) {
-        Err(DictFault::NoMemory) => read(alloc, form, fields),
-        first => first,
+        Err(DictFault::NoMemory) => {
+            refusals.one_more()?;
+            Ok(read(alloc, form, fields))
+        }
+        first => Ok(first),
     }
 }
 
@@ -65,12 +81,16 @@ fn print(alloc: Global, reading: &Reading, text: &mut Vec<u8>) -> Result<(), All
 }
 
 // What is printed behind two spaces. A print to which a growth is refused appends nothing, and is made once more.
-fn printed(alloc: Global, reading: &Reading) -> Result<Answer> {
+fn printed(alloc: Global, reading: &Reading, refusals: &mut Refusals) -> Result<Answer> {
     let mut text = match Vec::from_slice(alloc, b"  ") {
         Ok(text) => text,
-        Err(AllocError) => Vec::from_slice(alloc, b"  ")?,
+        Err(AllocError) => {
+            refusals.one_more()?;
+            Vec::from_slice(alloc, b"  ")?
+        }
     };
     if print(alloc, reading, &mut text).is_err() {
+        refusals.one_more()?;
         ensure!(
             text.as_slice() == b"  ".as_slice(),
             "a refused print changed its vector"
@@ -80,17 +100,27 @@ fn printed(alloc: Global, reading: &Reading) -> Result<Answer> {
     Ok(Answer::Printed(text))
 }
 
-fn answer_to_fields(alloc: Global, form: Form, fields: &Fields) -> Result<Answer> {
-    match read_again(alloc, form, fields) {
-        Ok(reading) => printed(alloc, &reading),
+fn answer_to_fields(
+    alloc: Global,
+    form: Form,
+    fields: &Fields,
+    refusals: &mut Refusals,
+) -> Result<Answer> {
+    match read_again(alloc, form, fields, refusals)? {
+        Ok(reading) => printed(alloc, &reading, refusals),
         Err(fault) => Ok(Answer::Fault(fault)),
     }
 }
 
-/// What the dictionary answers to a body. Each call to which a growth is refused is made once more.
-pub fn answer_to(alloc: Global, form: Form, body: &[u8]) -> Result<Answer> {
-    match split_again(alloc, body) {
-        Ok(fields) => answer_to_fields(alloc, form, &fields),
+/// What the dictionary answers to a body. A call to which a growth is refused is made once more.
+pub fn answer_to(
+    alloc: Global,
+    form: Form,
+    body: &[u8],
+    refusals: &mut Refusals,
+) -> Result<Answer> {
+    match split_again(alloc, body, refusals)? {
+        Ok(fields) => answer_to_fields(alloc, form, &fields, refusals),
         Err(FieldFault::NoMemory) => Err(AllocError.into()),
         Err(_) => Ok(Answer::NoFields),
     }

@@ -1,11 +1,12 @@
 //! Laws over every list of a session's calls: each is the contract of a function with no parameters.
 
-ghost use Rattle.std.specs.Prelude.{◌≡◌, ℕ, List, [], ◌∷◌, ◌++◌, length, map};
+ghost use Rattle.std.specs.Prelude.{◌≡◌, ◌<◌, ◌≤◌, ℕ, List, [], ◌∷◌, ◌++◌, length, map, max, true, Some};
 ghost use Rattle.fix_dictionary.specs.declared.messages.App.{App};
 ghost use Rattle.fix_dictionary.specs.declared.messages.Item.{Item};
 ghost use Rattle.fix_session.specs.declared.comp_ids.CompIds.{CompIds};
-ghost use Rattle.fix_session.specs.Body.{frame_in};
-ghost use Rattle.fix_session.specs.Chain.{accepted, due_after, era_after, Rises};
+ghost use Rattle.fix_session.specs.Body.{frame_in, kind_in};
+ghost use Rattle.fix_session.specs.Chain.{accepted, due_after, era_after, era_asked, Rises};
+ghost use Rattle.fix_session.specs.Eras.{EraBegins, IsReset, NoEraBegins};
 ghost use Rattle.fix_session.specs.Heard.{Heard};
 ghost use Rattle.fix_session.specs.Machine.{step, tick, sent, pushed, AtEnd};
 ghost use Rattle.fix_session.specs.Reader.{Reader};
@@ -13,6 +14,8 @@ ghost use Rattle.fix_session.specs.Runs.{AreFirst, Event, begin, frames_since, r
 ghost use Rattle.fix_session.specs.Sent.{numbered};
 ghost use Rattle.fix_session.specs.Shorter.{Shortens};
 ghost use Rattle.fix_session.specs.State.{State, era_of, resumed, broken};
+ghost use Rattle.fix_session.specs.Table.{last_number};
+ghost use Rattle.fix_session.specs.declared.frame.Frame.{Frame};
 
 use fix_fields::{one_fault, one_list, some_reading};
 use fix_frame::stream_laws;
@@ -28,6 +31,17 @@ pub fn taken_then_ready()
 /// Whatever is heard, the eras of what is accepted, and within an era the numbers, rise: each message once.
 pub fn numbers_rise()
     ensures { (heard : List Heard) → Rises 1 1 (accepted heard) }
+{}
+
+/// A frame asks for a new era exactly where it is a Logon with ResetSeqNumFlag as the rule has it, and not both sides have their
+/// first number to give. A step that hears such a frame begins an era, and none past the thousandth.
+pub fn new_eras()
+    ensures asked { (f : Frame) (due entries heartbeat : ℕ) → era_asked f due entries ≡ Some heartbeat → IsReset f heartbeat × ((due ≡ 1) × (entries ≡ 0) → ⊥) }
+    ensures asks { (f : Frame) (due entries heartbeat : ℕ) → IsReset f heartbeat → ((due ≡ 1) × (entries ≡ 0) → ⊥) → era_asked f due entries ≡ Some heartbeat }
+    ensures begins { (r : Reader) (s : State) (t heartbeat : ℕ) (found : List ℕ × List ℕ) → s.line.up ≡ true → (r.front s.unread).found ≡ Some found → era_asked (frame_in r s.ids found.0) s.line.due (length s.entries) ≡ Some heartbeat → length s.past < 999
+        → EraBegins s (step r s t).0 (max s.line.moment t) (kind_in found.0) (frame_in r s.ids found.0) heartbeat }
+    ensures ends { (r : Reader) (s : State) (t heartbeat : ℕ) (found : List ℕ × List ℕ) → s.line.up ≡ true → (r.front s.unread).found ≡ Some found → era_asked (frame_in r s.ids found.0) s.line.due (length s.entries) ≡ Some heartbeat → 999 ≤ length s.past → length s.entries ≤ last_number
+        → NoEraBegins s (step r s t).0 }
 {}
 
 /// Over every list of calls, the application messages among what was numbered, era after era, are the replies that were sent,

@@ -2,61 +2,129 @@
 
 use crate::call::{Call, call_in};
 use crate::playing::{Answer, new_session, play};
+use crate::refusals::Refusals;
 use crate::telling::tell;
 use anyhow::{Result, anyhow};
 use fix_session::Session;
 use std::alloc::{AllocError, Global};
 
 // The call of a line, read once more where a growth was refused.
-fn read(alloc: Global, line: &str) -> Result<Call> {
+fn read(alloc: Global, line: &str, refusals: &mut Refusals) -> Result<Call> {
     let call = match call_in(alloc, line) {
         Ok(call) => call,
-        Err(_) => call_in(alloc, line)?,
+        Err(_) => {
+            refusals.one_more()?;
+            call_in(alloc, line)?
+        }
     };
     call.ok_or_else(|| anyhow!("no call: {line}"))
 }
 
-// Appends a line, and the answer that stands below it.
-fn write(alloc: Global, line: &str, answer: &Answer, told: &mut Vec<u8>) -> Result<(), AllocError> {
+fn write(line: &str, told: &mut Vec<u8>) -> Result<(), AllocError> {
     told.extend_from_slice(line.as_bytes())?;
-    told.push(b'\n')?;
-    tell(alloc, answer, told)
+    told.extend_from_slice(b"\n")
 }
 
-// Appends a line and an answer, once more where a growth was refused.
-fn write_again(
-    alloc: Global,
-    line: &str,
-    answer: &Answer,
-    told: &mut Vec<u8>,
-) -> Result<(), AllocError> {
+// Appends a line, once more where a growth was refused.
+fn write_again(line: &str, told: &mut Vec<u8>, refusals: &mut Refusals) -> Result<()> {
     let before = told.len();
-    if write(alloc, line, answer, told).is_ok() {
+    if write(line, told).is_ok() {
         return Ok(());
     }
+    refusals.one_more()?;
     told.truncate(before);
-    write(alloc, line, answer, told)
+    write(line, told)?;
+    Ok(())
+}
+
+// Appends the line that tells an answer, once more where a growth was refused.
+fn tell_again(
+    alloc: Global,
+    answer: &Answer,
+    told: &mut Vec<u8>,
+    refusals: &mut Refusals,
+) -> Result<()> {
+    let before = told.len();
+    if tell(alloc, answer, told).is_ok() {
+        return Ok(());
+    }
+    refusals.one_more()?;
+    told.truncate(before);
+    tell(alloc, answer, told)?;
+    Ok(())
+}
+
+// What is told from `start` on, without the last answer, which begins at `last`, where the one before it is the same.
+fn tell_once(told: &mut Vec<u8>, start: usize, last: usize) {
+    let answers = told.get(start..).unwrap_or(&[]);
+    let (before, answer) = match answers.split_at_checked(last.saturating_sub(start)) {
+        Some(parts) => parts,
+        None => return,
+    };
+    if before.ends_with(answer) {
+        told.truncate(last);
+    }
+}
+
+// The names of both sides, where a line begins a new session of these.
+fn names_in(line: &str) -> Option<(&str, &str)> {
+    line.strip_prefix("new ")?.split_once(' ')
+}
+
+// How often a line says that its call is made, and the call.
+fn times_in(line: &str) -> (u32, &str) {
+    let Some((times, call)) = line
+        .strip_prefix("times ")
+        .and_then(|rest| rest.split_once(' '))
+    else {
+        return (1, line);
+    };
+    (times.parse::<u32>().unwrap_or(1), call)
 }
 
 // What the session answers to a line.
-fn answer_to(alloc: Global, session: &mut Session, line: &str) -> Result<Answer> {
+fn answer_to(
+    alloc: Global,
+    session: &mut Session,
+    line: &str,
+    refusals: &mut Refusals,
+) -> Result<Answer> {
     if line.is_empty() {
         return Ok(Answer::Nothing);
     }
     if line.starts_with('#') {
-        *session = new_session(alloc)?;
+        *session = new_session(alloc, "SEF", "ALPHA")?;
         return Ok(Answer::Nothing);
     }
-    play(session, &read(alloc, line)?)
+    if let Some((own, peer)) = names_in(line) {
+        *session = new_session(alloc, own, peer)?;
+        return Ok(Answer::Nothing);
+    }
+    let call = read(alloc, line, refusals)?;
+    play(session, &call, refusals)
 }
 
-// Plays a line, and appends it with what the session answers; a line that tells an answer is passed over.
-fn play_line(alloc: Global, session: &mut Session, line: &str, told: &mut Vec<u8>) -> Result<()> {
+// Plays a line, and appends it with what the session answers, of the same answers in succession one; a line that tells an answer
+// is passed over.
+fn play_line(
+    alloc: Global,
+    session: &mut Session,
+    line: &str,
+    told: &mut Vec<u8>,
+    refusals: &mut Refusals,
+) -> Result<()> {
     if line.starts_with("  ") {
         return Ok(());
     }
-    let answer = answer_to(alloc, session, line)?;
-    write_again(alloc, line, &answer, told)?;
+    write_again(line, told, refusals)?;
+    let start = told.len();
+    let (times, call) = times_in(line);
+    for _ in 0..times {
+        let last = told.len();
+        let answer = answer_to(alloc, session, call, refusals)?;
+        tell_again(alloc, &answer, told, refusals)?;
+        tell_once(told, start, last);
+    }
     Ok(())
 }
 
@@ -65,17 +133,18 @@ fn play_lines(
     session: &mut Session,
     transcript: &str,
     told: &mut Vec<u8>,
+    refusals: &mut Refusals,
 ) -> Result<()> {
     for line in transcript.lines() {
-        play_line(alloc, session, line, told)?;
+        play_line(alloc, session, line, told, refusals)?;
     }
     Ok(())
 }
 
 /// The transcript with what the session answers.
-pub fn told_anew(alloc: Global, transcript: &str) -> Result<Vec<u8>> {
-    let mut session = new_session(alloc)?;
+pub fn told_anew(alloc: Global, transcript: &str, refusals: &mut Refusals) -> Result<Vec<u8>> {
+    let mut session = new_session(alloc, "SEF", "ALPHA")?;
     let mut told = Vec::new(alloc);
-    play_lines(alloc, &mut session, transcript, &mut told)?;
+    play_lines(alloc, &mut session, transcript, &mut told, refusals)?;
     Ok(told)
 }

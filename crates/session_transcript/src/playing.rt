@@ -1,6 +1,7 @@
 //! Calls that are made of a session.
 
 use crate::call::Call;
+use crate::refusals::Refusals;
 use anyhow::{Result, ensure};
 use fix_dictionary::{App, Identifier, Item};
 use fix_session::{SendFault, Session, Step};
@@ -67,11 +68,12 @@ fn call_once(session: &mut Session, call: &Call) -> Result<Answer, AllocError> {
 }
 
 /// What a call gives. A call to which a growth is refused changes nothing that is seen, and is made once more.
-pub fn play(session: &mut Session, call: &Call) -> Result<Answer> {
+pub fn play(session: &mut Session, call: &Call, refusals: &mut Refusals) -> Result<Answer> {
     let before = look_at(session);
     if let Ok(answer) = call_once(session, call) {
         return Ok(answer);
     }
+    refusals.one_more()?;
     ensure!(
         look_at(session) == before,
         "a refused call changed the session"
@@ -79,9 +81,20 @@ pub fn play(session: &mut Session, call: &Call) -> Result<Answer> {
     Ok(call_once(session, call)?)
 }
 
-/// SEF's new session with ALPHA.
-pub fn new_session(alloc: Global) -> Result<Session, AllocError> {
-    let own = Identifier::from_slice(b"SEF");
-    let peer = Identifier::from_slice(b"ALPHA");
-    Session::new(alloc, &own, &peer)
+// The identifier with this text. It is an error where it is empty, too long, or has a byte that is not printed.
+fn identifier_in(text: &str) -> Result<Identifier> {
+    let bytes = text.as_bytes();
+    ensure!(
+        !bytes.is_empty()
+            && (bytes.len() <= 64 && bytes.iter().all(|byte| b' ' <= *byte && *byte <= b'~')),
+        "no name: {text}"
+    );
+    Ok(Identifier::from_slice(bytes))
+}
+
+/// A new session of one side with another.
+pub fn new_session(alloc: Global, own: &str, peer: &str) -> Result<Session> {
+    let own = identifier_in(own)?;
+    let peer = identifier_in(peer)?;
+    Ok(Session::new(alloc, &own, &peer)?)
 }

@@ -9,7 +9,7 @@ use Rattle.fix_session.specs.declared.plan.Step.TheVariants.{Idle, Did, App as R
 use Rattle.fix_session.specs.Machine.{AtEnd, step}
 use Rattle.fix_session.specs.Reader.{Reader}
 use Rattle.fix_session.specs.Runs.{History, run}
-use Rattle.fix_session.specs.Sent.{apps}
+use Rattle.fix_session.specs.Sent.{numbered}
 use Rattle.fix_session.specs.State.{State}
 use Rattle.venue_rules.specs.Market.{Market}
 use Rattle.venue_core.specs.State.{State as Venue}
@@ -18,12 +18,16 @@ use Rattle.venue_main.specs.Turns.{Answers, Course, Hears, IsAnswered, Writes, a
 use Rattle.venue_main.proofs.Stepping.{stepped}
 use Rattle.venue_main.proofs.Turning.{goes-one, goes-then}
 
-at_heard : (r : Reader) (m : Market) (t : ℕ) (a : Course) (s s1 : State) (venue : Venue) → s1 ≡ (step r s t).0 → IsAt m t a.session s venue → IsAt m t (after r m t a Hears).session s1 venue
+-- the law of the session: a step numbers no application message
+abbrev pub StepAddsNone : Type 0
+StepAddsNone = (r : Reader) (s : State) (t : ℕ) → numbered (step r s t).0 ≡ numbered s
+
+at_heard : StepAddsNone → (r : Reader) (m : Market) (t : ℕ) (a : Course) (s s1 : State) (venue : Venue) → s1 ≡ (step r s t).0 → IsAt m t a.session s venue → IsAt m t (after r m t a Hears).session s1 venue
 unfolding after
-at_heard r m t a s s1 venue is at = record {
+at_heard law r m t a s s1 venue is at = record {
   is = is ∙ ap (λ (x : State). (step r x t).0) at.is;
   stands = at.stands;
-  owes = (stepped r a.session.session t).numbered ∙ at.owes;
+  owes = law r a.session.session t ∙ at.owes;
 }
 
 at_answered : (r : Reader) (m : Market) (t : ℕ) (b : Course) (s1 s2 : State) (venue venue' : Venue)
@@ -89,17 +93,17 @@ frame_ends r t s s1 s2 s3 answer law heard is up same taken =
     let all_up : s3.line.up ≡ (step r s t).0.line.up = ap (λ (x : State). x.line.up) taken ∙ up ∙ ap (λ (x : State). x.line.up) heard in
     end_stays r (step r s t).0 s3 answer all_up all (subst (AtEnd r (step r s t).0) (sym is) law)
 
-pub frame_answered : (r : Reader) (m : Market) (t : ℕ) (a : Course) (s s1 s2 s3 : State) (venue venue' : Venue) (first w w' : Option (List ℕ))
+pub frame_answered : StepAddsNone → (r : Reader) (m : Market) (t : ℕ) (a : Course) (s s1 s2 s3 : State) (venue venue' : Venue) (first w w' : Option (List ℕ))
     → s1 ≡ (step r s t).0
     → ((h : History) → IsAt m t h s1 venue → IsAt m t (run r (answering m t h.taken h.session.ready) h) s2 venue')
     → length s2.ready ≡ length s1.ready - 1 → s3 ≡ record s2 { wire = [] } → Appends w w' s2.wire
     → Stands m t a s venue first w → Goes r m t a [] (λ b. Stands m t b s3 venue' first w')
-frame_answered r m t a s s1 s2 s3 venue venue' first w w' heard answers one taken wrote stands =
+frame_answered law r m t a s s1 s2 s3 venue venue' first w w' heard answers one taken wrote stands =
     let none = none_ready r t s s1 s2 s3 heard stands.answered.taken one taken in
     let Q : Course → Type 0 = λ b. Stands m t b s3 venue' first w' in
     let a1 = after r m t a Hears in
     let a2 = after r m t a1 Answers in
-    let at1 = at_heard r m t a s s1 venue heard stands.at in
+    let at1 = at_heard law r m t a s s1 venue heard stands.at in
     let at2 = at_answered r m t a1 s1 s2 venue venue' answers at1 in
     let last : Stands m t (after r m t a2 Writes) s3 venue' first w' = record {
       at = at_written r m t a2 s2 s3 venue' taken at2;

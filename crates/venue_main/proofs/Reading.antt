@@ -7,7 +7,7 @@ use Rattle.fix_session.specs.Chain.{accepted}
 use Rattle.fix_session.specs.Machine.{pushed}
 use Rattle.fix_session.specs.Reader.{Reader, settled}
 use Rattle.fix_session.specs.Runs.{Event, History, Resume, begin, happens, run}
-use Rattle.fix_session.specs.Sent.{apps}
+use Rattle.fix_session.specs.Sent.{numbered}
 use Rattle.fix_session.specs.State.{State, fresh, resumed}
 use Rattle.venue_rules.specs.Facts.{no_history}
 use Rattle.venue_rules.specs.Market.{Market}
@@ -40,11 +40,11 @@ few_at_first m s s1 at new up =
 record Kept (s s' : State) : Type 0 where
   pub ready : s'.ready ≡ s.ready
   pub wire : s'.wire ≡ s.wire
-  pub apps : apps s'.entries ≡ apps s.entries
+  pub same : numbered s' ≡ numbered s
 
 kept_if : (up : Bool) (s : State) (unread : List ℕ) → Kept s (if up then record s { unread = unread } else s)
-kept_if true s unread = record { ready = refl; wire = refl; apps = refl }
-kept_if false s unread = record { ready = refl; wire = refl; apps = refl }
+kept_if true s unread = record { ready = refl; wire = refl; same = refl }
+kept_if false s unread = record { ready = refl; wire = refl; same = refl }
 
 stands_read : (r : Reader) (m : Market) (t : ℕ) (b : Course) (piece : List ℕ) (s s1 : State) (venue : Venue) (first w : Option (List ℕ)) → s1 ≡ pushed r s piece
     → Stands m t b s venue first w → Stands m t (after r m t b (Reads piece)) s1 venue first w
@@ -53,7 +53,7 @@ stands_read r m t b piece s s1 venue first w is stands =
     let kept = kept_if b.session.session.line.up b.session.session (settled r (b.session.session.unread ++ piece)) in
     let is_pushed : s1 ≡ pushed r b.session.session piece = is ∙ ap (λ (x : State). pushed r x piece) stands.at.is in
     record {
-      at = record { is = is_pushed; stands = stands.at.stands; owes = kept.apps ∙ stands.at.owes };
+      at = record { is = is_pushed; stands = stands.at.stands; owes = kept.same ∙ stands.at.owes };
       answered = record {
         taken = ap (λ (x : State). x.ready) is_pushed ∙ kept.ready ∙ ap (λ (x : State). x.ready) (sym stands.at.is) ∙ stands.answered.taken;
         written = ap (λ (x : State). x.wire) is_pushed ∙ kept.wire ∙ ap (λ (x : State). x.wire) (sym stands.at.is) ∙ stands.answered.written;

@@ -1,48 +1,37 @@
--- What a step of the session leaves unread and ready, and what it numbers.
-use Rattle.std.proofs.Common.{◌≡◌, ◌≢◌, ℕ, ◌+◌, ◌≤◌, ◌<◌, ◌%◌, sum, List, [], ◌∷◌, ◌++◌, length, drop, max, Bool, true, false, if◌then◌else◌, Option, Some, None, refl, sym, ap, ◌∙◌, append-nil, length-append, length-drop, arith}
-use Rattle.fix_dictionary.specs.declared.messages.App.{App}
+-- What a step of the session leaves unread and ready.
+use Rattle.std.proofs.Common.{◌≡◌, ◌≢◌, ℕ, ◌+◌, ◌≤◌, ◌<◌, ◌%◌, sum, List, [], ◌∷◌, ◌++◌, length, drop, max, Bool, true, false, if◌then◌else◌, Option, Some, None, refl, ap, length-append, length-drop, arith}
 use Rattle.fix_frame.specs.Frame.{counted, trailer}
 use Rattle.fix_frame.specs.Stream.{Begins}
 use Rattle.fix_session.specs.Body.{frame_in, kind_in}
 use Rattle.fix_session.specs.Machine.{heard_frame, item_of, moved, plan_for, step, step_on}
 use Rattle.fix_session.specs.Reader.{Reader, Stands as StandsAt, settled}
-use Rattle.fix_session.specs.Sent.{apps, marks}
-use Rattle.fix_session.specs.State.{State}
+use Rattle.fix_session.specs.State.{State, era_of}
 use Rattle.fix_session.specs.declared.frame.Content.{Content}
 use Rattle.fix_session.specs.declared.frame.Content.TheVariants as content
 use Rattle.fix_session.specs.declared.frame.Frame.{Frame}
-use Rattle.fix_session.specs.declared.plan.Sends.{Sends}
-use Rattle.fix_session.specs.declared.plan.Sends.TheVariants.{Nothing, One, Two}
 use Rattle.fix_session.specs.declared.plan.Step.{Step}
 use Rattle.fix_session.specs.declared.plan.Step.TheVariants.{Idle, Did, App as Ready, Dropped}
 use Rattle.venue_main.specs.Course.{Shortens}
-use Rattle.venue_main.proofs.Sending.{apps-append}
 
--- after a step no more is left than before it, and less where it did something; it numbers no application message
+-- after a step no more is left than before it, and less where it did something
 pub record Stepped (s : State) (out : State × Step) : Type 0 where
   pub ready : length out.0.ready ≤ length s.ready + 1
   pub fewer : length out.0.ready + length out.0.unread ≤ length s.ready + length s.unread
   pub shorter : Shortens out.1 (length s.unread) (length out.0.unread)
-  pub numbered : apps out.0.entries ≡ apps s.entries
 
-item_is_one : (said : Content) (answer : Step) → length (item_of said answer) ≤ 1
-item_is_one (content.Application app) Idle = omega arith
-item_is_one (content.Application app) Did = omega arith
-item_is_one (content.Application app) (Ready n) = omega arith
-item_is_one (content.Application app) (Dropped reason) = omega arith
-item_is_one (content.Logon heartbeat reset) answer = omega arith
-item_is_one content.Heartbeat answer = omega arith
-item_is_one (content.TestRequest id) answer = omega arith
-item_is_one (content.ResendRequest asked) answer = omega arith
-item_is_one content.Reject answer = omega arith
-item_is_one (content.SequenceReset gap_fill new) answer = omega arith
-item_is_one content.Logout answer = omega arith
-item_is_one (content.Faulty kind fault) answer = omega arith
-
-no_apps : (sends : Sends) → apps (marks sends) ≡ []
-no_apps Nothing = refl
-no_apps (One a) = refl
-no_apps (Two a b) = refl
+item_is_one : (era : ℕ) (said : Content) (answer : Step) → length (item_of era said answer) ≤ 1
+item_is_one era (content.Application app) Idle = omega arith
+item_is_one era (content.Application app) Did = omega arith
+item_is_one era (content.Application app) (Ready n) = omega arith
+item_is_one era (content.Application app) (Dropped reason) = omega arith
+item_is_one era (content.Logon heartbeat reset) answer = omega arith
+item_is_one era content.Heartbeat answer = omega arith
+item_is_one era (content.TestRequest id) answer = omega arith
+item_is_one era (content.ResendRequest asked) answer = omega arith
+item_is_one era content.Reject answer = omega arith
+item_is_one era (content.SequenceReset gap_fill new) answer = omega arith
+item_is_one era content.Logout answer = omega arith
+item_is_one era (content.Faulty kind fault) answer = omega arith
 
 shortens : (answer : Step) (before after : ℕ) → after < before → Shortens answer before after
 shortens Idle before after less = omega arith
@@ -71,18 +60,17 @@ begun s body after b =
     omega (arith, split, length-append b.text after, text, length-append front end, trailer_is_some (sum front % 256))
 
 stepped_moved : (s : State) (t : ℕ) → Stepped s (moved s t, Idle)
-stepped_moved s t = record { ready = omega arith; fewer = omega arith; shorter = omega arith; numbered = refl }
+stepped_moved s t = record { ready = omega arith; fewer = omega arith; shorter = omega arith }
 
 stepped_heard : (r : Reader) (s : State) (t : ℕ) (rest kind : List ℕ) (f : Frame) → length rest < length s.unread → Stepped s (heard_frame s t rest kind f)
 stepped_heard r s t rest kind f less =
     let plan = plan_for s f in
-    let joined = length-append s.ready (item_of f.content plan.answer) in
-    let one = item_is_one f.content plan.answer in
+    let joined = length-append s.ready (item_of (era_of s.past) f.content plan.answer) in
+    let one = item_is_one (era_of s.past) f.content plan.answer in
     record {
       ready = omega (arith, joined, one);
       fewer = omega (arith, joined, one, less);
       shorter = shortens plan.answer (length s.unread) (length rest) less;
-      numbered = apps-append s.entries (marks plan.sends) ∙ ap (λ (l : List App). apps s.entries ++ l) (no_apps plan.sends) ∙ append-nil (apps s.entries);
     }
 
 stepped_on : (r : Reader) (s : State) (t : ℕ) (passed : ℕ) (found : Option (List ℕ × List ℕ)) → StandsAt (drop passed s.unread) found → Stepped s (step_on r s t found)

@@ -6,7 +6,7 @@ use Rattle.fix_dictionary.specs.declared.messages.App.{App}
 use Rattle.fix_dictionary.specs.declared.messages.Item.{Item}
 use Rattle.fix_session.specs.Reader.{Reader}
 use Rattle.fix_session.specs.Runs.{History, popped, run}
-use Rattle.fix_session.specs.Sent.{apps}
+use Rattle.fix_session.specs.Sent.{numbered}
 use Rattle.fix_session.specs.State.{State}
 use Rattle.venue_rules.specs.declared.replies.Reply.{Reply}
 use Rattle.venue_rules.specs.Answer.{Answer}
@@ -101,9 +101,9 @@ at_some r m t h item s s1 s' venue venue' front rest at k =
       is = session;
       stands = subst (λ (l : List Item). VenueStands m (taken t l) venue') (sym end_is) k.venue;
       owes =
-          ap (λ (x : State). apps x.entries) (sym session)
-          ∙ k.sent.entries
-          ∙ ap (λ (x : State). apps x.entries ++ says) first
+          ap (λ (x : State). numbered x) (sym session)
+          ∙ k.sent.adds
+          ∙ ap (λ (x : State). numbered x ++ says) first
           ∙ ap (λ (l : List App). l ++ says) at.owes
           ∙ sym k.owes
           ∙ ap (λ (l : List Item). owed m 0 (taken t l)) (sym end_is);

@@ -8,7 +8,7 @@ use Rattle.fix_session.specs.declared.plan.Step.TheVariants.{Idle}
 use Rattle.fix_session.specs.Machine.{pushed}
 use Rattle.fix_session.specs.Reader.{Reader}
 use Rattle.fix_session.specs.Runs.{History, run}
-use Rattle.fix_session.specs.Sent.{apps}
+use Rattle.fix_session.specs.Sent.{numbered}
 use Rattle.fix_session.specs.State.{State}
 use Rattle.venue_rules.specs.Market.{Market}
 use Rattle.venue_rules.specs.Run.{owed}
@@ -27,7 +27,7 @@ pub record IsSame (s s' : State) : Type 0 where
 pub record IsAt (market : Market) (t : ℕ) (h : History) (session : State) (venue : Venue) : Type 0 where
   pub is : session ≡ h.session
   pub stands : VenueStands market (taken t h.taken) venue
-  pub owes : apps h.session.entries ≡ owed market 0 (taken t h.taken)
+  pub owes : numbered h.session ≡ owed market 0 (taken t h.taken)
 
 -- and all that was queued is written
 pub record Stands (market : Market) (t : ℕ) (a : Course) (session : State) (venue : Venue) (first held : Option (List ℕ)) : Type 0 where
@@ -38,7 +38,7 @@ pub record Stands (market : Market) (t : ℕ) (a : Course) (session : State) (ve
 -- these messages are sent, in order, at t, and nothing else is done
 pub record IsSent (t : ℕ) (s : State) (messages : List App) (s' : State) : Type 0 where
   pub runs : (r : Reader) (h : History) → s ≡ h.session → s' ≡ (run r (sends t messages) h).session
-  pub entries : apps s'.entries ≡ apps s.entries ++ messages
+  pub adds : numbered s' ≡ numbered s ++ messages
   pub kept : IsSame s s'
 
 -- a message is taken after others, and what the first participant is told for it is sent

@@ -4,7 +4,7 @@ use Rattle.std.specs.Io.KnownBytes.{Appends, Consumes}
 use Rattle.fix_session.specs.Chain.{accepted}
 use Rattle.fix_session.specs.Reader.{Reader}
 use Rattle.fix_session.specs.Runs.{Event, begin, run}
-use Rattle.fix_session.specs.Sent.{apps}
+use Rattle.fix_session.specs.Sent.{numbered}
 use Rattle.venue_rules.specs.Market.{Market}
 use Rattle.venue_rules.specs.Run.{owed}
 use Rattle.venue_main.specs.Answering.{taken}
@@ -25,7 +25,7 @@ pub record AnswersStream (r : Reader) (market : Market) (t : ℕ) (input output 
   pub events : List Event
   pub runs : last.session ≡ run r events (begin (first_ids market.participants))
   pub takes : last.session.taken ≡ accepted last.session.heard
-  pub owes : apps last.session.session.entries ≡ owed market 0 (taken t last.session.taken)
+  pub owes : numbered last.session.session ≡ owed market 0 (taken t last.session.taken)
   pub written : last.written ≡ output
 
 -- What stands where a run stops: turns read some bytes, and the piece behind them, if there is one, was not heard; what they

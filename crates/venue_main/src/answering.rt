@@ -1,12 +1,12 @@
 //! The frames of a stream, heard and answered one after another.
 
-ghost use Rattle.std.specs.Prelude.{◌≡◌, ◌<◌, ◌≤◌, ◌+◌, ◌-◌, [], ◌∷◌, ℕ, List, Option, length, max, IfOk, IfErr, OnOk};
+ghost use Rattle.std.specs.Prelude.{◌≡◌, ◌≤◌, ◌+◌, ◌-◌, [], ◌∷◌, ℕ, List, Option, length, max, IfOk, IfErr, OnOk, false};
 ghost use Rattle.std.specs.Io.KnownBytes.{Appends, Keeps};
 ghost use Rattle.fix_dictionary.specs.declared.messages.Item.{Item};
 ghost use Rattle.fix_session.specs.Machine.{AtEnd, sent};
 ghost use Rattle.fix_session.specs.Reader.{Reader};
 ghost use Rattle.fix_session.specs.Runs.{History, run};
-ghost use Rattle.fix_session.specs.Table.{last_number};
+ghost use Rattle.fix_session.specs.Table.{are_numbers_spent};
 ghost use Rattle.venue_rules.specs.Market.{Market};
 ghost use Rattle.venue_rules.specs.Messages.{message};
 ghost use Rattle.venue_core.specs.Plan.{IsPlanOf, answer_of, most_items};
@@ -21,7 +21,7 @@ ghost use Rattle.venue_main.specs.declared.once.OnceFault.TheVariants.{Output};
 
 use crate::once::OnceFault;
 use fix_dictionary::{App, Item};
-use fix_session::laws::{idle_at_the_end, one_reader};
+use fix_session::laws::{idle_at_the_end, one_reader, sends_alone_number};
 use fix_session::{SendFault, Session, Step};
 use sef_moment::Moment;
 use std::alloc::{AllocError, Global};
@@ -74,6 +74,7 @@ fn answer_frame<W: Write>(
 {
     one_reader();
     idle_at_the_end();
+    sends_alone_number();
     let answer = session.step(at)?;
     take_ready(alloc, session, venue, at)?;
     write_queued(session, writer)?;
@@ -164,6 +165,7 @@ fn send_reply_to(
 ) -> Result<(), OnceFault>
     ensures { OnOk result (IsSent at session.old.state (said to (reply.now ∷ [])) session.new.state) }
 {
+    sends_alone_number();
     if reply.to != to {
         return Ok(());
     }
@@ -179,7 +181,7 @@ fn send_reply(
     at: Moment,
 ) -> Result<(), OnceFault>
     ensures sent { OnOk result (session.new.state ≡ sent session.old.state (message reply.now.what) (max session.old.state.line.moment at)) }
-    ensures few { OnOk result (length session.old.state.entries < last_number) }
+    ensures few { OnOk result (are_numbers_spent session.old.state ≡ false) }
 {
     let app = message_of(alloc, reply)?;
     send_app(session, &app, at)
@@ -188,7 +190,7 @@ fn send_reply(
 /// Sends a message. `Output` where the session's numbers are spent.
 fn send_app(session: &mut Session, app: &App, at: Moment) -> Result<(), OnceFault>
     ensures sent { OnOk result (session.new.state ≡ sent session.old.state app.now (max session.old.state.line.moment at)) }
-    ensures few { OnOk result (length session.old.state.entries < last_number) }
+    ensures few { OnOk result (are_numbers_spent session.old.state ≡ false) }
 {
     match session.send(app, at) {
         Ok(()) => Ok(()),

@@ -96,13 +96,15 @@ fn tells_how_much_the_files_list(rt: HostRuntime) {
         written.as_slice(),
         b"participants 5 related 1 instruments 2\n".as_slice()
     );
-    let ended = check(
-        alloc,
-        FIVE.as_bytes(),
-        TWO.as_bytes(),
-        &mut Full { room: 0 },
-    );
-    assert_eq!(rt; ended, Err(CheckFault::Output));
+    for (room, flushes) in [(0, true), (100, false)] {
+        let ended = check(
+            alloc,
+            FIVE.as_bytes(),
+            TWO.as_bytes(),
+            &mut Full { room, flushes },
+        );
+        assert_eq!(rt; ended, Err(CheckFault::Output));
+    }
 }
 
 #[test]

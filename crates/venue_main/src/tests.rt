@@ -300,6 +300,30 @@ fn reads_in_any_pieces_until_a_read_fails(rt: HostRuntime) -> Result<(), Fail> {
     Ok(())
 }
 
+/// Bytes that begin no frame, one read for each.
+const NOISE: usize = 6_000;
+
+#[test]
+fn reads_on_however_many_reads_it_takes(rt: HostRuntime) -> Result<(), Fail> {
+    let alloc = rt.alloc();
+    let mut input = bytes_of(alloc, &[LOGON])?;
+    for _ in 0..NOISE {
+        input.push(b'x')?;
+    }
+    let order = bytes_of(alloc, &[BUY])?;
+    input.extend_from_slice(&order)?;
+    let expected = bytes_of(alloc, &[LOGGED_ON, BOUGHT])?;
+    let mut reader = ByteByByte {
+        left: input.as_slice(),
+        fails: false,
+    };
+    let mut written = Vec::new(alloc);
+    let instruments = fixture_instruments(alloc, USUAL_DELAY)?;
+    let ended = run_once(alloc, instruments, &mut reader, &mut written)?;
+    assert!(rt; ended == Ok(()) && written.as_slice() == expected.as_slice());
+    Ok(())
+}
+
 #[test]
 fn the_rest_is_read_once_the_line_is_down(rt: HostRuntime) -> Result<(), Fail> {
     let alloc = rt.alloc();
@@ -320,10 +344,11 @@ fn the_rest_is_read_once_the_line_is_down(rt: HostRuntime) -> Result<(), Fail> {
     Ok(())
 }
 
-/// Takes so many bytes, and then no more: nothing of a write that is longer than the room left.
+/// Takes so many bytes, and then no more: nothing of a write that is longer than the room left. Whether what it took leaves it.
 #[derive(Drop)]
 pub(crate) struct Full {
     pub(crate) room: usize,
+    pub(crate) flushes: bool,
 }
 
 impl Write for Full {
@@ -336,7 +361,11 @@ impl Write for Full {
     }
 
     fn flush(&mut self) -> io::Result<()> {
-        Ok(())
+        if self.flushes {
+            Ok(())
+        } else {
+            Err(io::Error::from(ErrorKind::StorageFull))
+        }
     }
 }
 
@@ -344,8 +373,8 @@ impl Write for Full {
 fn stops_where_a_write_fails(rt: HostRuntime) -> Result<(), Fail> {
     let alloc = rt.alloc();
     let input = bytes_of(alloc, &[LOGON, BUY])?;
-    for (room, left) in [(0, 0), (200, 107)] {
-        let mut writer = Full { room };
+    for (room, flushes, left) in [(0, true, 0), (200, true, 107), (1000, false, 776)] {
+        let mut writer = Full { room, flushes };
         let instruments = fixture_instruments(alloc, USUAL_DELAY)?;
         let ended = run_once(alloc, instruments, &mut input.as_slice(), &mut writer)?;
         assert_eq!(rt; ended, Err(OnceFault::Output), "with room for {room} bytes");

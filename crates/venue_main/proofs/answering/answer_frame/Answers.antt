@@ -8,7 +8,7 @@ use Rattle.venue_main.proofs.answering.answer_frame.Goals as goal
 
 pub returns-clause-answered : goal.returns-clause-answered
 returns-clause-answered g c = λ r market first a stands.
-    frame_answered r market c.args.at a c.args.session.now.state c.step.new.self.state c.take_ready.new.session.state c.write_queued.new.session.state c.args.venue.now c.take_ready.new.venue first (g.W.Write.contents c.args.writer.now) (g.W.Write.contents c.write_queued.new.writer)
+    frame_answered c.sends_alone_number.ensures.step r market c.args.at a c.args.session.now.state c.step.new.self.state c.take_ready.new.session.state c.write_queued.new.session.state c.args.venue.now c.take_ready.new.venue first (g.W.Write.contents c.args.writer.now) (g.W.Write.contents c.write_queued.new.writer)
     (c.in_ok-answer.ensures.state r) (c.in_ok-take_ready.ensures.answered r market) c.in_ok-take_ready.ensures.ready c.in_ok-write_queued.ensures.state c.in_ok-write_queued.ensures.written stands
 
 pub returns-clause-heard : goal.returns-clause-heard

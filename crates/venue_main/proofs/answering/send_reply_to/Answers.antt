@@ -14,5 +14,5 @@ returns-then-ne c =
 pub returns : goal.returns
 returns c =
     let same : (c.args.reply.now.to == c.args.to) ≡ true = not-false (c.args.reply.now.to == c.args.to) (sym c.ne.ensures ∙ c.if-ne.false) in
-    let sent = sent-more c.args.at c.args.session.now.state c.send_reply.new.session.state c.send_reply.new.session.state (message c.args.reply.now.what) [] c.in_ok-send_reply.ensures.sent c.in_ok-send_reply.ensures.few (sent-none c.args.at c.send_reply.new.session.state) in
+    let sent = sent-more c.sends_alone_number.ensures.send c.args.at c.args.session.now.state c.send_reply.new.session.state c.send_reply.new.session.state (message c.args.reply.now.what) [] c.in_ok-send_reply.ensures.sent c.in_ok-send_reply.ensures.few (sent-none c.args.at c.send_reply.new.session.state) in
     subst (λ (l : List App). IsSent c.args.at c.args.session.now.state l c.send_reply.new.session.state) (sym (said-first c.args.to c.args.reply.now [] same)) sent

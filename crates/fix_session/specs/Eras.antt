@@ -1,0 +1,36 @@
+-- When a new era begins, and what it begins with, by itself (FIXT 1.1, ResetSeqNumFlag).
+use Rattle.std.specs.Prelude.{◌≡◌, ℕ, List, [], ◌∷◌, ◌++◌, true, false, Some, None}
+use Rattle.resend_store.specs.declared.entry.Entry.TheVariants.{Session}
+use Rattle.fix_session.specs.declared.frame.Frame.{Frame}
+use Rattle.fix_session.specs.declared.frame.Content.TheVariants.{Logon}
+use Rattle.fix_session.specs.declared.plan.Notice.TheVariants as notice
+use Rattle.fix_session.specs.Sent.{notice_frame}
+use Rattle.fix_session.specs.State.{State}
+
+-- a Logon of the counterparty with number 1, ResetSeqNumFlag and this heartbeat interval, that is no possible duplicate
+pub record IsReset (f : Frame) (heartbeat : ℕ) : Type 0 where
+  pub spelled : f.content ≡ Logon heartbeat (Some true)
+  pub first : f.number ≡ Some 1
+  pub from_peer : f.comp_ids_right ≡ true
+  pub told_once : f.possible_duplicate ≡ false
+
+-- Behind such a Logon, heard at moment t, both sides number from 1, and each has spent it; no request stands. What was numbered
+-- is kept, what is ready stays, and the answer is queued behind what was.
+pub record EraBegins (s new : State) (t : ℕ) (kind : List ℕ) (f : Frame) (heartbeat : ℕ) : Type 0 where
+  pub past : new.past ≡ s.past ++ s.entries ∷ []
+  pub entries : new.entries ≡ Session ∷ []
+  pub due : new.line.due ≡ 2
+  pub heartbeat_is : new.line.heartbeat ≡ heartbeat
+  pub standing : new.line.standing ≡ None
+  pub logged_on : new.line.logged_on ≡ true
+  pub ready : new.ready ≡ s.ready
+  pub wire : new.wire ≡ s.wire ++ notice_frame s.ids t kind f.content 1 (notice.Logon heartbeat (Some true))
+
+-- where 1,000 eras have begun such a Logon ends the connection, with nothing sent or spent
+pub record NoEraBegins (s new : State) : Type 0 where
+  pub up : new.line.up ≡ false
+  pub past : new.past ≡ s.past
+  pub entries : new.entries ≡ s.entries
+  pub due : new.line.due ≡ s.line.due
+  pub ready : new.ready ≡ s.ready
+  pub wire : new.wire ≡ s.wire
