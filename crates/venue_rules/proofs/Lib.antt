@@ -46,6 +46,8 @@ pub mod EveryReport
 -- over every list of inputs each fact follows those before it; the laws
 pub mod EveryRun
 pub mod EveryRoomTrade
+-- orders enter in listed instruments alone, so linked orders of a market of files wait for a second
+pub mod Listed
 -- a room is closed right after its trade, so it trades once
 pub mod Shut
 pub mod ShutEach

@@ -4,6 +4,7 @@ use Rattle.fix_dictionary.specs.declared.messages.App.{App}
 use Rattle.fix_dictionary.specs.Text.{app_text}
 use Rattle.venue_rules.specs.declared.trail.Taken.{Taken}
 use Rattle.venue_rules.specs.Run.{Input, Message, Tick, row}
+use Rattle.venue_rules.specs.Limits.{AreInOrder, IsRising, RowsAreInOrder}
 use Rattle.venue_rules.specs.ReadBack.{AreReadBack, RowsAreReadBack, input_of}
 
 -- The rows of a list of inputs give the list back.
@@ -27,3 +28,13 @@ rows_back read n (Tick t ∷ is) k = ap (λ xs. Tick t ∷ xs) (rows_back read (
 
 pub rows_read_back : RowsAreReadBack
 rows_read_back read is k = rows_back read 1 is k
+
+-- and their numbers and moments are in order
+
+in_order : (n from : ℕ) (is : List Input) (to : ℕ) → IsRising from is to → AreInOrder n from (map (λ p. row p.0 p.1) (enumerate_from (n + 1) is))
+in_order n from [] to r = tt
+in_order n from (Message taken t ∷ is) to r = ((refl, r.0), in_order (n + 1) t is to r.1)
+in_order n from (Tick t ∷ is) to r = ((refl, r.0), in_order (n + 1) t is to r.1)
+
+pub rows_in_order : RowsAreInOrder
+rows_in_order is to r = in_order 0 0 is to r

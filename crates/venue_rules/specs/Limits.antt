@@ -1,10 +1,11 @@
-use Rattle.std.specs.Prelude.{ℕ, ◌≤◌, List, [], ◌∷◌, length}
+use Rattle.std.specs.Prelude.{◌≡◌, ℕ, ◌+◌, ◌≤◌, List, [], ◌∷◌, length}
 use Rattle.fix_dictionary.specs.declared.values.Side.{Side}
+use Rattle.venue_rules.specs.declared.trail.TrailRow.{TrailRow}
 use Rattle.venue_rules.specs.Market.{Market}
 use Rattle.venue_rules.specs.Book.{resting, side_room}
 use Rattle.venue_rules.specs.Requests.{open_room}
 use Rattle.venue_rules.specs.Rooms.{live_quotes, open_rooms}
-use Rattle.venue_rules.specs.Run.{Input, Message, Tick, replies_to, run}
+use Rattle.venue_rules.specs.Run.{Input, Message, Tick, replies_to, rows, run}
 use Rattle.venue_rules.specs.MoreInputs.{answer_after}
 use Rattle.venue_rules.specs.Answer.{Sender}
 use Rattle.venue_rules.specs.Withdrawals.{answer_withdrawal}
@@ -24,6 +25,14 @@ moment_of (Tick t) = t
 abbrev pub IsRising : ℕ → List Input → ℕ → Type 0
 IsRising from [] to = from ≤ to
 IsRising from (i ∷ is) to = (from ≤ moment_of i) × IsRising (moment_of i) is to
+
+-- rows as a trail asks them to be: each with the number after the last, and at a moment no earlier
+abbrev pub AreInOrder : ℕ → ℕ → List TrailRow → Type 0
+AreInOrder before last [] = Unit {0}
+AreInOrder before last (r ∷ rs) = ((r.n ≡ before + 1) × (last ≤ r.moment)) × AreInOrder (before + 1) r.moment rs
+
+abbrev pub RowsAreInOrder : Type 0
+RowsAreInOrder = (is : List Input) (to : ℕ) → IsRising 0 is to → AreInOrder 0 0 (rows is)
 
 -- at a moment no earlier than the last input's, at most 1,000 rooms are open
 abbrev pub OpenRoomsAreFew : Market → List Input → Type 0

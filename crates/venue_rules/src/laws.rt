@@ -1,10 +1,11 @@
 //! What every list of inputs keeps.
 
-ghost use Rattle.std.specs.Prelude.{List};
+ghost use Rattle.std.specs.Prelude.{◌≡◌, true, List};
+ghost use Rattle.instruments.specs.Rows.{is_instrument_file};
 ghost use Rattle.venue_rules.specs.Addressees.{AnswersGoToParticipants, RepliesGoToParticipants};
 ghost use Rattle.venue_rules.specs.Amounts.{AmountsStayWithin, FillsAreWithin, PrintedNumbersAreIdentifiers};
-ghost use Rattle.venue_rules.specs.Lawful.{BestOrderTrades, EveryRunIsLawful, LinkedOrdersWait, NumbersArePlaces, OrdersTradeWithin, PricesComeWithFirstQuote, RecipientsAskedTogether, RequestsComeFirst};
-ghost use Rattle.venue_rules.specs.Limits.{LiveQuotesAreFew, OpenRoomsAreFew, RepliesAreFew, SidesAreShort, WithdrawalsAreFew};
+ghost use Rattle.venue_rules.specs.Lawful.{BestOrderTrades, EveryRunIsLawful, LinkedOrdersWait, LinkedOrdersWaitASecond, NumbersArePlaces, OrdersTradeWithin, PricesComeWithFirstQuote, RecipientsAskedTogether, RequestsComeFirst};
+ghost use Rattle.venue_rules.specs.Limits.{LiveQuotesAreFew, OpenRoomsAreFew, RepliesAreFew, RowsAreInOrder, SidesAreShort, WithdrawalsAreFew};
 ghost use Rattle.venue_rules.specs.Market.{Market};
 ghost use Rattle.venue_rules.specs.MoreInputs.{HistoriesJoin, HistoryGoesOn, OwedGoesOn, OwedJoins, RepliesGoOn, RepliesJoin, RowsGoOn, RowsJoin, TimelyGoesOn, TimelyJoins};
 ghost use Rattle.venue_rules.specs.ReadBack.{RowsAreReadBack};
@@ -31,10 +32,11 @@ pub fn every_room_trade_is_lawful()
 
 /// Each trade in the book is with the first resting order of its side then, at that order's price and within the
 /// entering order's (17 CFR 37.3(a)(3)); linked orders that traded had entered at least the delay apart
-/// (17 CFR 37.9(b)(1)); no order trades more than its quantity.
+/// (17 CFR 37.9(b)(1)), which for the instruments of a file is a second or more; no order trades more than its quantity.
 pub fn every_book_trade_is_lawful()
     ensures best_order { (m : Market) (is : List Input) → BestOrderTrades (run m is).history.facts }
     ensures linked_orders_wait { (m : Market) (is : List Input) → LinkedOrdersWait m (run m is).history.facts }
+    ensures a_second_apart { (m : Market) (is : List Input) → is_instrument_file m.instruments ≡ true → LinkedOrdersWaitASecond m (run m is).history.facts }
     ensures within_quantity { (m : Market) (is : List Input) → OrdersTradeWithin (run m is).history.facts }
 {}
 
@@ -65,6 +67,11 @@ pub fn printed_numbers_are_identifiers()
 /// The rows of a list of inputs give the list back, by whatever reads the texts of its messages back.
 pub fn every_row_is_read_back()
     ensures { RowsAreReadBack }
+{}
+
+/// The rows of inputs whose moments do not fall are numbered 1, 2, 3 and so on, and their moments do not fall.
+pub fn rows_are_in_order()
+    ensures { RowsAreInOrder }
 {}
 
 /// At a moment no earlier than the last, at most 1,000 rooms are open, and at most 1,000 quotes of one participant are

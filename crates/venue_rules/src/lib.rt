@@ -22,7 +22,7 @@ pub use laws::{
     amounts_stay_within, every_book_trade_is_lawful, every_report_is_numbered,
     every_room_trade_is_lawful, every_row_is_read_back, every_run_is_lawful, fills_are_within,
     open_rooms_are_few, printed_numbers_are_identifiers, replies_are_few,
-    replies_go_to_participants, run_goes_on, runs_join,
+    replies_go_to_participants, rows_are_in_order, run_goes_on, runs_join,
 };
 pub use lists::{PictureEntries, Recipients, RowText, Shown};
 pub use participants::Who;
