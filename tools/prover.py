@@ -5,7 +5,7 @@ import shutil
 import subprocess
 import tempfile
 
-from repository import PARTS, ROOT, crates_below, folder_of, library_of, text_of
+from repository import PARTS, crates_below, folder_of, library_of, text_of
 
 # What antt says where a proof file names something that the crate no longer has.
 NAME_IS_GONE = re.compile(r"has no field|is not in scope|has no `|was not admitted")
@@ -62,6 +62,7 @@ class Answer:
     refused      what it refuses for more than that functions which it calls are not proved
     at_goals     of these, what it refuses at a goal, and not only since a proof file names what is gone, or lacks what is new
     goals        what it says of these, or of a law or a definition that is refused
+    first        the first line to show of what it said
     """
 
     def __init__(self, status, said):
