@@ -11,6 +11,3 @@ mod reading;
 pub use held::{Held, Refusal};
 pub use laws::{delay_is_read_alone, due_side_is_held};
 pub use plan::HoldPlan;
-
-#[cfg(test)]
-mod tests;

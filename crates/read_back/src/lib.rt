@@ -12,6 +12,3 @@ pub use laws::{
 };
 pub use quoted::{QuotedRooms, quoted_room};
 pub use trades::Trades;
-
-#[cfg(test)]
-mod tests;

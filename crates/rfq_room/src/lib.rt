@@ -24,6 +24,3 @@ pub use laws::rooms_decide;
 pub use plan::RoomPlan;
 pub use refusal::{Cause, Refusal, ResponseCause, WithdrawalRefusal};
 pub use rooms::Rooms;
-
-#[cfg(test)]
-mod tests;

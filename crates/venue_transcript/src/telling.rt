@@ -1,0 +1,57 @@
+//! Answers as lines of a transcript.
+
+use fix_dictionary::print_app;
+use participants::{Participants, Who};
+use std::alloc::{AllocError, Global};
+use venue_core::message_of;
+use venue_rules::Reply;
+
+/// A participant's name.
+pub fn name_of(participants: &Participants, who: Who) -> &[u8] {
+    if (who.place() as usize) < participants.len() {
+        participants.name(who)
+    } else {
+        b"nobody"
+    }
+}
+
+// Appends bytes with `|` for SOH.
+fn append_text(bytes: &[u8], told: &mut Vec<u8>) -> Result<(), AllocError> {
+    for byte in bytes {
+        told.push(if *byte == 1 { b'|' } else { *byte })?;
+    }
+    Ok(())
+}
+
+fn tell_reply(
+    alloc: Global,
+    participants: &Participants,
+    reply: &Reply,
+    told: &mut Vec<u8>,
+) -> Result<(), AllocError> {
+    let app = message_of(alloc, reply)?;
+    let mut text = Vec::new(alloc);
+    print_app(&app, &mut text)?;
+    told.extend_from_slice(b"  ")?;
+    told.extend_from_slice(name_of(participants, reply.to))?;
+    told.push(b' ')?;
+    append_text(&text, told)?;
+    told.push(b'\n')?;
+    Ok(())
+}
+
+/// Appends a line for each reply: to whom, and the text with `|` for SOH.
+pub fn tell_replies(
+    alloc: Global,
+    participants: &Participants,
+    replies: &[Reply],
+    told: &mut Vec<u8>,
+) -> Result<(), AllocError> {
+    if replies.is_empty() {
+        return told.extend_from_slice(b"  nothing\n");
+    }
+    for reply in replies {
+        tell_reply(alloc, participants, reply, told)?;
+    }
+    Ok(())
+}
