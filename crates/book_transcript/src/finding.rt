@@ -1,6 +1,7 @@
 //! How many identifiers a search looks at.
 
 use crate::filling::{enters, resting};
+use crate::market::{Market, market_of};
 use crate::stream::id_of;
 use anyhow::{Result, anyhow};
 use fix_dictionary::Side;
@@ -8,47 +9,68 @@ use participants::Who;
 use price_book::PriceBook;
 use sef_moment::Moment;
 use std::alloc::Global;
-use venue_rules::{fixture_instruments, fixture_participants};
 
-// A book in which so many orders rest, 200 on a side.
-fn book_of(alloc: Global, orders: u64) -> Result<PriceBook> {
-    let participants = fixture_participants(alloc)?;
-    let instruments = fixture_instruments(alloc, 15_000)?;
-    let Some(moment) = Moment::of_ms(1_000) else {
-        return Err(anyhow!("no moment"));
+// The n-th of orders that rest, 200 on a side.
+fn enter(market: &Market, book: &mut PriceBook, n: u64, moment: Moment) -> bool {
+    let side = if n / 200 % 2 == 0 {
+        Side::Buy
+    } else {
+        Side::Sell
     };
-    let mut book = PriceBook::new(alloc);
-    for n in 0..orders {
-        let side = if n / 200 % 2 == 0 {
-            Side::Buy
-        } else {
-            Side::Sell
-        };
-        let order = resting(n, (n / 400 % 4) as u32, side);
-        if !enters(&participants, &instruments, &mut book, &order, moment) {
-            return Err(anyhow!("order {n} was refused"));
-        }
-    }
-    Ok(book)
+    let order = resting(n, (n / 400 % 4) as u32, side);
+    enters(market, book, &order, moment)
 }
 
-/// Looks for each of so many orders that rest, and for one that does not.
-pub(crate) fn find(rt: &HostRuntime, alloc: Global, orders: u64) -> Result<()> {
-    let book = book_of(alloc, orders)?;
-    let mut most: u32 = 0;
-    let mut lost: u64 = 0;
+/// How many orders were refused, how many were not found, and how many identifiers a search looked at, at most.
+#[derive(Clone, Copy)]
+struct Looks {
+    refused: u64,
+    lost: u64,
+    most: u32,
+}
+
+fn enter_all(market: &Market, book: &mut PriceBook, orders: u64, moment: Moment) -> u64 {
+    let mut refused: u64 = 0;
+    for n in 0..orders {
+        if !enter(market, book, n, moment) {
+            refused = refused.saturating_add(1);
+        }
+    }
+    refused
+}
+
+fn look(book: &PriceBook, orders: u64, refused: u64) -> Looks {
+    let mut looks = Looks {
+        refused,
+        lost: 0,
+        most: 0,
+    };
     for n in 0..orders {
         let (number, count) = book.find(Who::of((n % 2) as u32), &id_of(n));
         if number != Some(n + 1) {
-            lost = lost.saturating_add(1);
+            looks.lost = looks.lost.saturating_add(1);
         }
-        most = most.max(count);
+        looks.most = looks.most.max(count);
     }
-    let (other, count) = book.find(Who::of(0), &id_of(orders));
-    most = most.max(count);
+    looks
+}
+
+fn look_for_all(alloc: Global, orders: u64) -> Result<Looks> {
+    let Some(moment) = Moment::of_ms(1_000) else {
+        return Err(anyhow!("no moment"));
+    };
+    let market = market_of(alloc)?;
+    let mut book = PriceBook::new(alloc);
+    let refused = enter_all(&market, &mut book, orders, moment);
+    Ok(look(&book, orders, refused))
+}
+
+/// Looks for each of so many orders that rest.
+pub(crate) fn find(rt: &HostRuntime, alloc: Global, orders: u64) -> Result<()> {
+    let looks = look_for_all(alloc, orders)?;
     println!(rt;
-        "{orders} identifiers: {lost} not found, another found {}, at most {most} looked at",
-        other.is_some()
+        "{orders} identifiers: {} refused, {} not found, at most {} looked at",
+        looks.refused, looks.lost, looks.most
     )?;
     Ok(())
 }
