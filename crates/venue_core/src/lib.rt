@@ -10,6 +10,7 @@ mod messages;
 mod of_orders;
 mod of_rooms;
 mod plan;
+mod replay;
 #[cfg(test)]
 mod read_tests;
 #[cfg(test)]
