@@ -66,16 +66,16 @@ does_few r Writes s few = few
 
 none_behind : (replies : List Reply) (sides : List Side) (k j : ℕ) (s : Side) → first_behind k replies sides ≡ None → slice_get sides j ≡ Some s → is_behind (k + j) replies s ≡ false
 none_behind replies [] k j s none e = absurd (cc)
-none_behind replies (z ∷ sides) k j s none e = by (is_behind k replies z) refl j e
+none_behind replies (z ∷ sides) k j s none e = by (is_behind k replies z) refl j e (λ i later at_i. none_behind replies sides (k + 1) i s later at_i)
   where
-    by : (b : Bool) → is_behind k replies z ≡ b → (j : ℕ) → slice_get (z ∷ sides) j ≡ Some s → is_behind (k + j) replies s ≡ false
-    by true is j e = absurd (let some : Some k ≡ None = ap (λ (b : Bool). if b then Some k else first_behind (k + 1) replies sides) (sym is) ∙ none in cc)
-    by false is zero e =
+    by : (b : Bool) → is_behind k replies z ≡ b → (j : ℕ) → slice_get (z ∷ sides) j ≡ Some s → ((i : ℕ) → first_behind (k + 1) replies sides ≡ None → slice_get sides i ≡ Some s → is_behind (k + 1 + i) replies s ≡ false) → is_behind (k + j) replies s ≡ false
+    by true is j e rest = absurd (let some : Some k ≡ None = ap (λ (b : Bool). if b then Some k else first_behind (k + 1) replies sides) (sym is) ∙ none in cc)
+    by false is zero e rest =
         let same : z ≡ s = cc in
         ap (λ (n : ℕ). is_behind n replies s) (let e : k + 0 ≡ k = omega arith in e) ∙ ap (is_behind k replies) (sym same) ∙ is
-    by false is (suc j) e =
+    by false is (suc j) e rest =
         let later : first_behind (k + 1) replies sides ≡ None = ap (λ (b : Bool). if b then Some k else first_behind (k + 1) replies sides) (sym is) ∙ none in
-        ap (λ (n : ℕ). is_behind n replies s) (let e : k + suc j ≡ k + 1 + j = omega arith in e) ∙ none_behind replies sides (k + 1) j s later e
+        ap (λ (n : ℕ). is_behind n replies s) (let e : k + suc j ≡ k + 1 + j = omega arith in e) ∙ rest j later e
 
 -- how many are for this one
 count : ℕ → List Reply → ℕ
