@@ -4,3 +4,4 @@ pub mod Running
 pub mod Listing
 pub mod Unsupported
 pub mod FirstQuotes
+pub mod Replaying

@@ -10,3 +10,5 @@ pub mod Read
 pub mod Plan
 -- inputs taken one after another
 pub mod Taking
+-- what rows tell, as they are replayed
+pub mod Replay

@@ -8,6 +8,7 @@ mod messages;
 mod of_orders;
 mod of_rooms;
 mod plan;
+mod replay;
 mod unanswered;
 mod venue;
 

@@ -1,0 +1,2 @@
+-- what a trail holds that refuses one row
+pub mod Faulty

@@ -1,0 +1,33 @@
+//! Plays a transcript of a world's events, and sees whether the world answers as it is written there.
+//!
+//! The transcript comes on standard input. A line that begins with `#` begins a new world, a line that is set in tells an
+//! answer, an empty line is passed over, and any other line is a call. The calls are made, each once more where a growth was
+//! refused, and the transcript is written anew with what the world answers. Where that is the transcript that came, nothing is
+//! written; else the new one is, and the status is 1.
+#![tactic(auto)]
+
+mod call;
+mod filling;
+mod keeper;
+mod line;
+mod playing;
+mod reading;
+mod telling;
+
+use anyhow::{Result, ensure};
+use line::told_anew;
+use std::io;
+use std::io::Write;
+
+fn main(rt: HostRuntime) -> Result<()> {
+    let transcript = io::read_to_string(rt.alloc(), rt.stdin())?;
+    let told = told_anew(rt.alloc(), transcript.as_str())?;
+    if told.as_slice() != transcript.as_bytes() {
+        rt.stdout().write_all(&told)?;
+    }
+    ensure!(
+        told.as_slice() == transcript.as_bytes(),
+        "the world answers otherwise"
+    );
+    Ok(())
+}
