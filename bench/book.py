@@ -31,13 +31,14 @@ def best(words, turns):
 
 
 def main():
-    timed, place = sys.argv[1], sys.argv[2]
+    timed, place = int(sys.argv[1]), sys.argv[2]
     # builds it where it is not built
     subprocess.run(["rt", "run"], cwd="crates/book_bench", check=True, stdin=subprocess.DEVNULL, capture_output=True)
     for resting, gone, instruments, plain in SIZES:
-        # where many rest, it is the making of the book that takes the time
-        turns = 1 if resting * instruments > 10_000 else TURNS
-        size = [str(resting), str(gone), str(instruments), timed]
+        # where many rest, it is the making of the book that takes the time: fewer requests are timed, once
+        many = resting * instruments > 10_000
+        turns = 1 if many else TURNS
+        size = [str(resting), str(gone), str(instruments), str(min(timed, 256) if many else timed)]
         book = best([PROGRAM, *size, str(plain)], turns)
         peer = best([os.path.join(place, "book_peer"), *size], turns)
         print(f"{resting} rest on each side, {gone} gone, {instruments} instruments:")
