@@ -10,9 +10,9 @@ mod messages;
 mod of_orders;
 mod of_rooms;
 mod plan;
-mod replay;
 #[cfg(test)]
 mod read_tests;
+mod replay;
 #[cfg(test)]
 mod request_tests;
 #[cfg(test)]
