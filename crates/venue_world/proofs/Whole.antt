@@ -1,5 +1,5 @@
 -- What holds of every list of acts.
-use Rattle.std.proofs.Common.{◌≡◌, ℕ, zero, suc, Bool, true, false, List, [], ◌∷◌, ◌++◌, length, map, max, refl, sym, ap, ◌∙◌, subst, append_assoc, Option, Some, None, Result}
+use Rattle.std.proofs.Common.{◌≡◌, ℕ, Bool, true, false, List, [], ◌∷◌, ◌++◌, length, map, max, refl, sym, ap, ◌∙◌, subst, append_assoc, Option, Some, None, Result}
 use Rattle.std.specs.Prelude.{◌==◌, ◌||◌, if◌then◌else◌, option_to_list, slice_get}
 use Rattle.std.specs.List.{list_any}
 use Rattle.std.proofs.lemmas.Option.{get_or_from_slice_get}
@@ -23,7 +23,7 @@ use Rattle.venue_world.specs.declared.act.Doing.{Doing}
 use Rattle.venue_world.specs.declared.act.Doing.TheVariants.{Pieces, Steps, Ticks, Breaks, Resumes, Hands, Delivers, Collects, Cuts, Writes}
 use Rattle.venue_world.specs.declared.outgoing.Outgoing.{Outgoing}
 use Rattle.venue_world.specs.declared.outgoing.Outgoing.TheVariants.{Message, Cut}
-use Rattle.venue_world.specs.Side.{Side, collected, for_session, delivered, does, fresh_side, handed, is_spent, for_venue, outgoing}
+use Rattle.venue_world.specs.Side.{Side, collected, for_session, delivered, does, handed, is_spent, for_venue, outgoing}
 use Rattle.venue_world.specs.World.{Stand, answered, at, emptied, first_behind, fresh_world, after_act, ids_of, is_due, after_all, message_from, replies_after, seat_at, takes, ticks, unless_behind}
 use Rattle.venue_world.specs.Headline.{AreFrom, Headline, IsPart, calls_from, heard_of, history_of, is_cut_of, items_of, taken_from, was_cut}
 use Rattle.venue_world.proofs.Lists.{IsAt, here, there, other_place, same_place, side_at, side_posted}

@@ -2,7 +2,7 @@
 use Rattle.std.specs.Prelude.{ℕ, ◌<◌, ◌≡◌, Result, Ok, Err, Bool, true, false, List, [], ◌∷◌, ◌++◌, Option, Some, None, length}
 use Rattle.fix_session.specs.Reader.{Reader}
 use Rattle.venue_rules.specs.declared.trail.EventFault.{EventFault}
-use Rattle.venue_rules.specs.declared.trail.EventFault.TheVariants.{Behind, Due, Down, NoMemory, TrailRefused}
+use Rattle.venue_rules.specs.declared.trail.EventFault.TheVariants.{Due, Down, NoMemory, TrailRefused}
 use Rattle.venue_rules.specs.declared.trail.TrailRow.{TrailRow}
 use Rattle.venue_rules.specs.Kept.{IsRisen}
 use Rattle.venue_rules.specs.Market.{Market}
