@@ -84,31 +84,31 @@ not_spent : (entries : ℕ) → entries ≤ last_number → nat_lt last_number (
 not_spent entries few = grind (arith, nat_tests)
 
 heard_begins : (s : State) (t : ℕ) (rest kind : List ℕ) (f : Frame) (heartbeat : ℕ) → era_asked f s.line.due (length s.entries) ≡ Some heartbeat → length s.past < 999
-    → EraBegins s (heard_frame s t rest kind f).0 t kind f heartbeat
+    → EraBegins s (heard_frame s t rest kind f).0 (heard_frame s t rest kind f).1 t kind f heartbeat
 unfolding written
 heard_begins s t rest kind f heartbeat asks few =
     let none : item_of (era_of s.past) f.content Did ≡ [] = anew_item (era_of s.past) f.content Did heartbeat (is_anew _ f.content heartbeat asks) in
     let same : s.ready ++ item_of (era_of s.past) f.content Did ≡ s.ready = ap (λ (l : List Item). s.ready ++ l) none ∙ append-nil s.ready in
     rw (asks, more_eras s few)
-    (record { past = refl; entries = refl; due = refl; heartbeat_is = refl; standing = refl; logged_on = refl; ready = same; wire = refl })
+    (record { answered = refl; past = refl; entries = refl; due = refl; heartbeat_is = refl; standing = refl; test_at = refl; logged_on = refl; ready = same; wire = refl })
 
 heard_ends : (s : State) (t : ℕ) (rest kind : List ℕ) (f : Frame) (heartbeat : ℕ) → era_asked f s.line.due (length s.entries) ≡ Some heartbeat → 999 ≤ length s.past → length s.entries ≤ last_number
-    → NoEraBegins s (heard_frame s t rest kind f).0
+    → NoEraBegins s (heard_frame s t rest kind f).0 (heard_frame s t rest kind f).1
 unfolding written
 heard_ends s t rest kind f heartbeat asks many few =
     let none : item_of (era_of s.past) f.content (Dropped why.Reset) ≡ [] = anew_item (era_of s.past) f.content (Dropped why.Reset) heartbeat (is_anew _ f.content heartbeat asks) in
     let same : s.ready ++ item_of (era_of s.past) f.content (Dropped why.Reset) ≡ s.ready = ap (λ (l : List Item). s.ready ++ l) none ∙ append-nil s.ready in
     rw (asks, no_more_eras s many, not_spent (length s.entries) few)
-    (record { up = refl; past = refl; entries = append-nil s.entries; due = refl; ready = same; wire = append-nil s.wire })
+    (record { answered = refl; up = refl; past = refl; entries = append-nil s.entries; due = refl; ready = same; wire = append-nil s.wire })
 
 pub begins : (r : Reader) (s : State) (t heartbeat : ℕ) (found : List ℕ × List ℕ) → s.line.up ≡ true → (r.front s.unread).found ≡ Some found → era_asked (frame_in r s.ids found.0) s.line.due (length s.entries) ≡ Some heartbeat → length s.past < 999
-    → EraBegins s (step r s t).0 (max s.line.moment t) (kind_in found.0) (frame_in r s.ids found.0) heartbeat
+    → EraBegins s (step r s t).0 (step r s t).1 (max s.line.moment t) (kind_in found.0) (frame_in r s.ids found.0) heartbeat
 begins r s t heartbeat found up is asks few =
-    subst (λ (p : State × Step). EraBegins s p.0 (max s.line.moment t) (kind_in found.0) (frame_in r s.ids found.0) heartbeat) (sym (step_heard r s t found up is))
+    subst (λ (p : State × Step). EraBegins s p.0 p.1 (max s.line.moment t) (kind_in found.0) (frame_in r s.ids found.0) heartbeat) (sym (step_heard r s t found up is))
     (heard_begins s (max s.line.moment t) (settled r found.1) (kind_in found.0) (frame_in r s.ids found.0) heartbeat asks few)
 
 pub ends : (r : Reader) (s : State) (t heartbeat : ℕ) (found : List ℕ × List ℕ) → s.line.up ≡ true → (r.front s.unread).found ≡ Some found → era_asked (frame_in r s.ids found.0) s.line.due (length s.entries) ≡ Some heartbeat → 999 ≤ length s.past → length s.entries ≤ last_number
-    → NoEraBegins s (step r s t).0
+    → NoEraBegins s (step r s t).0 (step r s t).1
 ends r s t heartbeat found up is asks many few =
-    subst (λ (p : State × Step). NoEraBegins s p.0) (sym (step_heard r s t found up is))
+    subst (λ (p : State × Step). NoEraBegins s p.0 p.1) (sym (step_heard r s t found up is))
     (heard_ends s (max s.line.moment t) (settled r found.1) (kind_in found.0) (frame_in r s.ids found.0) heartbeat asks many few)

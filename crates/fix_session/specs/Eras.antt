@@ -4,6 +4,9 @@ use Rattle.resend_store.specs.declared.entry.Entry.TheVariants.{Session}
 use Rattle.fix_session.specs.declared.frame.Frame.{Frame}
 use Rattle.fix_session.specs.declared.frame.Content.TheVariants.{Logon}
 use Rattle.fix_session.specs.declared.plan.Notice.TheVariants as notice
+use Rattle.fix_session.specs.declared.plan.Step.{Step}
+use Rattle.fix_session.specs.declared.plan.Step.TheVariants.{Did, Dropped}
+use Rattle.fix_session.specs.declared.plan.Why.TheVariants as why
 use Rattle.fix_session.specs.Sent.{notice_frame}
 use Rattle.fix_session.specs.State.{State}
 
@@ -14,20 +17,23 @@ pub record IsReset (f : Frame) (heartbeat : ℕ) : Type 0 where
   pub from_peer : f.comp_ids_right ≡ true
   pub told_once : f.possible_duplicate ≡ false
 
--- Behind such a Logon, heard at moment t, both sides number from 1, and each has spent it; no request stands. What was numbered
--- is kept, what is ready stays, and the answer is queued behind what was.
-pub record EraBegins (s new : State) (t : ℕ) (kind : List ℕ) (f : Frame) (heartbeat : ℕ) : Type 0 where
+-- Behind such a Logon, heard at moment t, both sides number from 1, and each has spent it; no request and no test stands. What was
+-- numbered is kept, what is ready stays, and the reply is queued behind what was.
+pub record EraBegins (s new : State) (answer : Step) (t : ℕ) (kind : List ℕ) (f : Frame) (heartbeat : ℕ) : Type 0 where
+  pub answered : answer ≡ Did
   pub past : new.past ≡ s.past ++ s.entries ∷ []
   pub entries : new.entries ≡ Session ∷ []
   pub due : new.line.due ≡ 2
   pub heartbeat_is : new.line.heartbeat ≡ heartbeat
   pub standing : new.line.standing ≡ None
+  pub test_at : new.line.test_at ≡ None
   pub logged_on : new.line.logged_on ≡ true
   pub ready : new.ready ≡ s.ready
   pub wire : new.wire ≡ s.wire ++ notice_frame s.ids t kind f.content 1 (notice.Logon heartbeat (Some true))
 
 -- where 1,000 eras have begun such a Logon ends the connection, with nothing sent or spent
-pub record NoEraBegins (s new : State) : Type 0 where
+pub record NoEraBegins (s new : State) (answer : Step) : Type 0 where
+  pub answered : answer ≡ Dropped why.Reset
   pub up : new.line.up ≡ false
   pub past : new.past ≡ s.past
   pub entries : new.entries ≡ s.entries

@@ -39,9 +39,9 @@ pub fn new_eras()
     ensures asked { (f : Frame) (due entries heartbeat : ℕ) → era_asked f due entries ≡ Some heartbeat → IsReset f heartbeat × ((due ≡ 1) × (entries ≡ 0) → ⊥) }
     ensures asks { (f : Frame) (due entries heartbeat : ℕ) → IsReset f heartbeat → ((due ≡ 1) × (entries ≡ 0) → ⊥) → era_asked f due entries ≡ Some heartbeat }
     ensures begins { (r : Reader) (s : State) (t heartbeat : ℕ) (found : List ℕ × List ℕ) → s.line.up ≡ true → (r.front s.unread).found ≡ Some found → era_asked (frame_in r s.ids found.0) s.line.due (length s.entries) ≡ Some heartbeat → length s.past < 999
-        → EraBegins s (step r s t).0 (max s.line.moment t) (kind_in found.0) (frame_in r s.ids found.0) heartbeat }
+        → EraBegins s (step r s t).0 (step r s t).1 (max s.line.moment t) (kind_in found.0) (frame_in r s.ids found.0) heartbeat }
     ensures ends { (r : Reader) (s : State) (t heartbeat : ℕ) (found : List ℕ × List ℕ) → s.line.up ≡ true → (r.front s.unread).found ≡ Some found → era_asked (frame_in r s.ids found.0) s.line.due (length s.entries) ≡ Some heartbeat → 999 ≤ length s.past → length s.entries ≤ last_number
-        → NoEraBegins s (step r s t).0 }
+        → NoEraBegins s (step r s t).0 (step r s t).1 }
 {}
 
 /// Over every list of calls, the application messages among what was numbered, era after era, are the replies that were sent,
