@@ -92,8 +92,9 @@ class Answer:
 
 def reasons_of(told):
     """The reasons, of those that the prover gives behind the name of what it refuses, that lie in the function itself: that one
-    which it calls is not proved is none. Words other than `not proved` and `no proof`, as `could not tell`, are no refusal."""
-    if not re.match(r"(not proved|no proof)\b", told):
+    which it calls is not proved is none, nor that an impl waits for the proof of its method. Words other than `not proved` and
+    `no proof`, as `could not tell`, are no refusal."""
+    if not re.match(r"(not proved|no proof)\b", told) or re.match("not proved; it waits for the proofs? of ", told):
         return []
     reasons = re.split(r"[:;] ", told)
     if reasons[0] == "no proof" and len(reasons) > 1:
