@@ -56,8 +56,7 @@ asked f due entries heartbeat is =
     let one = and_parts f.comp_ids_right (not f.possible_duplicate && (is_one f.number && not (is_unspent due entries))) all in
     let two = and_parts (not f.possible_duplicate) (is_one f.number && not (is_unspent due entries)) one.1 in
     let three = and_parts (is_one f.number) (not (is_unspent due entries)) two.1 in
-    let spent : is_unspent due entries ≡ false = false_of (is_unspent due entries) three.1 in
-    (
+    let spent : is_unspent due entries ≡ false = false_of (is_unspent due entries) three.1 in (
       record {
         spelled = content_is f.content heartbeat (is_anew _ f.content heartbeat is);
         first = number_is f.number three.0;
@@ -65,8 +64,8 @@ asked f due entries heartbeat is =
         told_once = false_of f.possible_duplicate two.0;
       },
       λ none.
-        let here : is_unspent due entries ≡ true = rw (none.0, none.1) refl in
-        cc,
+          let here : is_unspent due entries ≡ true = rw (none.0, none.1) refl in
+          cc,
     )
 
 pub asks : (f : Frame) (due entries heartbeat : ℕ) → IsReset f heartbeat → ((due ≡ 1) × (entries ≡ 0) → ⊥) → era_asked f due entries ≡ Some heartbeat
