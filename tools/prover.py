@@ -61,7 +61,7 @@ class Answer:
     was_judged   it is not, and all of it was read; where neither holds, `stopped` is the line that says why
     refused      what it refuses for more than that functions which it calls are not proved
     at_goals     of these, what it refuses at a goal, and not only since a proof file names what is gone, or lacks what is new
-    goals        what it says of these, or of a law or a definition that is refused
+    goals        what it says of these, or of a law, a definition or a lemma on definitions that is refused
     first        the first line to show of what it said
     """
 
@@ -77,7 +77,8 @@ class Answer:
         self.refused = [name for name, told in lines if reasons_of(told)]
         self.at_goals = [name for name, told in lines if self.is_at_goal(name, reasons_of(told))]
         statements = [f"{file}: {error}" for file, error in self.errors if file.startswith(("src/", "specs/"))]
-        self.goals = [*self.at_goals, *statements]
+        lemmas = [f"{file}: {error}" for file, error in self.errors if is_false_lemma(file, error)]
+        self.goals = [*self.at_goals, *statements, *lemmas]
         self.first = [*(f"{file}: {error}" for file, error in self.errors), *self.refused, last][0][:200]
 
     def is_at_goal(self, name, reasons):
@@ -100,6 +101,11 @@ def reasons_of(told):
     if reasons[0] == "no proof" and len(reasons) > 1:
         reasons = reasons[1:]
     return [reason for reason in reasons if not reason.startswith("it calls ")]
+
+
+def is_false_lemma(file, error):
+    """Whether antt refuses a lemma of a file of lemmas for what it says, as where a definition that it speaks of is turned."""
+    return bool(re.match(r"proofs/[^/]*\.antt$", file) and re.match("`[^`]*`: ", error)) and not NAME_IS_GONE.search(error)
 
 
 def is_unread(file, error):
