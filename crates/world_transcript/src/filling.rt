@@ -40,7 +40,13 @@ fn send_one(
 /// So many of them; the first answer that is a fault ends it.
 pub fn fill(alloc: Global, world: &mut Played, who: Who, filling: &Filling) -> Answer {
     for sent in 0..filling.count {
-        match send_one(alloc, world, who, filling, filling.first.saturating_add(sent)) {
+        match send_one(
+            alloc,
+            world,
+            who,
+            filling,
+            filling.first.saturating_add(sent),
+        ) {
             Ok(Answer::Nothing) => {}
             Ok(answer) => return answer,
             Err(_) => return Answer::Fault(EventFault::NoMemory),

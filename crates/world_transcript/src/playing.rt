@@ -116,10 +116,7 @@ pub fn play(alloc: Global, world: &mut Played, call: &Call) -> Result<Answer> {
     if !is_refused(&answer) {
         return Ok(answer);
     }
-    ensure!(
-        row_count(world) == before,
-        "a refused call recorded a row"
-    );
+    ensure!(row_count(world) == before, "a refused call recorded a row");
     let again = call_once(alloc, world, call);
     ensure!(!is_refused(&again), "a call was refused twice");
     Ok(again)

@@ -63,8 +63,9 @@ pub fn frame_of(
         return Ok(None);
     }
     let name = NAMES[place];
-    let spelled =
-        format!(in alloc; "{kind}|49={name}|56=SEF|34={number}|52=20250303-14:30:00|{rest}")?;
+    let spelled = format!(in alloc;
+        "{kind}|49={name}|56=SEF|34={number}|52=20250303-14:30:00|{rest}"
+    )?;
     let body = bytes_in(alloc, spelled.as_str())?;
     framed(alloc, &body)
 }

@@ -22,7 +22,11 @@ fn reason(why: Why) -> &'static str {
 
 // The name of the participant at a place.
 fn name_at(place: usize) -> &'static str {
-    if place < NAMES.len() { NAMES[place] } else { "nobody" }
+    if place < NAMES.len() {
+        NAMES[place]
+    } else {
+        "nobody"
+    }
 }
 
 fn name_of(who: Who) -> &'static str {
