@@ -66,7 +66,7 @@ def told_of(edits, groups, is_proved, ask_with):
 
 
 def try_crate(crate, uses, is_quick, is_proved):
-    """Tries the edits of a crate, prints what came of it, and returns how many are refused and how many are not."""
+    """Tries the edits of a crate, prints what came of it, and returns how many are refused, how many are not, and how many of these at no goal."""
     began = time.monotonic()
     edits = edits_of(crate)
     good = [edit for edit in edits if not edit.fault]
@@ -83,7 +83,7 @@ def try_crate(crate, uses, is_quick, is_proved):
     how = f"{len(groups)} group{'s' * (len(groups) != 1)}, {alone} alone, {minutes_since(began)}"
     lines = [f"{edit.label}: {told[edit]}" for edit in edits]
     print("\n".join([*lines, f"== {crate}: {refused} of {len(edits)} refused ({how})"]), flush=True)
-    return refused, len(edits) - refused
+    return refused, len(edits) - refused, sum(told[edit].startswith("NO GOAL") for edit in edits)
 
 
 def minutes_since(began):
