@@ -7,6 +7,7 @@ use Rattle.std.proofs.lemmas.List.{length-map}
 use Rattle.fix_dictionary.specs.declared.messages.App.{App}
 use Rattle.fix_dictionary.specs.declared.messages.Item.{Item}
 use Rattle.fix_session.specs.Reader.{Reader}
+use Rattle.fix_session.specs.Table.{are_numbers_spent}
 use Rattle.participants.specs.ParticipantFile.{ParticipantFile}
 use Rattle.venue_rules.specs.declared.replies.Reply.{Reply}
 use Rattle.venue_rules.specs.Limits.{IsRising, moment_of}
@@ -19,7 +20,7 @@ use Rattle.venue_world.specs.declared.act.Doing.{Doing}
 use Rattle.venue_world.specs.declared.act.Doing.TheVariants.{Pieces, Steps, Ticks, Breaks, Resumes, Hands, Delivers, Collects, Cuts, Writes}
 use Rattle.venue_world.specs.declared.outgoing.Outgoing.{Outgoing}
 use Rattle.venue_world.specs.declared.outgoing.Outgoing.TheVariants as outgoing_is
-use Rattle.venue_world.specs.Side.{Side, collected, delivered, does, fresh_side, handed, is_spent}
+use Rattle.venue_world.specs.Side.{Side, collected, delivered, does, fresh_side, handed}
 use Rattle.venue_world.specs.World.{Stand, added, after_act, after_all, answered, at, emptied, first_behind, fresh_world, ids_of, is_behind, is_due, message_from, most_queued, posted, replies_after, said, seat_at, takes, ticks, unless_behind}
 use Rattle.venue_world.specs.Headline.{AreFrom, QueuesAreFew}
 use Rattle.venue_world.proofs.Behind.{emptied_behind}
@@ -47,7 +48,7 @@ delivered_few s None (x ∷ rest) few less = omega (arith, less)
 
 collected_few : (s : Side) (t : ℕ) (reply : Option Outgoing) → IsFew s → IsFew (collected s t reply)
 collected_few s t None few = few
-collected_few s t (Some (outgoing_is.Message app)) few = if_few (is_spent s.session) s _ few few
+collected_few s t (Some (outgoing_is.Message app)) few = if_few (are_numbers_spent s.session) s _ few few
 collected_few s t (Some outgoing_is.Cut) few = few
 
 does_few : (r : Reader) (x : Doing) (s : Side) → IsFew s → IsFew (does r x s)

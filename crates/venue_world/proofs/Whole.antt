@@ -12,6 +12,7 @@ use Rattle.fix_session.specs.Heard.{Heard}
 use Rattle.fix_session.specs.Reader.{Reader}
 use Rattle.fix_session.specs.Runs as session
 use Rattle.fix_session.specs.Sent.{numbered}
+use Rattle.fix_session.specs.Table.{are_numbers_spent}
 use Rattle.participants.specs.Relations.{name_of}
 use Rattle.participants.specs.ParticipantFile.{ParticipantFile}
 use Rattle.venue_rules.specs.Lawful.{Lawful}
@@ -23,7 +24,7 @@ use Rattle.venue_world.specs.declared.act.Doing.{Doing}
 use Rattle.venue_world.specs.declared.act.Doing.TheVariants.{Pieces, Steps, Ticks, Breaks, Resumes, Hands, Delivers, Collects, Cuts, Writes}
 use Rattle.venue_world.specs.declared.outgoing.Outgoing.{Outgoing}
 use Rattle.venue_world.specs.declared.outgoing.Outgoing.TheVariants.{Message, Cut}
-use Rattle.venue_world.specs.Side.{Side, collected, for_session, delivered, does, handed, is_spent, for_venue, outgoing}
+use Rattle.venue_world.specs.Side.{Side, collected, for_session, delivered, does, handed, for_venue, outgoing}
 use Rattle.venue_world.specs.World.{Stand, answered, at, emptied, first_behind, fresh_world, after_act, ids_of, is_due, after_all, message_from, replies_after, seat_at, takes, ticks, unless_behind}
 use Rattle.venue_world.specs.Headline.{AreFrom, Headline, IsPart, calls_from, heard_of, history_of, is_cut_of, items_of, taken_from, was_cut}
 use Rattle.venue_world.proofs.Lists.{IsAt, here, there, other_place, same_place, side_at, side_posted}
@@ -126,7 +127,7 @@ if_cut false s s' e = e
 
 collected_cut : (s : Side) (t : ℕ) (reply : Option Outgoing) → (collected s t reply).is_cut ≡ s.is_cut
 collected_cut s t None = refl
-collected_cut s t (Some (Message app)) = if_cut (is_spent s.session) s _ refl
+collected_cut s t (Some (Message app)) = if_cut (are_numbers_spent s.session) s _ refl
 collected_cut s t (Some Cut) = refl
 
 now_cut : (b : Bool) (s : Side) → s.is_cut ≡ b → (if b then s else record s { queue = Cut ∷ []; is_cut = true }).is_cut ≡ true
