@@ -17,6 +17,7 @@ use Rattle.participants.specs.Relations.{name_of}
 use Rattle.participants.specs.ParticipantFile.{ParticipantFile}
 use Rattle.venue_rules.specs.Lawful.{Lawful}
 use Rattle.venue_rules.specs.Market.{Market}
+use Rattle.venue_rules.specs.MoreInputs.{OwedGoesOn, TimelyGoesOn}
 use Rattle.venue_rules.specs.Run.{Input, Tick, is_timely, owed}
 use Rattle.venue_world.specs.declared.act.Act.{Act}
 use Rattle.venue_world.specs.declared.act.Act.TheVariants.{Alone, Takes, VenueTicks}
@@ -72,24 +73,24 @@ unless_timely : (w w' : Stand) (fb : Option ℕ) → is_timely w.market w.items 
 unless_timely w w' None e e' = e'
 unless_timely w w' (Some j) e e' = e
 
-takes_timely : (w : Stand) (k t : ℕ) (b : Bool) (seat : Option Item) → is_due w.market w.items t ≡ b → is_timely w.market w.items ≡ true → is_timely (takes w k t b seat).market (takes w k t b seat).items ≡ true
-takes_timely w k t true seat d e = e
-takes_timely w k t false None d e = e
-takes_timely w k t false (Some x) d e =
-    unless_timely w _ (first_behind 0 (replies_after w.market w.items (message_from k x t)) w.sides) e (timely_with w.market w.items (message_from k x t) e d)
+takes_timely : TimelyGoesOn → (w : Stand) (k t : ℕ) (b : Bool) (seat : Option Item) → is_due w.market w.items t ≡ b → is_timely w.market w.items ≡ true → is_timely (takes w k t b seat).market (takes w k t b seat).items ≡ true
+takes_timely goes w k t true seat d e = e
+takes_timely goes w k t false None d e = e
+takes_timely goes w k t false (Some x) d e =
+    unless_timely w _ (first_behind 0 (replies_after w.market w.items (message_from k x t)) w.sides) e (timely_with goes w.market w.items (message_from k x t) e d)
 
-ticks_timely : (w : Stand) (t : ℕ) (b : Bool) → is_due w.market w.items t ≡ b → is_timely w.market w.items ≡ true → is_timely (ticks w t b).market (ticks w t b).items ≡ true
-ticks_timely w t false d e = e
-ticks_timely w t true d e = unless_timely w _ (first_behind 0 (replies_after w.market w.items (Tick t)) w.sides) e (timely_with w.market w.items (Tick t) e d)
+ticks_timely : TimelyGoesOn → (w : Stand) (t : ℕ) (b : Bool) → is_due w.market w.items t ≡ b → is_timely w.market w.items ≡ true → is_timely (ticks w t b).market (ticks w t b).items ≡ true
+ticks_timely goes w t false d e = e
+ticks_timely goes w t true d e = unless_timely w _ (first_behind 0 (replies_after w.market w.items (Tick t)) w.sides) e (timely_with goes w.market w.items (Tick t) e d)
 
-act_timely : (r : Reader) (w : Stand) (a : Act) → is_timely w.market w.items ≡ true → is_timely (after_act r w a).market (after_act r w a).items ≡ true
-act_timely r w (Alone k x) e = e
-act_timely r w (Takes k t) e = takes_timely w k (max w.moment t) (is_due w.market w.items (max w.moment t)) (seat_at k w.sides) refl e
-act_timely r w (VenueTicks t) e = ticks_timely w (max w.moment t) (is_due w.market w.items (max w.moment t)) refl e
+act_timely : TimelyGoesOn → (r : Reader) (w : Stand) (a : Act) → is_timely w.market w.items ≡ true → is_timely (after_act r w a).market (after_act r w a).items ≡ true
+act_timely goes r w (Alone k x) e = e
+act_timely goes r w (Takes k t) e = takes_timely goes w k (max w.moment t) (is_due w.market w.items (max w.moment t)) (seat_at k w.sides) refl e
+act_timely goes r w (VenueTicks t) e = ticks_timely goes w (max w.moment t) (is_due w.market w.items (max w.moment t)) refl e
 
-acts_timely : (r : Reader) (w : Stand) (acts : List Act) → is_timely w.market w.items ≡ true → is_timely (after_all r w acts).market (after_all r w acts).items ≡ true
-acts_timely r w [] e = e
-acts_timely r w (a ∷ acts) e = acts_timely r (after_act r w a) acts (act_timely r w a e)
+acts_timely : TimelyGoesOn → (r : Reader) (w : Stand) (acts : List Act) → is_timely w.market w.items ≡ true → is_timely (after_all r w acts).market (after_all r w acts).items ≡ true
+acts_timely goes r w [] e = e
+acts_timely goes r w (a ∷ acts) e = acts_timely goes r (after_act r w a) acts (act_timely goes r w a e)
 
 -- Who is cut.
 
@@ -272,17 +273,17 @@ abbrev pub AllLawful : Type 0
 AllLawful = (m : Market) (is : List Input) → Lawful m is
 
 -- a participant's side after these acts
-side_stands : (r : Reader) (m : Market) (acts : List Act) (i : ℕ) (s : Side) → IsSide r m acts i s
+side_stands : OwedGoesOn → (r : Reader) (m : Market) (acts : List Act) (i : ℕ) (s : Side) → IsSide r m acts i s
     → KeptSide (taken_from i (items_of r m acts)) (owed m i (items_of r m acts)) (session.replies r (session.begin (ids_of m.participants (name_of m.participants i))) (calls_from r i (fresh_world m) acts)) s (history_of r m i acts)
-side_stands r m acts i s e =
+side_stands goes r m acts i s e =
     let begins = session.begin (ids_of m.participants (name_of m.participants i)) in
     subst (λ (n : Market). KeptSide (taken_from i (items_of r m acts)) (owed n i (items_of r m acts)) (session.replies r begins (calls_from r i (fresh_world m) acts)) s (history_of r m i acts))
     (acts_market r (fresh_world m) acts)
-    (acts_kept r (fresh_world m) acts i [] begins (fresh_kept m i) s e)
+    (acts_kept goes r (fresh_world m) acts i [] begins (fresh_kept m i) s e)
 
-waits : (r : Reader) (m : Market) (acts : List Act) (i : ℕ) (s : Side) → TakenThenReady → IsSide r m acts i s → taken_from i (items_of r m acts) ++ for_venue s ≡ accepted (heard_of r m i acts)
-waits r m acts i s law e =
-    let k = side_stands r m acts i s e in
+waits : OwedGoesOn → (r : Reader) (m : Market) (acts : List Act) (i : ℕ) (s : Side) → TakenThenReady → IsSide r m acts i s → taken_from i (items_of r m acts) ++ for_venue s ≡ accepted (heard_of r m i acts)
+waits goes r m acts i s law e =
+    let k = side_stands goes r m acts i s e in
     sym (append_assoc (taken_from i (items_of r m acts)) (option_to_list s.seat) s.session.ready)
     ∙ (λ j. sym k.taken j ++ (sym k.session j).ready)
     ∙ law r (ids_of m.participants (name_of m.participants i)) (calls_from r i (fresh_world m) acts)
@@ -293,40 +294,40 @@ uncut_or_cut r m acts j s e =
     let u = fresh_side_at m.participants m.participants.names j c.before c.stood in
     c.cut ∙ ap (λ (z : Side). z.is_cut || was_cut j acts) u.2
 
-is_owed : (r : Reader) (m : Market) (acts : List Act) (j : ℕ) (s : Side) → RepliesInOrder → IsSide r m acts j s → IsOwed (owed m j (items_of r m acts)) (numbered s.session) (for_session s) (was_cut j acts)
-is_owed r m acts j s law e =
-    let k = side_stands r m acts j s e in
+is_owed : OwedGoesOn → (r : Reader) (m : Market) (acts : List Act) (j : ℕ) (s : Side) → RepliesInOrder → IsSide r m acts j s → IsOwed (owed m j (items_of r m acts)) (numbered s.session) (for_session s) (was_cut j acts)
+is_owed goes r m acts j s law e =
+    let k = side_stands goes r m acts j s e in
     let all = sym (law r (ids_of m.participants (name_of m.participants j)) (calls_from r j (fresh_world m) acts)) ∙ ap numbered k.session in
     subst (λ (b : Bool). IsOwed (owed m j (items_of r m acts)) (numbered s.session) (for_session s) b) (uncut_or_cut r m acts j s e)
     (subst (λ (l : List App). IsOwed (owed m j (items_of r m acts)) l (for_session s) s.is_cut) all k.owed)
 
-in_time : (r : Reader) (m : Market) (acts : List Act) → is_timely m (items_of r m acts) ≡ true
-in_time r m acts = subst (λ (n : Market). is_timely n (items_of r m acts) ≡ true) (acts_market r (fresh_world m) acts) (acts_timely r (fresh_world m) acts refl)
+in_time : TimelyGoesOn → (r : Reader) (m : Market) (acts : List Act) → is_timely m (items_of r m acts) ≡ true
+in_time goes r m acts = subst (λ (n : Market). is_timely n (items_of r m acts) ≡ true) (acts_market r (fresh_world m) acts) (acts_timely goes r (fresh_world m) acts refl)
 
-all_owed : (r : Reader) (m : Market) (acts : List Act) (j : ℕ) (s : Side) → RepliesInOrder → IsSide r m acts j s → was_cut j acts ≡ false → outgoing (numbered s.session) ++ for_session s ≡ outgoing (owed m j (items_of r m acts))
-all_owed r m acts j s law e uncut = subst (λ (b : Bool). IsOwed (owed m j (items_of r m acts)) (numbered s.session) (for_session s) b) uncut (is_owed r m acts j s law e)
+all_owed : OwedGoesOn → (r : Reader) (m : Market) (acts : List Act) (j : ℕ) (s : Side) → RepliesInOrder → IsSide r m acts j s → was_cut j acts ≡ false → outgoing (numbered s.session) ++ for_session s ≡ outgoing (owed m j (items_of r m acts))
+all_owed goes r m acts j s law e uncut = subst (λ (b : Bool). IsOwed (owed m j (items_of r m acts)) (numbered s.session) (for_session s) b) uncut (is_owed goes r m acts j s law e)
 
-part_owed : (r : Reader) (m : Market) (acts : List Act) (j : ℕ) (s : Side) → RepliesInOrder → IsSide r m acts j s → was_cut j acts ≡ true → IsPart (outgoing (numbered s.session) ++ for_session s) (owed m j (items_of r m acts))
-part_owed r m acts j s law e cut = subst (λ (b : Bool). IsOwed (owed m j (items_of r m acts)) (numbered s.session) (for_session s) b) cut (is_owed r m acts j s law e)
+part_owed : OwedGoesOn → (r : Reader) (m : Market) (acts : List Act) (j : ℕ) (s : Side) → RepliesInOrder → IsSide r m acts j s → was_cut j acts ≡ true → IsPart (outgoing (numbered s.session) ++ for_session s) (owed m j (items_of r m acts))
+part_owed goes r m acts j s law e cut = subst (λ (b : Bool). IsOwed (owed m j (items_of r m acts)) (numbered s.session) (for_session s) b) cut (is_owed goes r m acts j s law e)
 
 -- what holds where the acts lead
 abbrev pub HeadlineThere : Reader → Market → List Act → Type 0
 HeadlineThere r m acts = Headline (after_all r (fresh_world m) acts).sides (after_all r (fresh_world m) acts).moment r m acts
 
-pub headline : TakenThenReady → NumbersRise → RepliesInOrder → FirstFrames → FramesSince → AllLawful → (r : Reader) (m : Market) (acts : List Act) → HeadlineThere r m acts
-headline taken_law rises replies_law frames since lawful r m acts =
+pub headline : TakenThenReady → NumbersRise → RepliesInOrder → FirstFrames → FramesSince → AllLawful → OwedGoesOn → TimelyGoesOn → (r : Reader) (m : Market) (acts : List Act) → HeadlineThere r m acts
+headline taken_law rises replies_law frames since lawful goes more_timely r m acts =
     let bounds = acts_bounded r (fresh_world m) acts (fresh_bounded m) in
     let same = acts_market r (fresh_world m) acts in
     record {
-      taken_then_waiting = λ i s e. waits r m acts i s taken_law e;
-      its_session = λ i s e. (side_stands r m acts i s e).session;
+      taken_then_waiting = λ i s e. waits goes r m acts i s taken_law e;
+      its_session = λ i s e. (side_stands goes r m acts i s e).session;
       heard_bodies = λ i. since r (ids_of m.participants (name_of m.participants i)) (calls_from r i (fresh_world m) acts);
       first_frames = λ i. frames r (ids_of m.participants (name_of m.participants i)) (calls_from r i (fresh_world m) acts);
       each_once = λ i. rises (heard_of r m i acts);
-      owed_all = λ j s e uncut. all_owed r m acts j s replies_law e uncut;
-      owed_part = λ j s e cut. part_owed r m acts j s replies_law e cut;
+      owed_all = λ j s e uncut. all_owed goes r m acts j s replies_law e uncut;
+      owed_part = λ j s e cut. part_owed goes r m acts j s replies_law e cut;
       few_queued = bounds.few;
-      timely = in_time r m acts;
+      timely = in_time more_timely r m acts;
       moments_rise = bounds.moments;
       from_participants = subst (λ (n : Market). AreFrom (length n.participants.names) (items_of r m acts)) same bounds.senders;
       lawful = lawful m (items_of r m acts);
