@@ -40,7 +40,7 @@ use Rattle.venue_rules.specs.declared.trail.EventFault.{EventFault}
 use Rattle.venue_world.proofs.Shows.{stands_after}
 
 -- the side of a participant after these acts
-abbrev IsSide : Reader → Market → List Act → ℕ → Side → Type 0
+abbrev pub IsSide : Reader → Market → List Act → ℕ → Side → Type 0
 IsSide r m acts i s = slice_get (after_all r (fresh_world m) acts).sides i ≡ Some s
 
 -- The market stays.
@@ -273,7 +273,7 @@ abbrev pub AllLawful : Type 0
 AllLawful = (m : Market) (is : List Input) → Lawful m is
 
 -- a participant's side after these acts
-side_stands : OwedGoesOn → (r : Reader) (m : Market) (acts : List Act) (i : ℕ) (s : Side) → IsSide r m acts i s
+pub side_stands : OwedGoesOn → (r : Reader) (m : Market) (acts : List Act) (i : ℕ) (s : Side) → IsSide r m acts i s
     → KeptSide (taken_from i (items_of r m acts)) (owed m i (items_of r m acts)) (session.replies r (session.begin (ids_of m.participants (name_of m.participants i))) (calls_from r i (fresh_world m) acts)) s (history_of r m i acts)
 side_stands goes r m acts i s e =
     let begins = session.begin (ids_of m.participants (name_of m.participants i)) in
