@@ -2,6 +2,7 @@
 
 use crate::asking::{ask_instruments, ask_participants};
 use crate::files::Files;
+use crate::refusals::Refusals;
 use crate::telling::{tell_count, tell_fault};
 use anyhow::{Result, ensure};
 use instruments::{FileFault as InstrumentFault, Instruments};
@@ -154,7 +155,13 @@ fn play_once(
 
 // Plays a line, once more where a growth was refused. A refused call changes nothing but the text that it was to write,
 // which is put back.
-fn play_line(alloc: Global, files: &mut Files, line: &str, told: &mut Vec<u8>) -> Result<()> {
+fn play_line(
+    alloc: Global,
+    files: &mut Files,
+    line: &str,
+    told: &mut Vec<u8>,
+    refusals: &mut Refusals,
+) -> Result<()> {
     if line.starts_with("  ") {
         return Ok(());
     }
@@ -162,6 +169,7 @@ fn play_line(alloc: Global, files: &mut Files, line: &str, told: &mut Vec<u8>) -
     let known = match play_once(alloc, files, line, told) {
         Ok(known) => known,
         Err(AllocError) => {
+            refusals.one_more()?;
             told.truncate(answers);
             files.text.truncate(text);
             play_once(alloc, files, line, told)?
@@ -172,11 +180,11 @@ fn play_line(alloc: Global, files: &mut Files, line: &str, told: &mut Vec<u8>) -
 }
 
 /// The transcript with what is answered.
-pub fn told_anew(alloc: Global, transcript: &str) -> Result<Vec<u8>> {
+pub fn told_anew(alloc: Global, transcript: &str, refusals: &mut Refusals) -> Result<Vec<u8>> {
     let mut files = Files::new(alloc);
     let mut told = Vec::new(alloc);
     for line in transcript.lines() {
-        play_line(alloc, &mut files, line, &mut told)?;
+        play_line(alloc, &mut files, line, &mut told, refusals)?;
     }
     Ok(told)
 }
