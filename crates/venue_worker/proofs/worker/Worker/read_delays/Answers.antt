@@ -1,4 +1,4 @@
-use Rattle.std.proofs.Common.{◌≡◌, Bool, true, List, sym, ap, ◌∙◌, subst}
+use Rattle.std.proofs.Common.{◌≡◌, true, List, subst}
 use Rattle.instruments.specs.declared.instruments.Instrument.{Instrument}
 use Rattle.instruments.specs.Rows.{is_instrument_file}
 use Rattle.venue_worker.specs.Work.{Work}
