@@ -1,0 +1,16 @@
+//! The orders of an instrument and a side, as the book keeps them.
+ghost use Rattle.std.specs.Prelude.{◌<◌};
+ghost use Rattle.std.specs.Vec.{vec_capacity};
+ghost use Rattle.venue_rules.specs.Book.{side_room};
+
+use crate::slot::Slot;
+use fix_dictionary::Side;
+
+/// The orders that rest in an instrument and on a side, the best first, with room for as many as may rest and one that enters.
+#[derive(Drop)]
+pub(crate) struct Ladder {
+    pub(crate) instrument: u32,
+    pub(crate) side: Side,
+    pub(crate) orders: Vec<Slot>,
+    ghost room: { side_room < vec_capacity orders },
+}
