@@ -1,0 +1,58 @@
+-- What stands once both boards are closed.
+use Rattle.std.proofs.Common.{◌≡◌, ℕ, List, [], ◌∷◌, ◌++◌, map, Bool, true, false, refl, ap, sym, ◌∙◌, append_assoc, append-nil}
+use Rattle.std.specs.Prelude.{Option, Some, slice_get}
+use Rattle.std.specs.Option.{option_map}
+use Rattle.std.proofs.lemmas.Option.{slice_get-map}
+use Rattle.fix_session.specs.Sent.{numbered}
+use Rattle.std.specs.Option.{option_to_list}
+use Rattle.fix_dictionary.specs.declared.messages.App.{App}
+use Rattle.fix_dictionary.specs.declared.messages.Item.{Item}
+use Rattle.fix_session.specs.Reader.{Reader}
+use Rattle.gateway.specs.declared.outgoing.Outgoing.{Outgoing}
+use Rattle.gateway.specs.declared.outgoing.Outgoing.TheVariants.{Cut}
+use Rattle.gateway.specs.Calls.{unmarked}
+use Rattle.gateway.specs.Closing.{GaveOut, Reached, IsTakenWhole, replies_of}
+use Rattle.gateway.specs.Thread.{Thread}
+use Rattle.gateway.specs.Whole.{HasLedThere, IsNew}
+use Rattle.gateway.proofs.Ties.{unmarked-append}
+
+unmarked-replies : (apps : List App) → unmarked (replies_of apps) ≡ apps
+unmarked-replies [] = refl
+unmarked-replies (x ∷ apps) = ap (λ (xs : List App). x ∷ xs) (unmarked-replies apps)
+
+-- what was given is what was taken and then what is left, so what was numbered and what is left make up what was given
+whole : (numbered : List App) (given taken left waiting : List Outgoing) → numbered ≡ unmarked taken → given ≡ taken ++ left → numbered ++ unmarked (left ++ waiting) ≡ unmarked (given ++ waiting)
+whole numbered given taken left waiting is split =
+    ap (λ (xs : List App). xs ++ unmarked (left ++ waiting)) is
+    ∙ sym (unmarked-append taken (left ++ waiting))
+    ∙ ap (λ (xs : List Outgoing). unmarked xs) (sym (append_assoc taken left waiting))
+    ∙ ap (λ (xs : List Outgoing). unmarked (xs ++ waiting)) (sym split)
+
+pub reached : (owed numbered : List App) (given taken left waiting : List Outgoing) (cut : Bool) → numbered ≡ unmarked taken → given ≡ taken ++ left → GaveOut owed given waiting cut → Reached owed numbered left waiting cut
+reached owed numbered given taken left waiting false is split out =
+    whole numbered given taken left waiting is split ∙ ap (λ (xs : List Outgoing). unmarked xs) out ∙ unmarked-replies owed
+reached owed numbered given taken left waiting true is split out =
+    let first : List App = out.0 in
+    let rest : List App = out.1 in
+    let made : numbered ++ unmarked (left ++ waiting) ≡ first =
+    whole numbered given taken left waiting is split ∙ ap (λ (xs : List Outgoing). unmarked xs) out.3
+    ∙ unmarked-append (replies_of first) (Cut ∷ []) ∙ append-nil (unmarked (replies_of first)) ∙ unmarked-replies first in
+    (rest, ap (λ (xs : List App). xs ++ rest) made ∙ out.2)
+
+pub taken_whole : (turns : ℕ) (start end : Thread) (taken : List Item) (left : Option Item) → HasLedThere turns start end → IsNew start → end.hand.given ≡ taken ++ option_to_list left → IsTakenWhole turns start end taken left
+taken_whole turns start end taken left led new split =
+    record {
+      led = led;
+      accepted = λ (r : Reader).
+          sym (append_assoc taken (option_to_list left) end.session.ready)
+          ∙ ap (λ (xs : List Item). xs ++ end.session.ready) (sym split)
+          ∙ (led.led.spells r new).accepted;
+    }
+
+pub reached_there : (r : Reader) (turns : ℕ) (start end : Thread) (owed : List App) (given waiting : List Outgoing) (left : Option Outgoing) (cut : Bool) → HasLedThere turns start end → IsNew start →
+    given ≡ end.take.taken ++ option_to_list left → GaveOut owed given waiting cut → Reached owed (numbered end.session) (option_to_list left) waiting cut
+reached_there r turns start end owed given waiting left cut led new split out =
+    reached owed (numbered end.session) given end.take.taken (option_to_list left) waiting cut (led.led.spells r new).numbered split out
+
+pub slice_map : {A B : Type 0} (f : A → B) (xs : List A) (k : ℕ) (x : A) → slice_get xs k ≡ Some x → slice_get (map f xs) k ≡ Some (f x)
+slice_map {A} {B} f xs k x is = slice_get-map f xs k ∙ ap (λ (y : Option A). option_map f y) is

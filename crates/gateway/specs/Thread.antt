@@ -1,0 +1,378 @@
+-- A session's thread as a machine over its events, and the events of one turn.
+use Rattle.std.specs.Prelude.{ℕ, ◌+◌, ◌%◌, zero, suc, ◌≡◌, ◌≢◌, List, [], ◌∷◌, ◌++◌, length, max, Bool, true, false, if◌then◌else◌, Option, Some, None, MatchOption, not, is_some, ◌&&◌, ◌≤◌, take}
+use Rattle.fix_dictionary.specs.declared.messages.Item.{Item}
+use Rattle.fix_session.specs.Reader.{Reader}
+use Rattle.fix_session.specs.State.{State, Seen, resumed, broken}
+use Rattle.fix_session.specs.Table.{are_numbers_spent}
+use Rattle.fix_session.specs.Machine as session
+use Rattle.intake_seats.specs.Ends.{IsSameHander, IsSameTaker}
+use Rattle.intake_seats.specs.Given.{HandEnd, TakeEnd}
+use Rattle.gateway.specs.declared.line.Accept.{Accept}
+use Rattle.gateway.specs.declared.line.Accept.TheVariants as accept
+use Rattle.gateway.specs.declared.piece.Given.{Given}
+use Rattle.gateway.specs.declared.piece.Given.TheVariants as gave
+use Rattle.gateway.specs.declared.outgoing.Outgoing.{Outgoing}
+use Rattle.gateway.specs.declared.outgoing.Outgoing.TheVariants.{Message, Cut}
+use Rattle.gateway.specs.declared.turn.Collect.{Collect}
+use Rattle.gateway.specs.declared.turn.Collect.TheVariants as collect
+use Rattle.gateway.specs.declared.turn.Wrote.{Wrote}
+use Rattle.gateway.specs.declared.turn.Wrote.TheVariants as wrote
+use Rattle.gateway.specs.declared.turn.Repeat.{Repeat}
+use Rattle.gateway.specs.declared.turn.Repeat.TheVariants as repeat
+use Rattle.gateway.specs.declared.turn.Reading.{Reading}
+use Rattle.gateway.specs.declared.turn.Reading.TheVariants as reading
+use Rattle.gateway.specs.declared.stepping.StepsEnd.TheVariants as ends
+use Rattle.gateway.specs.Steps.{Settled}
+use Rattle.gateway.specs.declared.turn.Stepped.{Stepped}
+use Rattle.gateway.specs.declared.turn.Beat.{Beat}
+use Rattle.gateway.specs.declared.turn.Work.{Work}
+use Rattle.gateway.specs.declared.turn.Turn.{Turn}
+use Rattle.gateway.specs.declared.turn.Handed.{Handed}
+use Rattle.gateway.specs.declared.turn.Handed.TheVariants as handed
+use Rattle.gateway.specs.declared.turn.Ticked.{Ticked}
+use Rattle.gateway.specs.declared.turn.Ticked.TheVariants as ticked
+use Rattle.gateway.specs.Said.{Said, Accepted, Gave, Took, Broke_off}
+
+-- what contracts see of a thread
+pub record Thread : Type 0 where
+  pub session : State
+  pub kept : Option (List ℕ)  -- a piece that was refused for memory
+  pub hand : HandEnd Item
+  pub take : TakeEnd Outgoing
+  pub said : List Said  -- what the line answered and took
+
+-- so many bytes at the front of a buffer are kept, or none
+abbrev pub kept_in : Option ℕ → List ℕ → Option (List ℕ)
+kept_in None buffer = None
+kept_in (Some count) buffer = Some (take count buffer)
+
+-- a thread that keeps no piece
+abbrev pub at_start : Seen → HandEnd Item → TakeEnd Outgoing → List Said → Thread
+at_start session hand take said = record { session = session.state; kept = None; hand = hand; take = take; said = said }
+
+-- the same without the looks at the seats
+pub record Standing : Type 0 where
+  pub session : State
+  pub kept : Option (List ℕ)
+  pub given : List Item  -- handed to the venue
+  pub collected : List Outgoing  -- taken from the reply seat
+  pub said : List Said
+
+abbrev pub standing : Thread → Standing
+standing a =
+    record { session = a.session; kept = a.kept; given = a.hand.given; collected = a.take.taken; said = a.said }
+
+-- The events of a session's thread
+pub data Event : Type 0 where
+  -- the line was asked for a connection; one that is up is a Resume, a fault a Break
+  Accepts : (answer : Accept) → (t : ℕ) → Event
+  -- a reply is sent, or the mark drops the line, and the seat is empty
+  Collects : (owed : Outgoing) → (t : ℕ) → Event
+  -- the line takes what is queued
+  Writes : Event
+  -- the line breaks off in what is queued
+  Breaks_off : Event
+  -- the line was read; its end or a fault is a Break
+  Reads : (given : Given) → Event
+  -- the line was read, and the piece is kept, since it was refused for memory
+  Keeps : (piece : List ℕ) → Event
+  -- the piece that was kept
+  Repeats : (piece : List ℕ) → Event
+  Steps : (t : ℕ) → Event
+  -- the first ready message is given
+  Hands : Event
+  Ticks : (t : ℕ) → Event
+
+-- the line breaks
+abbrev pub breaks : Standing → Standing
+breaks s = record s { session = broken s.session; kept = None }
+
+abbrev pub accepts : Standing → Accept → ℕ → Standing
+accepts s accept.Up t = record s { session = resumed s.session (max s.session.line.moment t); kept = None }
+accepts s accept.Quiet t = s
+accepts s accept.Over t = s
+accepts s accept.Fault t = breaks s
+
+abbrev pub reads : Reader → Standing → Given → Standing
+reads r s (gave.Got piece) = record s { session = session.pushed r s.session piece }
+reads r s gave.Quiet = s
+reads r s gave.Ended = breaks s
+reads r s gave.Fault = breaks s
+
+abbrev pub collects : Standing → Outgoing → ℕ → Standing
+collects s (Message app) t =
+    if are_numbers_spent s.session
+    then s
+    else record s { session = session.sent s.session app (max s.session.line.moment t); collected = s.collected ++ Message app ∷ [] }
+collects s Cut t = record (breaks s) { collected = s.collected ++ Cut ∷ [] }
+
+abbrev pub hands : Standing → List Item → Standing
+hands s [] = s
+hands s (x ∷ rest) = record s { session = record s.session { ready = rest }; given = s.given ++ x ∷ [] }
+
+abbrev pub unqueued : State → State
+unqueued s = record s { wire = [] }
+
+abbrev pub moves : Reader → Standing → Event → Standing
+moves r s (Accepts answer t) = record (accepts s answer t) { said = s.said ++ Accepted answer ∷ [] }
+moves r s (Collects owed t) = collects s owed t
+moves r s Writes = record s { session = unqueued s.session; said = s.said ++ Took s.session.wire ∷ [] }
+moves r s Breaks_off = record (breaks s) { said = s.said ++ Broke_off s.session.wire ∷ [] }
+moves r s (Reads given) = record (reads r s given) { said = s.said ++ Gave given ∷ [] }
+moves r s (Keeps piece) = record s { kept = Some piece; said = s.said ++ Gave (gave.Got piece) ∷ [] }
+moves r s (Repeats piece) = record s { session = session.pushed r s.session piece; kept = None }
+moves r s (Steps t) = record s { session = (session.step r s.session t).0 }
+moves r s Hands = hands s s.session.ready
+moves r s (Ticks t) = record s { session = (session.tick s.session t).0 }
+
+abbrev pub runs : Reader → List Event → Standing → Standing
+runs r [] s = s
+runs r (e ∷ events) s = runs r events (moves r s e)
+
+-- The events of each phase of a turn
+
+abbrev pub accept_events : ℕ → Option Accept → List Event
+accept_events t None = []
+accept_events t (Some answer) = Accepts answer t ∷ []
+
+abbrev pub collect_events : ℕ → Collect → List Event
+collect_events t collect.Nothing = []
+collect_events t (collect.Collected owed) = Collects owed t ∷ []
+collect_events t collect.Refused = []
+
+abbrev pub write_events : Wrote → List Event
+write_events wrote.Nothing = []
+write_events wrote.All = Writes ∷ []
+write_events wrote.Fault = Breaks_off ∷ []
+
+abbrev pub repeat_events : Repeat → List Event
+repeat_events repeat.Nothing = []
+repeat_events (repeat.Pushed piece) = Repeats piece ∷ []
+repeat_events repeat.Refused = []
+
+abbrev pub read_events : Reading → List Event
+read_events reading.Plenty = []
+read_events (reading.Answered given) = Reads given ∷ []
+read_events (reading.Kept piece) = Keeps piece ∷ []
+
+abbrev pub hand_events : Handed → List Event
+hand_events handed.Given = Hands ∷ []
+hand_events handed.Nothing = []
+hand_events handed.Refused = []
+
+abbrev pub tick_events : ℕ → Ticked → List Event
+tick_events t ticked.Refused = []
+tick_events t ticked.Done = Ticks t ∷ []
+tick_events t ticked.Dropped = Ticks t ∷ []
+
+-- so many steps
+abbrev pub steps_at : ℕ → ℕ → List Event
+steps_at zero t = []
+steps_at (suc n) t = Steps t ∷ steps_at n t
+
+abbrev pub step_events : ℕ → ℕ → Stepped → List Event
+step_events steps t stepped = steps_at steps t ++ write_events stepped.wrote
+
+abbrev pub beat_events : ℕ → Beat → List Event
+beat_events t beat = tick_events t beat.ticked ++ write_events beat.wrote
+
+-- What else the phases tell
+
+-- the last look at the reply seat found it full, exactly where something was collected or refused
+abbrev pub Found : Collect → ℕ → Type 0
+Found collect.Nothing last = ¬ (last % 4 ≡ 2)
+Found found last = last % 4 ≡ 2
+
+-- what was pushed again is what was kept
+abbrev pub WasKept : Repeat → Option (List ℕ) → Type 0
+WasKept repeat.Nothing kept = kept ≡ None
+WasKept (repeat.Pushed piece) kept = kept ≡ Some piece
+WasKept repeat.Refused kept = kept ≢ None
+
+-- nothing is kept from then on, unless it was refused again
+abbrev pub IsFree : Repeat → Option (List ℕ) → Type 0
+IsFree repeat.Refused kept = Unit {0}
+IsFree pushed kept = kept ≡ None
+
+-- a message that is ready is a look at the intake seat
+abbrev pub looks_of : Handed → ℕ
+looks_of handed.Nothing = 0
+looks_of handed = 1
+
+-- A turn
+
+abbrev pub reading_events : Option Reading → List Event
+reading_events None = []
+reading_events (Some reading) = read_events reading
+
+-- neither had a write failed nor was a kept piece refused again
+abbrev pub is_unhindered : Wrote → Repeat → Bool
+is_unhindered wrote.Fault repeat = false
+is_unhindered wrote repeat.Refused = false
+is_unhindered wrote repeat = true
+
+-- the events of a turn from its first write up to the reading
+abbrev pub before_read : Work → List Event
+before_read work = write_events work.wrote ++ repeat_events work.repeat
+
+-- the same up to the end of the steps
+abbrev pub before_hand : ℕ → ℕ → Work → List Event
+before_hand steps t work = before_read work ++ (reading_events work.reading ++ step_events steps t work.stepped)
+
+abbrev pub work_events : ℕ → ℕ → Work → List Event
+work_events steps t work = before_hand steps t work ++ (hand_events work.handed ++ beat_events t work.beat)
+
+-- what a turn did from its first write on
+pub record Works (r : Reader) (t : ℕ) (may_read : Bool) (steps : ℕ) (work : Work) (before after : Thread) : Type 0 where
+  -- the thread moved by these events alone
+  pub moved : standing after ≡ runs r (work_events steps t work) (standing before)
+  -- the line was read where it was to be, unless a write had failed or a kept piece was refused again
+  pub asked : is_some work.reading ≡ (may_read && is_unhindered work.wrote work.repeat)
+  -- a piece that was kept was pushed again or refused again, and no other was
+  pub kept : WasKept work.repeat (runs r (write_events work.wrote) (standing before)).kept
+  -- it was spared only where so many messages were ready
+  pub plenty : work.reading ≡ Some reading.Plenty → 1024 ≤ length (runs r (before_read work) (standing before)).session.ready
+  -- all that was queued before the reading was offered to the line
+  pub out : (runs r (before_read work) (standing before)).session.wire ≡ []
+  -- the steps ended where no frame was unread or the line was down, or memory was refused
+  pub settled : Settled r work.stepped.end (runs r (before_read work ++ (reading_events work.reading ++ steps_at steps t)) (standing before)).session
+  -- no message was tried only where none was ready
+  pub idle : work.handed ≡ handed.Nothing → (runs r (before_hand steps t work) (standing before)).session.ready ≡ []
+  -- after a drop all that was queued was offered at once
+  pub stepped_out : work.stepped.end ≡ ends.Dropped → (runs r (before_hand steps t work) (standing before)).session.wire ≡ []
+  pub ticked_out : work.beat.ticked ≡ ticked.Dropped → after.session.wire ≡ []
+
+abbrev pub collected_events : ℕ → Option Collect → List Event
+collected_events t None = []
+collected_events t (Some collected) = collect_events t collected
+
+abbrev pub worked_events : ℕ → ℕ → Option Work → List Event
+worked_events steps t None = []
+worked_events steps t (Some work) = work_events steps t work
+
+-- the events of a turn up to its first write
+abbrev pub before_work : Turn → List Event
+before_work turn = accept_events turn.moment turn.accepted ++ collected_events turn.moment turn.collected
+
+-- a turn, and how many steps it made
+pub record Mark : Type 0 where
+  pub turn : Turn
+  pub steps : ℕ
+
+abbrev pub turn_events : Mark → List Event
+turn_events mark = before_work mark.turn ++ worked_events mark.steps mark.turn.moment mark.turn.work
+
+-- there will be no more connections
+abbrev pub is_over : Option Accept → Bool
+is_over (Some accept.Over) = true
+is_over answer = false
+
+-- the mark was collected
+abbrev pub is_mark : Collect → Bool
+is_mark (collect.Collected Cut) = true
+is_mark collected = false
+
+-- a turn leaves its work out where the mark was collected, and nowhere else
+abbrev pub LeavesWork : Bool → Option Work → Type 0
+LeavesWork true None = Unit {0}
+LeavesWork false (Some work) = Unit {0}
+LeavesWork mark work = ⊥
+
+-- what a turn leaves out: all where the line is over, the work where the mark was collected, and else nothing
+abbrev pub EndsBy : Bool → Option Collect → Option Work → Type 0
+EndsBy true None None = Unit {0}
+EndsBy false (Some collected) work = LeavesWork (is_mark collected) work
+EndsBy over collected work = ⊥
+
+-- the last look at the reply seat, where there was one
+abbrev pub LookedAt : Option Collect → ℕ → Type 0
+LookedAt None last = Unit {0}
+LookedAt (Some collected) last = Found collected last
+
+abbrev pub one_if : Bool → ℕ
+one_if true = 1
+one_if false = 0
+
+abbrev pub tries : Option Work → ℕ
+tries None = 0
+tries (Some work) = looks_of work.handed
+
+-- what the work of a turn did, if there was any
+abbrev pub WorksIf : Reader → Mark → Thread → Thread → Option Work → Type 0
+WorksIf r mark middle after None = after ≡ middle
+WorksIf r mark middle after (Some work) =
+    Works r mark.turn.moment (mark.turn.passed && not (is_some mark.turn.accepted)) mark.steps work middle after
+
+-- what one turn did
+pub record IsTurn (r : Reader) (mark : Mark) (before after : Thread) : Type 0 where
+  pub ends_by : EndsBy (is_over mark.turn.accepted) mark.turn.collected mark.turn.work
+  -- the line was asked for a connection where there was none, and nowhere else
+  pub asked : is_some mark.turn.accepted ≡ not before.session.line.up
+  -- up to the first write, the thread moved by the turn's events alone
+  pub middle : Thread
+  pub moved : standing middle ≡ runs r (before_work mark.turn) (standing before)
+  -- and so it did from there on
+  pub worked : WorksIf r mark middle after mark.turn.work
+  -- the ends of the seats are the same; a look at the reply seat was made, and one at the intake seat where a message was ready
+  pub take : IsSameTaker before.take after.take
+  pub hand : IsSameHander before.hand after.hand
+  pub take_looked : before.take.looks + one_if (is_some mark.turn.collected) ≤ after.take.looks
+  pub hand_looked : before.hand.looks + tries mark.turn.work ≤ after.hand.looks
+  pub found : LookedAt mark.turn.collected after.take.last
+  pub unlooked : mark.turn.collected ≡ None → after.take ≡ before.take
+
+-- Turns one after another
+
+-- what the last look at the reply seat in these turns led to, or else this
+abbrev pub or_else : Option Collect → Option Collect → Option Collect
+or_else None found = found
+or_else (Some collected) found = Some collected
+
+abbrev pub last_look : Option Collect → List Mark → Option Collect
+last_look found [] = found
+last_look found (mark ∷ marks) = last_look (or_else mark.turn.collected found) marks
+
+abbrev pub Follow : Reader → List Mark → Thread → Thread → Type 0
+Follow r [] before after = after ≡ before
+Follow r (mark ∷ marks) before after = (middle : Thread) × IsTurn r mark before middle × Follow r marks middle after
+
+abbrev pub events_of : List Mark → List Event
+events_of [] = []
+events_of (mark ∷ marks) = turn_events mark ++ events_of marks
+
+-- so many turns, fewer only after one that leaves out its work
+abbrev pub IsCount : ℕ → List Mark → Type 0
+IsCount zero [] = Unit {0}
+IsCount zero (mark ∷ marks) = ⊥
+IsCount (suc n) [] = ⊥
+IsCount (suc n) (mark ∷ marks) = MatchOption mark.turn.work (marks ≡ []) (λ _. IsCount n marks)
+
+-- what the gate and the clock answered
+abbrev pub gates : List Mark → List Bool
+gates [] = []
+gates (mark ∷ marks) = mark.turn.passed ∷ gates marks
+
+abbrev pub moments : List Mark → List ℕ
+moments [] = []
+moments (mark ∷ marks) = mark.turn.moment ∷ moments marks
+
+-- the looks at the reply seat, and those at the intake seat, that turns make at least
+abbrev pub looked : List Mark → ℕ
+looked [] = 0
+looked (mark ∷ marks) = one_if (is_some mark.turn.collected) + looked marks
+
+abbrev pub tried : List Mark → ℕ
+tried [] = 0
+tried (mark ∷ marks) = tries mark.turn.work + tried marks
+
+-- the whole of a session's thread: so many turns lead from what stood before to what stands after
+pub record Loops (r : Reader) (turns : ℕ) (marks : List Mark) (before after : Thread) : Type 0 where
+  pub follow : Follow r marks before after
+  pub count : IsCount turns marks
+  pub moved : standing after ≡ runs r (events_of marks) (standing before)
+  pub take : IsSameTaker before.take after.take
+  pub hand : IsSameHander before.hand after.hand
+  pub take_looked : before.take.looks + looked marks ≤ after.take.looks
+  pub hand_looked : before.hand.looks + tried marks ≤ after.hand.looks
+  -- where these turns looked at the reply seat, the last look found it full, exactly where it led to something
+  pub found : LookedAt (last_look None marks) after.take.last

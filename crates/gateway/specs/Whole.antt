@@ -1,0 +1,48 @@
+-- What a whole run of a session's thread is.
+use Rattle.std.specs.Prelude.{ℕ, ◌≡◌, List, [], ◌++◌, Bool, Option}
+use Rattle.fix_session.specs.Reader.{Reader}
+use Rattle.fix_session.specs.Chain.{accepted}
+use Rattle.fix_session.specs.Sent.{numbered}
+use Rattle.fix_session.specs.State.{fresh}
+use Rattle.gateway.specs.Thread.{Thread, Mark, Loops, standing, events_of, gates, moments}
+use Rattle.gateway.specs.Calls.{heard_of, unmarked}
+use Rattle.gateway.specs.Said.{faults_in}
+use Rattle.gateway.specs.Faults.{TookAll}
+use Rattle.gateway.specs.Offered.{AreFirstParts, connections}
+
+-- a new session at seats that were not used
+pub record IsNew (start : Thread) : Type 0 where
+  pub session : start.session ≡ fresh start.session.ids
+  pub given : start.hand.given ≡ []
+  pub collected : start.take.taken ≡ []
+
+-- what stands after these turns of a new session: what was given and then what is ready is what its heard frames spell,
+-- and what is numbered for its counterparty is what was collected, the mark aside
+pub record Spells (r : Reader) (start : Thread) (marks : List Mark) (end : Thread) : Type 0 where
+  pub accepted : end.hand.given ++ end.session.ready ≡ accepted (heard_of r start.session.ids (events_of marks))
+  pub numbered : numbered end.session ≡ unmarked end.take.taken
+
+-- so many turns lead from start to end, but for the piece that was kept last; the gate and the clock answered once in each
+pub record HasLed (turns : ℕ) (start end : Thread) (passed passed' : List Bool) (told told' : List ℕ) : Type 0 where
+  pub marks : List Mark
+  pub kept : Option (List ℕ)
+  pub loops : (r : Reader) → Loops r turns marks start (record end { kept = kept })
+  -- where the line told no fault, it took all that it was offered
+  pub took : faults_in end.said ≡ faults_in start.said → TookAll (events_of marks)
+  -- on each connection the line was offered a first part of what was queued there
+  pub offered : (r : Reader) → start.session.wire ≡ [] → AreFirstParts (connections r (events_of marks) (standing start)) end.session.wire
+  pub at_gate : passed' ≡ passed ++ gates marks
+  pub at_clock : told' ≡ told ++ moments marks
+  pub spells : (r : Reader) → IsNew start → Spells r start marks end
+
+-- the same, whatever the gate and the clock of the thread had answered
+pub record HasLedThere (turns : ℕ) (start end : Thread) : Type 0 where
+  pub passed : List Bool
+  pub passed_then : List Bool
+  pub told : List ℕ
+  pub told_then : List ℕ
+  pub led : HasLed turns start end passed passed_then told told_then
+
+-- what a thread begins with: so many turns, and what stands before them
+abbrev pub begun : ℕ → Thread → ℕ × Thread
+begun turns start = (turns, start)

@@ -1,0 +1,78 @@
+//! The loop of a session's thread.
+ghost use Rattle.std.specs.Prelude.{◌≡◌, List, [], ◌∷◌, ◌++◌, Option, None};
+ghost use Rattle.fix_session.specs.Reader.{Reader};
+ghost use Rattle.gateway.specs.Thread.{Mark, Loops, gates, moments};
+ghost use Rattle.gateway.specs.Thread.{at_start};
+ghost use Rattle.gateway.specs.Whole.{HasLed};
+
+use crate::line::{Clock, Gate, Line};
+use crate::outgoing::Outgoing;
+use crate::turn::SessionThread;
+use fix_dictionary::Item;
+use fix_session::{Session, laws};
+use intake_seats::{Board, HandSeat, TakeSeat};
+use std::sync::Wait;
+
+// Makes so many turns, or fewer where the line is over or the mark was collected.
+fn run_turns<R: Wait, L: Line, C: Clock, G: Gate>(
+    rt: &R,
+    thread: &mut SessionThread<L>,
+    clock: &mut C,
+    gate: &mut G,
+    intake: &Board<Item>,
+    replies: &Board<Outgoing>,
+    turns: u64,
+)
+    requires intake { thread.old.hand.board ≡ intake.now }
+    requires replies { thread.old.take.board ≡ replies.now }
+    ensures loops { (marks : List Mark) × ((r : Reader) → Loops r turns marks thread.old thread.new) × (G.passed gate.new ≡ G.passed gate.old ++ gates marks) × (C.answered clock.new ≡ C.answered clock.old ++ moments marks) }
+{
+    for number in 0..turns {
+        let turn = thread.turn(rt, clock, gate, intake, replies, number);
+        match turn.work {
+            None => return,
+            Some(_) => {}
+        }
+    }
+}
+
+/// What a session's thread gives back.
+#[derive(Drop)]
+pub struct Ended<L> {
+    pub session: Session,
+    pub line: L,
+    pub hand: HandSeat<Item>,
+    pub take: TakeSeat<Outgoing>,
+}
+
+/// A session between its line and its seats, for so many turns; it may wait where the line, the gate or the clock does.
+pub fn session_loop<R: Wait, L: Line, C: Clock, G: Gate>(
+    rt: &R,
+    session: Session,
+    line: L,
+    clock: &mut C,
+    gate: &mut G,
+    hand: HandSeat<Item>,
+    take: TakeSeat<Outgoing>,
+    end: HandSeat<()>,
+    intake: &Board<Item>,
+    replies: &Board<Outgoing>,
+    ends: &Board<()>,
+    turns: u64,
+) -> Ended<L>
+    requires intake { hand.board ≡ intake.now }
+    requires replies { take.board ≡ replies.now }
+    requires ends { end.board ≡ ends.now }
+    requires nothing_in_hand { take.in_hand ≡ None }
+    ensures session { HasLed turns (at_start session hand take (L.said line)) (at_start result.session result.hand result.take (L.said result.line)) (G.passed gate.old) (G.passed gate.new) (C.answered clock.old) (C.answered clock.new) }
+    ensures nothing_in_hand { result.take.in_hand ≡ None }
+{
+    laws::taken_then_ready();
+    laws::replies_in_order();
+    laws::one_reader();
+    let mut thread = SessionThread::new(session, line, hand, take);
+    run_turns(rt, &mut thread, clock, gate, intake, replies, turns);
+    let mut end = end;
+    let _ = end.hand(ends, ());
+    thread.into_parts()
+}

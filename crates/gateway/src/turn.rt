@@ -1,0 +1,562 @@
+//! One turn of a session's thread, phase by phase.
+ghost use Rattle.std.specs.Prelude.{◌≡◌, ℕ, ◌<◌, ◌≤◌, ◌+◌, [], ◌∷◌, ◌++◌, length, List, Option, Some, None, true, IfSome, IfNone, is_some, ◌&&◌, not, take};
+ghost use Rattle.fix_session.specs.Machine.{pushed};
+ghost use Rattle.fix_session.specs.Reader.{Reader};
+ghost use Rattle.intake_seats.specs.Ends.{IsSameHander, IsSameTaker};
+ghost use Rattle.gateway.specs.Steps.{Settled};
+ghost use Rattle.gateway.specs.Thread as thread;
+ghost use Rattle.gateway.specs.Thread.{standing, runs};
+
+use crate::line::{Accept, Clock, Gate, Line, LineFault, Read};
+use crate::outgoing::Outgoing;
+use crate::piece::{Given, PIECE, Piece};
+use crate::session_loop::Ended;
+use crate::stepping::{StepsEnd, step_to_the_end};
+use fix_dictionary::Item;
+use fix_session::{Session, Step, laws};
+use intake_seats::{Board, HandSeat, TakeSeat};
+use sef_moment::Moment;
+use std::marker::Model;
+use std::sync::Wait;
+
+/// What a look at the reply seat led to.
+#[derive(Drop)]
+pub enum Collect {
+    /// The seat was not full.
+    Nothing,
+    Collected { owed: Outgoing },
+    /// The send was refused, and the reply is in its seat.
+    Refused,
+}
+
+/// What became of the queued bytes.
+#[derive(Clone, Copy)]
+pub enum Wrote {
+    /// There were none.
+    Nothing,
+    All,
+    Fault,
+}
+
+/// What became of a piece that was kept.
+#[derive(Drop)]
+pub enum Repeat {
+    Nothing,
+    Pushed { piece: Piece },
+    Refused,
+}
+
+/// What reading led to.
+#[derive(Drop)]
+pub enum Reading {
+    /// The line was not read, since so many messages are ready.
+    Plenty,
+    Answered { given: Given },
+    /// The piece was refused for memory.
+    Kept { piece: Piece },
+}
+
+/// The steps of a turn, and what became of the queued bytes where they ended in a drop.
+#[derive(Clone, Copy)]
+pub struct Stepped {
+    pub end: StepsEnd,
+    pub wrote: Wrote,
+}
+
+/// What became of the first ready message.
+#[derive(Clone, Copy)]
+pub enum Handed {
+    /// There was none.
+    Nothing,
+    Given,
+    /// The seat was not empty.
+    Refused,
+}
+
+/// What became of a tick.
+#[derive(Clone, Copy)]
+pub enum Ticked {
+    Done,
+    Dropped,
+    /// Refused for memory.
+    Refused,
+}
+
+/// The tick of a turn, and what became of the queued bytes where it dropped the line.
+#[derive(Clone, Copy)]
+pub struct Beat {
+    pub ticked: Ticked,
+    pub wrote: Wrote,
+}
+
+/// What a turn did with the gate open or shut, from the first write on.
+#[derive(Drop)]
+pub struct Work {
+    pub wrote: Wrote,
+    pub repeat: Repeat,
+    /// None where the line was not to be read.
+    pub reading: Option<Reading>,
+    pub stepped: Stepped,
+    pub handed: Handed,
+    pub beat: Beat,
+}
+
+/// What was done in one turn.
+#[derive(Drop)]
+pub struct Turn {
+    /// The gate's answer.
+    pub passed: bool,
+    /// The clock's answer.
+    pub moment: Moment,
+    /// None where the line was up.
+    pub accepted: Option<Accept>,
+    /// None where the line is over.
+    pub collected: Option<Collect>,
+    /// None where the line is over, or the mark was collected.
+    pub work: Option<Work>,
+}
+
+/// A session reads no more while so many messages are ready.
+pub const MOST_READY: usize = 1024;
+
+/// A session between its line and its two seats.
+pub struct SessionThread<L: Line> {
+    pub(crate) session: Session,
+    pub(crate) buffer: [u8; PIECE],
+    /// So many bytes at the front of the buffer came and were refused for memory.
+    pub(crate) kept: Option<usize>,
+    pub(crate) line: L,
+    pub(crate) hand: HandSeat<Item>,
+    pub(crate) take: TakeSeat<Outgoing>,
+}
+
+impl<L: Line> Model for SessionThread<L> {
+    ghost use Rattle.std.specs.Prelude.{◌≡◌, ◌≤◌, None, IfSome};
+    ghost use Rattle.gateway.specs.Thread.{Thread, kept_in};
+
+    ghost Value = { Thread };
+
+    ghost view = { λ a. record { session = a.session.state; kept = kept_in a.kept a.buffer; hand = a.hand; take = a.take; said = L.said a.line } };
+
+    ghost invariant = { λ a. (a.take.in_hand ≡ None) × IfSome a.kept (λ count. count ≤ 4096) };
+}
+
+impl<L: Line> SessionThread<L> {
+    pub(crate) fn new(
+        session: Session,
+        line: L,
+        hand: HandSeat<Item>,
+        take: TakeSeat<Outgoing>,
+    ) -> SessionThread<L>
+        requires { take.in_hand ≡ None }
+        ensures { result ≡ thread.at_start session hand take (L.said line) }
+    {
+        SessionThread {
+            session,
+            buffer: [0; PIECE],
+            kept: None,
+            line,
+            hand,
+            take,
+        }
+    }
+
+    pub(crate) fn into_parts(self) -> Ended<L>
+        ensures parts { thread.at_start result.session result.hand result.take (L.said result.line) ≡ record self { kept = None } }
+        ensures nothing_in_hand { result.take.in_hand ≡ None }
+    {
+        let SessionThread {
+            session,
+            buffer: _,
+            kept: _,
+            line,
+            hand,
+            take,
+        } = self;
+        Ended {
+            session,
+            line,
+            hand,
+            take,
+        }
+    }
+
+    // Asks the line for a connection, where there is none.
+    fn accept<R: Wait>(&mut self, rt: &R, t: Moment) -> Option<Accept>
+        ensures asked { is_some result ≡ not self.old.session.line.up }
+        ensures moves { (r : Reader) → standing self.new ≡ runs r (thread.accept_events t result) (standing self.old) }
+        ensures seats { (self.new.hand ≡ self.old.hand) × (self.new.take ≡ self.old.take) }
+    {
+        if self.session.is_up() {
+            return None;
+        }
+        let answer = self.line.accept(rt);
+        match answer {
+            Accept::Up => {
+                self.kept = None;
+                self.session.resume(t);
+            }
+            Accept::Fault => self.break_line(),
+            Accept::Quiet | Accept::Over => {}
+        }
+        Some(answer)
+    }
+
+    fn break_line(&mut self)
+        ensures moves { standing self.new ≡ thread.breaks (standing self.old) }
+        ensures seats { (self.new.hand ≡ self.old.hand) × (self.new.take ≡ self.old.take) }
+    {
+        self.kept = None;
+        self.session.break_line();
+    }
+
+    // Sends the reply that is in the seat, or drops the line where it is the mark.
+    fn collect(&mut self, replies: &Board<Outgoing>, t: Moment) -> Collect
+        requires board { self.old.take.board ≡ replies.now }
+        ensures moves { (r : Reader) → standing self.new ≡ runs r (thread.collect_events t result) (standing self.old) }
+        ensures hand { self.new.hand ≡ self.old.hand }
+        ensures take { IsSameTaker self.old.take self.new.take }
+        ensures looked { self.old.take.looks < self.new.take.looks }
+        ensures found { thread.Found result self.new.take.last }
+    {
+        match self.take.take(replies) {
+            None => Collect::Nothing,
+            Some(Outgoing::Cut) => {
+                self.take.clear(replies);
+                self.break_line();
+                Collect::Collected {
+                    owed: Outgoing::Cut,
+                }
+            }
+            Some(Outgoing::Message(app)) => {
+                if self.session.send(app.get(), t).is_err() {
+                    let _ = self.take.put_back(replies, Outgoing::Message(app));
+                    return Collect::Refused;
+                }
+                self.take.clear(replies);
+                Collect::Collected {
+                    owed: Outgoing::Message(app),
+                }
+            }
+        }
+    }
+
+    // Hands what is queued to the line.
+    fn write_out<R: Wait>(&mut self, rt: &R) -> Wrote
+        ensures moves { (r : Reader) → standing self.new ≡ runs r (thread.write_events result) (standing self.old) }
+        ensures seats { (self.new.hand ≡ self.old.hand) × (self.new.take ≡ self.old.take) }
+        ensures out { self.new.session.wire ≡ [] }
+    {
+        let wire = self.session.wire();
+        if wire.is_empty() {
+            return Wrote::Nothing;
+        }
+        match self.line.write(rt, wire) {
+            Ok(()) => {
+                self.session.clear_wire();
+                Wrote::All
+            }
+            Err(LineFault) => {
+                self.break_line();
+                Wrote::Fault
+            }
+        }
+    }
+
+    // Pushes the piece that was kept, if there is one.
+    fn repeat(&mut self) -> Repeat
+        ensures moves { (r : Reader) → standing self.new ≡ runs r (thread.repeat_events result) (standing self.old) }
+        ensures seats { (self.new.hand ≡ self.old.hand) × (self.new.take ≡ self.old.take) }
+        ensures kept { thread.WasKept result self.old.kept }
+        ensures free { thread.IsFree result self.new.kept }
+    {
+        let Some(count) = self.kept else {
+            return Repeat::Nothing;
+        };
+        match push(&mut self.session, &self.buffer, count) {
+            None => Repeat::Refused,
+            Some(piece) => {
+                self.kept = None;
+                Repeat::Pushed { piece }
+            }
+        }
+    }
+
+    // Reads the line once, unless many messages are ready.
+    fn read<R: Wait>(&mut self, rt: &R) -> Reading
+        requires free { self.old.kept ≡ None }
+        ensures moves { (r : Reader) → standing self.new ≡ runs r (thread.read_events result) (standing self.old) }
+        ensures seats { (self.new.hand ≡ self.old.hand) × (self.new.take ≡ self.old.take) }
+        ensures plenty { result ≡ Reading.Plenty → 1024 ≤ length self.old.session.ready }
+        ensures few { ¬ (result ≡ Reading.Plenty) → length self.old.session.ready < 1024 }
+    {
+        if self.session.ready_len() >= MOST_READY {
+            return Reading::Plenty;
+        }
+        match self.line.read(rt, &mut self.buffer) {
+            Read::Got { count } => {
+                match push(&mut self.session, &self.buffer, count) {
+                    None => {
+                        self.kept = Some(count);
+                        Reading::Kept {
+                            piece: Piece::front(&self.buffer, count),
+                        }
+                    }
+                    Some(piece) => Reading::Answered {
+                        given: Given::Got { piece },
+                    },
+                }
+            }
+            Read::Quiet => Reading::Answered {
+                given: Given::Quiet,
+            },
+            Read::Ended => {
+                self.break_line();
+                Reading::Answered {
+                    given: Given::Ended,
+                }
+            }
+            Read::Fault => {
+                self.break_line();
+                Reading::Answered {
+                    given: Given::Fault,
+                }
+            }
+        }
+    }
+
+    // Gives the first ready message to the venue.
+    fn hand_on(&mut self, intake: &Board<Item>) -> Handed
+        requires board { self.old.hand.board ≡ intake.now }
+        ensures moves { (r : Reader) → standing self.new ≡ runs r (thread.hand_events result) (standing self.old) }
+        ensures take { self.new.take ≡ self.old.take }
+        ensures hand { IsSameHander self.old.hand self.new.hand }
+        ensures looked { self.old.hand.looks + thread.looks_of result ≤ self.new.hand.looks }
+        ensures nothing { result ≡ Handed.Nothing → self.old.session.ready ≡ [] }
+    {
+        let Some(item) = self.session.pop_ready() else {
+            return Handed::Nothing;
+        };
+        match self.hand.hand(intake, item) {
+            Ok(()) => Handed::Given,
+            Err(item) => {
+                self.session.unpop_ready(item);
+                Handed::Refused
+            }
+        }
+    }
+
+    fn tick(&mut self, t: Moment) -> Ticked
+        ensures moves { (r : Reader) → standing self.new ≡ runs r (thread.tick_events t result) (standing self.old) }
+        ensures seats { (self.new.hand ≡ self.old.hand) × (self.new.take ≡ self.old.take) }
+    {
+        match self.session.tick(t) {
+            Err(_) => Ticked::Refused,
+            Ok(Step::Dropped(_)) => Ticked::Dropped,
+            Ok(_) => Ticked::Done,
+        }
+    }
+
+    // Steps until nothing is unread, the line drops or memory is refused.
+    fn step_all(&mut self, t: Moment) -> StepsEnd
+        ensures moves { (steps : ℕ) × ((r : Reader) → standing self.new ≡ runs r (thread.steps_at steps t) (standing self.old)) }
+        ensures seats { (self.new.hand ≡ self.old.hand) × (self.new.take ≡ self.old.take) }
+        ensures settled { (r : Reader) → Settled r result self.new.session }
+    {
+        step_to_the_end(&mut self.session, t)
+    }
+
+    // Steps; where the line drops, what is queued is written at once.
+    fn step_out<R: Wait>(&mut self, rt: &R, t: Moment) -> Stepped
+        ensures moves { (steps : ℕ) × ((r : Reader) → (standing self.new ≡ runs r (thread.step_events steps t result) (standing self.old)) × Settled r result.end (runs r (thread.steps_at steps t) (standing self.old)).session) }
+        ensures seats { (self.new.hand ≡ self.old.hand) × (self.new.take ≡ self.old.take) }
+        ensures out { result.end ≡ StepsEnd.Dropped → self.new.session.wire ≡ [] }
+    {
+        let end = self.step_all(t);
+        let wrote = match end {
+            StepsEnd::Dropped => self.write_out(rt),
+            StepsEnd::Idle | StepsEnd::Refused => Wrote::Nothing,
+        };
+        Stepped { end, wrote }
+    }
+
+    // Ticks; where the line drops, what is queued is written at once.
+    fn beat<R: Wait>(&mut self, rt: &R, t: Moment) -> Beat
+        ensures moves { (r : Reader) → standing self.new ≡ runs r (thread.beat_events t result) (standing self.old) }
+        ensures seats { (self.new.hand ≡ self.old.hand) × (self.new.take ≡ self.old.take) }
+        ensures out { result.ticked ≡ Ticked.Dropped → self.new.session.wire ≡ [] }
+    {
+        let ticked = self.tick(t);
+        let wrote = match ticked {
+            Ticked::Dropped => self.write_out(rt),
+            Ticked::Done | Ticked::Refused => Wrote::Nothing,
+        };
+        Beat { ticked, wrote }
+    }
+
+    // Reads the line, where it may be read.
+    fn read_if<R: Wait>(&mut self, rt: &R, may_read: bool) -> Option<Reading>
+        requires free { may_read ≡ true → self.old.kept ≡ None }
+        ensures moves { (r : Reader) → standing self.new ≡ runs r (thread.reading_events result) (standing self.old) }
+        ensures seats { (self.new.hand ≡ self.old.hand) × (self.new.take ≡ self.old.take) }
+        ensures asked { is_some result ≡ may_read }
+        ensures plenty { result ≡ Some Reading.Plenty → 1024 ≤ length self.old.session.ready }
+    {
+        if may_read { Some(self.read(rt)) } else { None }
+    }
+
+    // A turn from its first write on.
+    fn work<R: Wait>(&mut self, rt: &R, intake: &Board<Item>, may_read: bool, t: Moment) -> Work
+        requires board { self.old.hand.board ≡ intake.now }
+        ensures works { (steps : ℕ) × ((r : Reader) → thread.Works r t may_read steps result self.old self.new) }
+        ensures take { self.new.take ≡ self.old.take }
+        ensures hand { IsSameHander self.old.hand self.new.hand }
+        ensures looked { self.old.hand.looks + thread.looks_of result.handed ≤ self.new.hand.looks }
+    {
+        let wrote = self.write_out(rt);
+        let repeat = self.repeat();
+        let reading = self.read_if(rt, is_to_be_read(may_read, wrote, &repeat));
+        let stepped = self.step_out(rt, t);
+        let handed = self.hand_on(intake);
+        let beat = self.beat(rt, t);
+        Work {
+            wrote,
+            repeat,
+            reading,
+            stepped,
+            handed,
+            beat,
+        }
+    }
+
+    // One turn: the gate and the clock, a connection where there is none, one reply, and the work.
+    fn bare_turn<R: Wait, C: Clock, G: Gate>(
+        &mut self,
+        rt: &R,
+        clock: &mut C,
+        gate: &mut G,
+        intake: &Board<Item>,
+        replies: &Board<Outgoing>,
+        number: u64,
+    ) -> Turn
+        requires intake { self.old.hand.board ≡ intake.now }
+        requires replies { self.old.take.board ≡ replies.now }
+        ensures turns { (steps : ℕ) × ((r : Reader) → thread.IsTurn r (record { turn = result; steps = steps }) self.old self.new) }
+        ensures take { IsSameTaker self.old.take self.new.take }
+        ensures hand { IsSameHander self.old.hand self.new.hand }
+        ensures passed { G.passed gate.new ≡ G.passed gate.old ++ result.passed ∷ [] }
+        ensures told { C.answered clock.new ≡ C.answered clock.old ++ result.moment ∷ [] }
+    {
+        let passed = gate.pass(rt, number);
+        let t = clock.now();
+        let accepted = self.accept(rt, t);
+        if is_over(accepted) {
+            return Turn {
+                passed,
+                moment: t,
+                accepted,
+                collected: None,
+                work: None,
+            };
+        }
+        let collected = self.collect(replies, t);
+        if is_mark(&collected) {
+            return Turn {
+                passed,
+                moment: t,
+                accepted,
+                collected: Some(collected),
+                work: None,
+            };
+        }
+        let work = self.work(rt, intake, may_read(passed, accepted), t);
+        Turn {
+            passed,
+            moment: t,
+            accepted,
+            collected: Some(collected),
+            work: Some(work),
+        }
+    }
+
+    /// One turn: the gate and the clock, a connection where there is none, one reply, and the work.
+    pub fn turn<R: Wait, C: Clock, G: Gate>(
+        &mut self,
+        rt: &R,
+        clock: &mut C,
+        gate: &mut G,
+        intake: &Board<Item>,
+        replies: &Board<Outgoing>,
+        number: u64,
+    ) -> Turn
+        requires intake { self.old.hand.board ≡ intake.now }
+        requires replies { self.old.take.board ≡ replies.now }
+        ensures turns { (steps : ℕ) × ((r : Reader) → thread.IsTurn r (record { turn = result; steps = steps }) self.old self.new) }
+        ensures take { IsSameTaker self.old.take self.new.take }
+        ensures hand { IsSameHander self.old.hand self.new.hand }
+        ensures passed { G.passed gate.new ≡ G.passed gate.old ++ result.passed ∷ [] }
+        ensures told { C.answered clock.new ≡ C.answered clock.old ++ result.moment ∷ [] }
+    {
+        let turn = self.bare_turn(rt, clock, gate, intake, replies, number);
+        if has_stirred(&turn) {
+            gate.stirred();
+        }
+        turn
+    }
+}
+
+// A seat was emptied or filled.
+fn has_stirred(turn: &Turn) -> bool {
+    let collected = matches!(turn.collected, Some(Collect::Collected { owed: _ }));
+    let given = match &turn.work {
+        Some(work) => matches!(work.handed, Handed::Given),
+        None => false,
+    };
+    collected || given
+}
+
+// Has a session hear the first so many bytes of a buffer; none where memory was refused.
+fn push(session: &mut Session, buffer: &[u8; PIECE], count: usize) -> Option<Piece>
+    requires within { count ≤ 4096 }
+    ensures pushed { (r : Reader) → IfSome result (λ _. session.new.state ≡ pushed r session.old.state (take count buffer.now)) }
+    ensures refused { IfNone result (session.new.state ≡ session.old.state) }
+    ensures piece { IfSome result (λ piece. piece ≡ take count buffer.now) }
+{
+    match session.push_bytes(&buffer[..count]) {
+        Err(_) => None,
+        Ok(()) => Some(Piece::front(buffer, count)),
+    }
+}
+
+// A line that was asked for a connection is not read in that turn.
+fn may_read(passed: bool, accepted: Option<Accept>) -> bool
+    ensures { result ≡ (passed && not (is_some accepted)) }
+{
+    passed && accepted.is_none()
+}
+
+// There will be no more connections.
+fn is_over(accepted: Option<Accept>) -> bool
+    ensures { result ≡ thread.is_over accepted }
+{
+    matches!(accepted, Some(Accept::Over))
+}
+
+// The mark was collected.
+fn is_mark(collected: &Collect) -> bool
+    ensures { result ≡ thread.is_mark collected.now }
+{
+    matches!(
+        collected,
+        Collect::Collected {
+            owed: Outgoing::Cut
+        }
+    )
+}
+
+// The line may be read, and neither had a write failed nor was a kept piece refused again.
+fn is_to_be_read(may_read: bool, wrote: Wrote, repeat: &Repeat) -> bool
+    ensures { result ≡ (may_read && thread.is_unhindered wrote repeat.now) }
+{
+    may_read && !matches!(wrote, Wrote::Fault) && !matches!(repeat, Repeat::Refused)
+}
