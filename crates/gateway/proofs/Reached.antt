@@ -8,17 +8,18 @@ use Rattle.std.specs.Option.{option_to_list}
 use Rattle.fix_dictionary.specs.declared.messages.App.{App}
 use Rattle.fix_dictionary.specs.declared.messages.Item.{Item}
 use Rattle.fix_session.specs.Reader.{Reader}
-use Rattle.gateway.specs.declared.outgoing.Outgoing.{Outgoing}
-use Rattle.gateway.specs.declared.outgoing.Outgoing.TheVariants.{Cut}
+use Rattle.venue_worker.specs.declared.queue.Outgoing.{Outgoing}
+use Rattle.venue_worker.specs.declared.queue.Outgoing.TheVariants.{Cut}
 use Rattle.gateway.specs.Calls.{unmarked}
-use Rattle.gateway.specs.Closing.{GaveOut, Reached, IsTakenWhole, replies_of}
+use Rattle.gateway.specs.Closing.{Reached, IsTakenWhole}
+use Rattle.venue_worker.specs.Queued.{IsOwed, outgoing}
 use Rattle.gateway.specs.Thread.{Thread}
-use Rattle.gateway.specs.Whole.{HasLedThere, IsNew}
+use Rattle.gateway.specs.Whole.{HasLed, IsNew}
 use Rattle.gateway.proofs.Ties.{unmarked-append}
 
-unmarked-replies : (apps : List App) → unmarked (replies_of apps) ≡ apps
-unmarked-replies [] = refl
-unmarked-replies (x ∷ apps) = ap (λ (xs : List App). x ∷ xs) (unmarked-replies apps)
+unmarked-outgoing : (apps : List App) → unmarked (outgoing apps) ≡ apps
+unmarked-outgoing [] = refl
+unmarked-outgoing (x ∷ apps) = ap (λ (xs : List App). x ∷ xs) (unmarked-outgoing apps)
 
 -- what was given is what was taken and then what is left, so what was numbered and what is left make up what was given
 whole : (numbered : List App) (given taken left waiting : List Outgoing) → numbered ≡ unmarked taken → given ≡ taken ++ left → numbered ++ unmarked (left ++ waiting) ≡ unmarked (given ++ waiting)
@@ -28,31 +29,28 @@ whole numbered given taken left waiting is split =
     ∙ ap (λ (xs : List Outgoing). unmarked xs) (sym (append_assoc taken left waiting))
     ∙ ap (λ (xs : List Outgoing). unmarked (xs ++ waiting)) (sym split)
 
-pub reached : (owed numbered : List App) (given taken left waiting : List Outgoing) (cut : Bool) → numbered ≡ unmarked taken → given ≡ taken ++ left → GaveOut owed given waiting cut → Reached owed numbered left waiting cut
+pub reached : (owed numbered : List App) (given taken left waiting : List Outgoing) (cut : Bool) → numbered ≡ unmarked taken → given ≡ taken ++ left → IsOwed owed given waiting cut → Reached owed numbered left waiting cut
 reached owed numbered given taken left waiting false is split out =
-    whole numbered given taken left waiting is split ∙ ap (λ (xs : List Outgoing). unmarked xs) out ∙ unmarked-replies owed
+    whole numbered given taken left waiting is split ∙ ap (λ (xs : List Outgoing). unmarked xs) out ∙ unmarked-outgoing owed
 reached owed numbered given taken left waiting true is split out =
     let first : List App = out.0 in
     let rest : List App = out.1 in
     let made : numbered ++ unmarked (left ++ waiting) ≡ first =
     whole numbered given taken left waiting is split ∙ ap (λ (xs : List Outgoing). unmarked xs) out.3
-    ∙ unmarked-append (replies_of first) (Cut ∷ []) ∙ append-nil (unmarked (replies_of first)) ∙ unmarked-replies first in
+    ∙ unmarked-append (outgoing first) (Cut ∷ []) ∙ append-nil (unmarked (outgoing first)) ∙ unmarked-outgoing first in
     (rest, ap (λ (xs : List App). xs ++ rest) made ∙ out.2)
 
-pub taken_whole : (turns : ℕ) (start end : Thread) (taken : List Item) (left : Option Item) → HasLedThere turns start end → IsNew start → end.hand.given ≡ taken ++ option_to_list left → IsTakenWhole turns start end taken left
-taken_whole turns start end taken left led new split =
-    record {
-      led = led;
-      accepted = λ (r : Reader).
-          sym (append_assoc taken (option_to_list left) end.session.ready)
-          ∙ ap (λ (xs : List Item). xs ++ end.session.ready) (sym split)
-          ∙ (led.led.spells r new).accepted;
-    }
+pub taken_whole : (turns : ℕ) (start end : Thread) (passed passed' : List Bool) (told told' : List ℕ) (taken : List Item) (left : Option Item) →
+    (led : HasLed turns start end passed passed' told told') → IsNew start → end.hand.given ≡ taken ++ option_to_list left → IsTakenWhole start led.marks end.session taken left
+taken_whole turns start end passed passed' told told' taken left led new split = λ (r : Reader).
+    sym (append_assoc taken (option_to_list left) end.session.ready)
+    ∙ ap (λ (xs : List Item). xs ++ end.session.ready) (sym split)
+    ∙ (led.spells r new).accepted
 
-pub reached_there : (r : Reader) (turns : ℕ) (start end : Thread) (owed : List App) (given waiting : List Outgoing) (left : Option Outgoing) (cut : Bool) → HasLedThere turns start end → IsNew start →
-    given ≡ end.take.taken ++ option_to_list left → GaveOut owed given waiting cut → Reached owed (numbered end.session) (option_to_list left) waiting cut
-reached_there r turns start end owed given waiting left cut led new split out =
-    reached owed (numbered end.session) given end.take.taken (option_to_list left) waiting cut (led.led.spells r new).numbered split out
+pub reached_there : (r : Reader) (turns : ℕ) (start end : Thread) (passed passed' : List Bool) (told told' : List ℕ) (owed : List App) (given waiting : List Outgoing) (left : Option Outgoing) (cut : Bool) →
+    HasLed turns start end passed passed' told told' → IsNew start → given ≡ end.take.taken ++ option_to_list left → IsOwed owed given waiting cut → Reached owed (numbered end.session) (option_to_list left) waiting cut
+reached_there r turns start end passed passed' told told' owed given waiting left cut led new split out =
+    reached owed (numbered end.session) given end.take.taken (option_to_list left) waiting cut (led.spells r new).numbered split out
 
 pub slice_map : {A B : Type 0} (f : A → B) (xs : List A) (k : ℕ) (x : A) → slice_get xs k ≡ Some x → slice_get (map f xs) k ≡ Some (f x)
 slice_map {A} {B} f xs k x is = slice_get-map f xs k ∙ ap (λ (y : Option A). option_map f y) is

@@ -1,5 +1,5 @@
 -- A session's thread as a machine over its events, and the events of one turn.
-use Rattle.std.specs.Prelude.{ℕ, ◌+◌, ◌%◌, zero, suc, ◌≡◌, ◌≢◌, List, [], ◌∷◌, ◌++◌, length, max, Bool, true, false, if◌then◌else◌, Option, Some, None, MatchOption, not, is_some, ◌&&◌, ◌≤◌, take}
+use Rattle.std.specs.Prelude.{ℕ, ◌+◌, ◌%◌, zero, suc, ◌≡◌, ◌≢◌, List, [], ◌∷◌, ◌++◌, length, max, Bool, true, false, if◌then◌else◌, Option, Some, None, MatchOption, not, is_some, ◌&&◌, ◌≤◌, ◌<◌, take}
 use Rattle.fix_dictionary.specs.declared.messages.Item.{Item}
 use Rattle.fix_session.specs.Reader.{Reader}
 use Rattle.fix_session.specs.State.{State, Seen, resumed, broken}
@@ -11,8 +11,8 @@ use Rattle.gateway.specs.declared.line.Accept.{Accept}
 use Rattle.gateway.specs.declared.line.Accept.TheVariants as accept
 use Rattle.gateway.specs.declared.piece.Given.{Given}
 use Rattle.gateway.specs.declared.piece.Given.TheVariants as gave
-use Rattle.gateway.specs.declared.outgoing.Outgoing.{Outgoing}
-use Rattle.gateway.specs.declared.outgoing.Outgoing.TheVariants.{Message, Cut}
+use Rattle.venue_worker.specs.declared.queue.Outgoing.{Outgoing}
+use Rattle.venue_worker.specs.declared.queue.Outgoing.TheVariants.{Message, Cut}
 use Rattle.gateway.specs.declared.turn.Collect.{Collect}
 use Rattle.gateway.specs.declared.turn.Collect.TheVariants as collect
 use Rattle.gateway.specs.declared.turn.Wrote.{Wrote}
@@ -205,6 +205,13 @@ abbrev pub reading_events : Option Reading → List Event
 reading_events None = []
 reading_events (Some reading) = read_events reading
 
+-- the line was read
+abbrev pub is_read : Option Reading → Bool
+is_read None = false
+is_read (Some reading.Plenty) = false
+is_read (Some (reading.Answered given)) = true
+is_read (Some (reading.Kept piece)) = true
+
 -- neither had a write failed nor was a kept piece refused again
 abbrev pub is_unhindered : Wrote → Repeat → Bool
 is_unhindered wrote.Fault repeat = false
@@ -232,6 +239,8 @@ pub record Works (r : Reader) (t : ℕ) (may_read : Bool) (steps : ℕ) (work : 
   pub kept : WasKept work.repeat (runs r (write_events work.wrote) (standing before)).kept
   -- it was spared only where so many messages were ready
   pub plenty : work.reading ≡ Some reading.Plenty → 1024 ≤ length (runs r (before_read work) (standing before)).session.ready
+  -- it was read only where there were fewer
+  pub few : is_read work.reading ≡ true → length (runs r (before_read work) (standing before)).session.ready < 1024
   -- all that was queued before the reading was offered to the line
   pub out : (runs r (before_read work) (standing before)).session.wire ≡ []
   -- the steps ended where no frame was unread or the line was down, or memory was refused

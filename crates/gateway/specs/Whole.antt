@@ -34,15 +34,3 @@ pub record HasLed (turns : ℕ) (start end : Thread) (passed passed' : List Bool
   pub at_gate : passed' ≡ passed ++ gates marks
   pub at_clock : told' ≡ told ++ moments marks
   pub spells : (r : Reader) → IsNew start → Spells r start marks end
-
--- the same, whatever the gate and the clock of the thread had answered
-pub record HasLedThere (turns : ℕ) (start end : Thread) : Type 0 where
-  pub passed : List Bool
-  pub passed_then : List Bool
-  pub told : List ℕ
-  pub told_then : List ℕ
-  pub led : HasLed turns start end passed passed_then told told_then
-
--- what a thread begins with: so many turns, and what stands before them
-abbrev pub begun : ℕ → Thread → ℕ × Thread
-begun turns start = (turns, start)

@@ -1,48 +1,32 @@
 //! The end: what the sessions leave, and both boards closed over it.
-ghost use Rattle.std.specs.Prelude.{◌≡◌, ℕ, List, [], map, length, slice_get, Option, Some, IfOk, IfSome};
+ghost use Rattle.std.specs.Prelude.{◌≡◌, ℕ, Bool, List, [], map, length, slice_get, Option, Some, IfOk, IfSome};
 ghost use Rattle.std.specs.Option.{option_to_list};
 ghost use Rattle.fix_dictionary.specs.declared.messages.App.{App};
 ghost use Rattle.fix_session.specs.Sent.{numbered};
 ghost use Rattle.intake_seats.specs.Ends.{AreHands, AreTakes};
-ghost use Rattle.gateway.specs.Closing.{IsTakenWhole, GaveOut, Reached};
+ghost use Rattle.venue_worker.specs.Queued.{IsOwed};
+ghost use Rattle.gateway.specs.Closing.{IsTakenWhole, Reached};
 ghost use Rattle.gateway.specs.Thread.{Thread, at_start};
-ghost use Rattle.gateway.specs.Whole.{HasLedThere, IsNew};
+ghost use Rattle.gateway.specs.Whole.{HasLed, IsNew};
 
 use crate::line::Line;
-use crate::outgoing::Outgoing;
-use crate::session_loop::Ended;
+use crate::looping::Ended;
 use fix_dictionary::Item;
 use fix_session::{Session, laws};
 use intake_seats::{Board, HandSeat, TakeSeat};
 use std::alloc::{AllocError, Global};
-use std::collections::VecDeque;
-
-/// What waits for a session, and whether the session was cut.
-#[derive(Drop)]
-pub struct Queue {
-    pub waiting: VecDeque<Outgoing>,
-    pub is_cut: bool,
-}
-
-/// What a worker leaves: the venue, the keeper of its rows, a queue for each session, and its ends of both boards.
-#[derive(Drop)]
-pub struct Parts<V, K> {
-    pub venue: V,
-    pub keeper: K,
-    pub queues: Vec<Queue>,
-    pub takes: Vec<TakeSeat<Item>>,
-    pub hands: Vec<HandSeat<Outgoing>>,
-}
+use venue_core::Venue;
+use venue_worker::{Outgoing, Parts, Queue};
 
 /// A venue that is closed: its sessions and lines, what is left in the seats, the queues, the venue and the keeper of its rows.
 #[derive(Drop)]
-pub struct Closed<L, V, K> {
+pub struct Closed<L, K: Drop> {
     pub sessions: Vec<Session>,
     pub lines: Vec<L>,
     pub left: Vec<Option<Item>>,
     pub replies_left: Vec<Option<Outgoing>>,
     pub queues: Vec<Queue>,
-    pub venue: V,
+    pub venue: Venue,
     pub keeper: K,
 }
 
@@ -88,23 +72,23 @@ fn take_apart<L: Drop>(alloc: Global, ended: Vec<Ended<L>>) -> Result<Apart<L>, 
 
 /// Closes a venue whose threads have ended: the ends of both boards are united, and what is in their seats is taken out.
 /// `AllocError`: there was no memory for a list, and all is given up.
-pub fn close_venue<L: Line + Drop, V: Drop, K: Drop>(
+pub fn close_venue<L: Line + Drop, K: Drop>(
     alloc: Global,
-    parts: Parts<V, K>,
+    parts: Parts<K>,
     ended: Vec<Ended<L>>,
     intake: Board<Item>,
     replies: Board<Outgoing>,
-) -> Result<Closed<L, V, K>, AllocError>
+) -> Result<Closed<L, K>, AllocError>
     requires intake { AreHands intake (map (λ e. e.hand) ended.items) × AreTakes intake parts.takes.items }
     requires replies { AreHands replies parts.hands.items × AreTakes replies (map (λ e. e.take) ended.items) }
     ensures sessions { IfOk result (λ c. c.sessions.items ≡ map (λ e. e.session) ended.items) }
     ensures lines { IfOk result (λ c. c.lines.items ≡ map (λ e. e.line) ended.items) }
     ensures count { IfOk result (λ c. (length c.left.items ≡ intake.words) × (length c.replies_left.items ≡ replies.words)) }
     ensures kept { IfOk result (λ c. (c.venue ≡ parts.venue) × (c.keeper ≡ parts.keeper) × (c.queues ≡ parts.queues)) }
-    ensures taken { IfOk result (λ c. (turns k : ℕ) (start : Thread) (e : _) (t : _) (x : _) → slice_get ended.items k ≡ Some e → slice_get parts.takes.items k ≡ Some t → slice_get c.left.items k ≡ Some x
-        → HasLedThere turns start (at_start e.session e.hand e.take (L.said e.line)) → IsNew start → IsTakenWhole turns start (at_start e.session e.hand e.take (L.said e.line)) t.taken x) }
-    ensures reached { IfOk result (λ c. (turns k : ℕ) (start : Thread) (owed : List App) (e : _) (h : _) (q : _) (x : _) → slice_get ended.items k ≡ Some e → slice_get parts.hands.items k ≡ Some h → slice_get parts.queues.items k ≡ Some q → slice_get c.replies_left.items k ≡ Some x
-        → HasLedThere turns start (at_start e.session e.hand e.take (L.said e.line)) → IsNew start → GaveOut owed h.given q.waiting.items q.is_cut
+    ensures taken { IfOk result (λ c. (turns k : ℕ) (start : Thread) (passed passed' : List Bool) (told told' : List ℕ) (e : _) (t : _) (x : _) → slice_get ended.items k ≡ Some e → slice_get parts.takes.items k ≡ Some t → slice_get c.left.items k ≡ Some x
+        → (led : HasLed turns start (at_start e.session e.hand e.take (L.said e.line)) passed passed' told told') → IsNew start → IsTakenWhole start led.marks e.session.state t.taken x) }
+    ensures reached { IfOk result (λ c. (turns k : ℕ) (start : Thread) (passed passed' : List Bool) (told told' : List ℕ) (owed : List App) (e : _) (h : _) (q : _) (x : _) → slice_get ended.items k ≡ Some e → slice_get parts.hands.items k ≡ Some h → slice_get parts.queues.items k ≡ Some q → slice_get c.replies_left.items k ≡ Some x
+        → HasLed turns start (at_start e.session e.hand e.take (L.said e.line)) passed passed' told told' → IsNew start → IsOwed owed h.given q.waiting.items q.is_cut
         → Reached owed (numbered e.session.state) (option_to_list x) q.waiting.items q.is_cut) }
 {
     laws::one_reader();

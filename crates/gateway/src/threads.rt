@@ -1,37 +1,116 @@
-//! A session in a thread of its own, whose join hands on what the loop ensures.
-ghost use Rattle.std.specs.Prelude.{◌≡◌, ℕ, All, length, map, slice_get, None, Some, IfOk, IfSome};
-ghost use Rattle.intake_seats.specs.Ends.{AreHands, AreTakes};
-ghost use Rattle.gateway.specs.Thread.{at_start};
-ghost use Rattle.gateway.specs.Whole.{HasLedThere, begun};
+//! Each session in a thread of its own, whose join hands on what the loop ensures.
+ghost use Rattle.std.specs.Prelude.{◌≡◌, ℕ, All, length, map, slice_get, Some, IfOk, IfSome};
+ghost use Rattle.gateway.specs.Served.{AreServed, HasServed, IsReady, begun};
 
-use crate::line::{Clock, Gate, Line};
-use crate::outgoing::Outgoing;
-use crate::session_loop::{Ended, session_loop};
+use crate::line::{Gate, Line};
+use crate::looping::{Ended, session_loop};
 use fix_dictionary::Item;
-use fix_session::{Session, laws};
+use fix_session::Session;
 use intake_seats::{Board, HandSeat, TakeSeat};
 use std::alloc::Global;
+use std::marker::Model;
 use std::snapshot::Snapshot;
 use std::sync::Wait;
 use std::thread;
 use std::thread::{Promise, PromisedHandle, Scope, Threads};
+use venue_worker::{Clock, Outgoing};
 
-/// What a session's thread began with. It promises that its turns lead from there to what it gives back.
+/// What the thread of a session begins with: all that `session_loop` takes but the boards.
 #[derive(Drop)]
-pub struct SessionPromise<L> {
-    turns: u64,
-    session: Snapshot<Session>,
-    line: Snapshot<L>,
-    hand: Snapshot<HandSeat<Item>>,
-    take: Snapshot<TakeSeat<Outgoing>>,
+pub struct Start<L: Line, C: Clock, G: Gate> {
+    pub session: Session,
+    pub line: L,
+    pub clock: C,
+    pub gate: G,
+    pub hand: HandSeat<Item>,
+    pub take: TakeSeat<Outgoing>,
+    /// The seat of the mark that it hands as it ends.
+    pub end: HandSeat<()>,
 }
 
-impl<L: Line> Promise<Ended<L>> for SessionPromise<L> {
-    ghost use Rattle.gateway.specs.Thread.{at_start};
-    ghost use Rattle.gateway.specs.Whole.{HasLedThere};
-    ghost use Rattle.std.specs.Prelude.{◌≡◌, None};
+impl<L: Line, C: Clock, G: Gate> Model for Start<L, C, G> {
+    ghost use Rattle.gateway.specs.Served.{Served, served};
 
-    ghost kept_by = { λ p r. HasLedThere p.turns (at_start p.session.value p.hand.value p.take.value (L.said p.line.value)) (at_start r.session r.hand r.take (L.said r.line)) × (r.take.in_hand ≡ None) };
+    ghost Value = { Served };
+
+    ghost view = { λ s. served s.session (L.said s.line) (C.answered s.clock) (G.passed s.gate) s.hand s.take s.end };
+}
+
+/// What the thread of a session gives back: all that it began with.
+#[derive(Drop)]
+pub struct Finish<L: Line, C: Clock, G: Gate> {
+    pub ended: Ended<L>,
+    pub clock: C,
+    pub gate: G,
+    pub end: HandSeat<()>,
+}
+
+impl<L: Line, C: Clock, G: Gate> Model for Finish<L, C, G> {
+    ghost use Rattle.gateway.specs.Served.{Served, served};
+
+    ghost Value = { Served };
+
+    ghost view = { λ f. served f.ended.session (L.said f.ended.line) (C.answered f.clock) (G.passed f.gate) f.ended.hand f.ended.take f.end };
+}
+
+/// The promise that so many turns lead from a start to what the thread gives back.
+#[derive(Drop)]
+pub struct SessionPromise<L: Line, C: Clock, G: Gate> {
+    turns: u64,
+    start: Snapshot<Start<L, C, G>>,
+}
+
+impl<L: Line, C: Clock, G: Gate> Promise<Finish<L, C, G>> for SessionPromise<L, C, G> {
+    ghost use Rattle.gateway.specs.Served.{HasServed};
+
+    ghost kept_by = { λ p finish. HasServed p.turns p.start.value finish };
+}
+
+/// The thread of a session.
+pub type SessionHandle<L, C, G> = PromisedHandle<Finish<L, C, G>, SessionPromise<L, C, G>>;
+
+/// Why a venue does not run, or does not end well.
+#[derive(Clone, Copy, Debug, PartialEq, Eq)]
+pub enum RunFault {
+    /// 1: there was no memory.
+    NoMemory,
+    /// 2: no thread could be made.
+    NoThread,
+    /// 3: the keeper of the rows refused one.
+    TrailRefused,
+}
+
+// All that a session's thread does.
+fn serve_session<R: Wait, L: Line + Drop, C: Clock + Drop, G: Gate + Drop>(
+    rt: &R,
+    start: Start<L, C, G>,
+    intake: &Board<Item>,
+    replies: &Board<Outgoing>,
+    ends: &Board<()>,
+    turns: u64,
+) -> Finish<L, C, G>
+    requires ready { IsReady intake.now replies.now ends.now start }
+    ensures { HasServed turns start result }
+{
+    let Start {
+        session,
+        line,
+        mut clock,
+        mut gate,
+        hand,
+        take,
+        mut end,
+    } = start;
+    let ended = session_loop(
+        rt, session, line, &mut clock, &mut gate, hand, take, &mut end, intake, replies, ends,
+        turns,
+    );
+    Finish {
+        ended,
+        clock,
+        gate,
+        end,
+    }
 }
 
 /// Starts a session's thread; none where no thread can be made.
@@ -45,67 +124,24 @@ pub fn start_session<
 >(
     scope: &Scope<'s, E>,
     rt: &'s R,
-    session: Session,
-    line: L,
-    clock: C,
-    gate: G,
-    hand: HandSeat<Item>,
-    take: TakeSeat<Outgoing>,
-    end: HandSeat<()>,
+    start: Start<L, C, G>,
     intake: &'s Board<Item>,
     replies: &'s Board<Outgoing>,
     ends: &'s Board<()>,
     turns: u64,
-) -> Option<PromisedHandle<Ended<L>, SessionPromise<L>>>
-    requires intake { hand.board ≡ intake.now }
-    requires replies { take.board ≡ replies.now }
-    requires ends { end.board ≡ ends.now }
-    requires nothing_in_hand { take.in_hand ≡ None }
-    ensures { IfSome result (λ h. (h.promise.turns ≡ turns) × (h.promise.session.value ≡ session) × (h.promise.line.value ≡ line) × (h.promise.hand.value ≡ hand) × (h.promise.take.value ≡ take)) }
+) -> Option<SessionHandle<L, C, G>>
+    requires ready { IsReady intake.now replies.now ends.now start }
+    ensures { IfSome result (λ h. (h.promise.turns ≡ turns) × (h.promise.start.value ≡ start)) }
 {
     let promise = SessionPromise {
         turns,
-        session: Snapshot::of(&session),
-        line: Snapshot::of(&line),
-        hand: Snapshot::of(&hand),
-        take: Snapshot::of(&take),
+        start: Snapshot::of(&start),
     };
     scope
         .spawn_with(promise, move || {
-            let mut clock = clock;
-            let mut gate = gate;
-            session_loop(
-                rt, session, line, &mut clock, &mut gate, hand, take, end, intake, replies, ends,
-                turns,
-            )
+            serve_session(rt, start, intake, replies, ends, turns)
         })
         .ok()
-}
-
-/// The thread of a session.
-pub type SessionHandle<L> = PromisedHandle<Ended<L>, SessionPromise<L>>;
-
-/// What the thread of a session begins with: all that `session_loop` takes but the boards.
-#[derive(Drop)]
-pub struct Start<L, C, G> {
-    pub session: Session,
-    pub line: L,
-    pub clock: C,
-    pub gate: G,
-    pub hand: HandSeat<Item>,
-    pub take: TakeSeat<Outgoing>,
-    pub end: HandSeat<()>,
-}
-
-/// Why a venue does not run, or does not end well.
-#[derive(Clone, Copy, Debug, PartialEq, Eq)]
-pub enum RunFault {
-    /// 1: there was no memory.
-    NoMemory,
-    /// 2: no thread could be made.
-    NoThread,
-    /// 3: the keeper of the rows refused one.
-    TrailRefused,
 }
 
 /// Starts the threads of all sessions, in their order. Where one can't be started, the scope joins those that were.
@@ -125,27 +161,15 @@ pub fn start_all<
     replies: &'s Board<Outgoing>,
     ends: &'s Board<()>,
     turns: u64,
-) -> Result<Vec<SessionHandle<L>>, RunFault>
-    requires own { All (λ s. (s.hand.board ≡ intake.now) × (s.take.board ≡ replies.now) × (s.end.board ≡ ends.now) × (s.take.in_hand ≡ None)) starts.items }
-    ensures started { IfOk result (λ handles. map (λ h. begun h.promise.turns (at_start h.promise.session.value h.promise.hand.value h.promise.take.value (L.said h.promise.line.value))) handles.items
-        ≡ map (λ s. begun turns (at_start s.session s.hand s.take (L.said s.line))) starts.items) }
+) -> Result<Vec<SessionHandle<L, C, G>>, RunFault>
+    requires own { All (λ s. IsReady intake.now replies.now ends.now s) starts.items }
+    ensures started { IfOk result (λ handles. map (λ h. begun h.promise.turns h.promise.start.value) handles.items ≡ map (λ s. begun turns s) starts.items) }
 {
     let Ok(mut handles) = Vec::with_capacity(alloc, starts.len()) else {
         return Err(RunFault::NoMemory);
     };
     for start in starts {
-        let Start {
-            session,
-            line,
-            clock,
-            gate,
-            hand,
-            take,
-            end,
-        } = start;
-        let Some(handle) = start_session(
-            scope, rt, session, line, clock, gate, hand, take, end, intake, replies, ends, turns,
-        ) else {
+        let Some(handle) = start_session(scope, rt, start, intake, replies, ends, turns) else {
             return Err(RunFault::NoThread);
         };
         if handles.push(handle).is_err() {
@@ -157,16 +181,15 @@ pub fn start_all<
 
 /// Joins the threads of all sessions, in their order, each join handing on what the session's turns led to. Where there is no
 /// memory for the list the handles come back.
-pub fn join_all<R: Threads, L: Line + Drop>(
+pub fn join_all<R: Threads, L: Line + Drop, C: Clock + Drop, G: Gate + Drop>(
     rt: &R,
-    handles: Vec<SessionHandle<L>>,
-) -> Result<Vec<Ended<L>>, Vec<SessionHandle<L>>>
-    ensures count { IfOk result (λ ended. length ended.items ≡ length handles.items) }
-    ensures each { IfOk result (λ ended. (k : ℕ) (h : _) (e : _) → slice_get handles.items k ≡ Some h → slice_get ended.items k ≡ Some e
-        → HasLedThere h.promise.turns (at_start h.promise.session.value h.promise.hand.value h.promise.take.value (L.said h.promise.line.value)) (at_start e.session e.hand e.take (L.said e.line)) × (e.take.in_hand ≡ None)) }
+    handles: Vec<SessionHandle<L, C, G>>,
+) -> Result<Vec<Finish<L, C, G>>, Vec<SessionHandle<L, C, G>>>
+    ensures count { IfOk result (λ finished. length finished.items ≡ length handles.items) }
+    ensures each { IfOk result (λ finished. (k : ℕ) (h : _) (f : _) → slice_get handles.items k ≡ Some h → slice_get finished.items k ≡ Some f → HasServed h.promise.turns h.promise.start.value f) }
 {
     match thread::join_promised(rt, handles) {
-        Ok(ended) => Ok(ended),
+        Ok(finished) => Ok(finished),
         Err(refused) => Err(refused.value),
     }
 }
@@ -189,32 +212,25 @@ pub fn run_beside<
     ends: &'e Board<()>,
     turns: u64,
     work: W,
-) -> Result<(Vec<Ended<L>>, T), RunFault>
-    requires own { All (λ s. (s.hand.board ≡ intake.now) × (s.take.board ≡ replies.now) × (s.end.board ≡ ends.now) × (s.take.in_hand ≡ None)) starts.items }
+) -> Result<(Vec<Finish<L, C, G>>, T), RunFault>
+    requires own { All (λ s. IsReady intake.now replies.now ends.now s) starts.items }
     requires work { W.IsAlwaysCallable work }
     ensures worked { IfOk result (λ r. W.post work r.1) }
-    ensures hands { IfOk result (λ r. AreHands intake.now (map (λ s. s.hand) starts.items) → AreHands intake.now (map (λ e. e.hand) r.0.items)) }
-    ensures takes { IfOk result (λ r. AreTakes replies.now (map (λ s. s.take) starts.items) → AreTakes replies.now (map (λ e. e.take) r.0.items)) }
-    ensures ended { IfOk result (λ r. (k : ℕ) (s : _) (e : _) → slice_get starts.items k ≡ Some s → slice_get r.0.items k ≡ Some e
-        → HasLedThere turns (at_start s.session s.hand s.take (L.said s.line)) (at_start e.session e.hand e.take (L.said e.line)) × (e.take.in_hand ≡ None)) }
+    ensures served { IfOk result (λ r. AreServed turns starts.items r.0.items) }
 {
     thread::scope(
         thread::scope_env::<'e>(),
         rt,
-        move |scope| -> Result<(Vec<Ended<L>>, T), RunFault>
-            requires own { All (λ s. (s.hand.board ≡ intake.now) × (s.take.board ≡ replies.now) × (s.end.board ≡ ends.now) × (s.take.in_hand ≡ None)) starts.items }
+        move |scope| -> Result<(Vec<Finish<L, C, G>>, T), RunFault>
+            requires own { All (λ s. IsReady intake.now replies.now ends.now s) starts.items }
             requires work { W.IsAlwaysCallable work }
             ensures worked { IfOk result (λ r. W.post work r.1) }
-            ensures hands { IfOk result (λ r. AreHands intake.entry.now (map (λ s. s.hand) starts.items) → AreHands intake.entry.now (map (λ e. e.hand) r.0.items)) }
-            ensures takes { IfOk result (λ r. AreTakes replies.entry.now (map (λ s. s.take) starts.items) → AreTakes replies.entry.now (map (λ e. e.take) r.0.items)) }
-            ensures ended { IfOk result (λ r. (k : ℕ) (s : _) (e : _) → slice_get starts.items k ≡ Some s → slice_get r.0.items k ≡ Some e
-                → HasLedThere turns (at_start s.session s.hand s.take (L.said s.line)) (at_start e.session e.hand e.take (L.said e.line)) × (e.take.in_hand ≡ None)) }
+            ensures served { IfOk result (λ r. AreServed turns starts.items r.0.items) }
         {
-            laws::one_reader();
             let handles = start_all(scope, rt, alloc, starts, intake, replies, ends, turns)?;
             let done = work();
             match join_all(rt, handles) {
-                Ok(ended) => Ok((ended, done)),
+                Ok(finished) => Ok((finished, done)),
                 Err(_) => Err(RunFault::NoMemory),
             }
         },

@@ -7,10 +7,9 @@ ghost use Rattle.gateway.specs.Steps.{Settled};
 ghost use Rattle.gateway.specs.Thread as thread;
 ghost use Rattle.gateway.specs.Thread.{standing, runs};
 
-use crate::line::{Accept, Clock, Gate, Line, LineFault, Read};
-use crate::outgoing::Outgoing;
+use crate::line::{Accept, Gate, Line, LineFault, Read};
 use crate::piece::{Given, PIECE, Piece};
-use crate::session_loop::Ended;
+use crate::looping::Ended;
 use crate::stepping::{StepsEnd, step_to_the_end};
 use fix_dictionary::Item;
 use fix_session::{Session, Step, laws};
@@ -18,6 +17,7 @@ use intake_seats::{Board, HandSeat, TakeSeat};
 use sef_moment::Moment;
 use std::marker::Model;
 use std::sync::Wait;
+use venue_worker::{Clock, Outgoing};
 
 /// What a look at the reply seat led to.
 #[derive(Drop)]
@@ -288,7 +288,7 @@ impl<L: Line> SessionThread<L> {
         ensures moves { (r : Reader) → standing self.new ≡ runs r (thread.read_events result) (standing self.old) }
         ensures seats { (self.new.hand ≡ self.old.hand) × (self.new.take ≡ self.old.take) }
         ensures plenty { result ≡ Reading.Plenty → 1024 ≤ length self.old.session.ready }
-        ensures few { ¬ (result ≡ Reading.Plenty) → length self.old.session.ready < 1024 }
+        ensures few { thread.is_read (Some result) ≡ true → length self.old.session.ready < 1024 }
     {
         if self.session.ready_len() >= MOST_READY {
             return Reading::Plenty;
@@ -401,6 +401,7 @@ impl<L: Line> SessionThread<L> {
         ensures seats { (self.new.hand ≡ self.old.hand) × (self.new.take ≡ self.old.take) }
         ensures asked { is_some result ≡ may_read }
         ensures plenty { result ≡ Some Reading.Plenty → 1024 ≤ length self.old.session.ready }
+        ensures few { thread.is_read result ≡ true → length self.old.session.ready < 1024 }
     {
         if may_read { Some(self.read(rt)) } else { None }
     }

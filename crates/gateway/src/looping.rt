@@ -1,17 +1,18 @@
 //! The loop of a session's thread.
 ghost use Rattle.std.specs.Prelude.{◌≡◌, List, [], ◌∷◌, ◌++◌, Option, None};
 ghost use Rattle.fix_session.specs.Reader.{Reader};
+ghost use Rattle.intake_seats.specs.Ends.{IsSameHander};
 ghost use Rattle.gateway.specs.Thread.{Mark, Loops, gates, moments};
 ghost use Rattle.gateway.specs.Thread.{at_start};
 ghost use Rattle.gateway.specs.Whole.{HasLed};
 
-use crate::line::{Clock, Gate, Line};
-use crate::outgoing::Outgoing;
+use crate::line::{Gate, Line};
 use crate::turn::SessionThread;
 use fix_dictionary::Item;
 use fix_session::{Session, laws};
 use intake_seats::{Board, HandSeat, TakeSeat};
 use std::sync::Wait;
+use venue_worker::{Clock, Outgoing};
 
 // Makes so many turns, or fewer where the line is over or the mark was collected.
 fn run_turns<R: Wait, L: Line, C: Clock, G: Gate>(
@@ -36,6 +37,18 @@ fn run_turns<R: Wait, L: Line, C: Clock, G: Gate>(
     }
 }
 
+// Hands the mark of a session that ends: where none was handed at its seat, it is, once.
+fn hand_mark<G: Gate>(end: &mut HandSeat<()>, ends: &Board<()>, gate: &mut G)
+    requires own { end.old.board ≡ ends.now }
+    ensures seat { IsSameHander end.old end.new }
+    ensures marked { end.old.given ≡ [] → end.new.given ≡ tt ∷ [] }
+    ensures gate { G.passed gate.new ≡ G.passed gate.old }
+{
+    if end.hand(ends, ()).is_ok() {
+        gate.stirred();
+    }
+}
+
 /// What a session's thread gives back.
 #[derive(Drop)]
 pub struct Ended<L> {
@@ -45,7 +58,8 @@ pub struct Ended<L> {
     pub take: TakeSeat<Outgoing>,
 }
 
-/// A session between its line and its seats, for so many turns; it may wait where the line, the gate or the clock does.
+/// A session between its line and its seats, for so many turns; it may wait where the line, the gate or the clock does. As it
+/// ends it hands a mark, once.
 pub fn session_loop<R: Wait, L: Line, C: Clock, G: Gate>(
     rt: &R,
     session: Session,
@@ -54,7 +68,7 @@ pub fn session_loop<R: Wait, L: Line, C: Clock, G: Gate>(
     gate: &mut G,
     hand: HandSeat<Item>,
     take: TakeSeat<Outgoing>,
-    end: HandSeat<()>,
+    end: &mut HandSeat<()>,
     intake: &Board<Item>,
     replies: &Board<Outgoing>,
     ends: &Board<()>,
@@ -62,17 +76,18 @@ pub fn session_loop<R: Wait, L: Line, C: Clock, G: Gate>(
 ) -> Ended<L>
     requires intake { hand.board ≡ intake.now }
     requires replies { take.board ≡ replies.now }
-    requires ends { end.board ≡ ends.now }
+    requires ends { end.old.board ≡ ends.now }
     requires nothing_in_hand { take.in_hand ≡ None }
     ensures session { HasLed turns (at_start session hand take (L.said line)) (at_start result.session result.hand result.take (L.said result.line)) (G.passed gate.old) (G.passed gate.new) (C.answered clock.old) (C.answered clock.new) }
     ensures nothing_in_hand { result.take.in_hand ≡ None }
+    ensures seat { IsSameHander end.old end.new }
+    ensures marked { end.old.given ≡ [] → end.new.given ≡ tt ∷ [] }
 {
     laws::taken_then_ready();
     laws::replies_in_order();
     laws::one_reader();
     let mut thread = SessionThread::new(session, line, hand, take);
     run_turns(rt, &mut thread, clock, gate, intake, replies, turns);
-    let mut end = end;
-    let _ = end.hand(ends, ());
+    hand_mark(end, ends, gate);
     thread.into_parts()
 }
