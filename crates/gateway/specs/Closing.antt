@@ -1,5 +1,5 @@
 -- What stands once the sessions have ended and both boards are closed.
-use Rattle.std.specs.Prelude.{◌≡◌, ℕ, List, [], ◌∷◌, ◌++◌, map, Bool, true, false, Option}
+use Rattle.std.specs.Prelude.{◌≡◌, List, ◌++◌, Bool, true, false, Option}
 use Rattle.std.specs.Option.{option_to_list}
 use Rattle.fix_dictionary.specs.declared.messages.App.{App}
 use Rattle.fix_dictionary.specs.declared.messages.Item.{Item}

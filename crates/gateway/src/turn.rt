@@ -8,8 +8,8 @@ ghost use Rattle.gateway.specs.Thread as thread;
 ghost use Rattle.gateway.specs.Thread.{standing, runs};
 
 use crate::line::{Accept, Gate, Line, LineFault, Read};
-use crate::piece::{Given, PIECE, Piece};
 use crate::looping::Ended;
+use crate::piece::{Given, PIECE, Piece};
 use crate::stepping::{StepsEnd, step_to_the_end};
 use fix_dictionary::Item;
 use fix_session::{Session, Step, laws};

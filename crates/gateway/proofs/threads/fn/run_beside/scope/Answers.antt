@@ -1,5 +1,5 @@
-use Rattle.std.proofs.Common.{◌≡◌, ◌∙◌, ap, sym, subst, List, ℕ, length, map}
-use Rattle.std.specs.Prelude.{Some, slice_get}
+use Rattle.std.proofs.Common.{◌∙◌, ap, sym, subst, List, ℕ, length}
+use Rattle.std.specs.Prelude.{slice_get}
 use Rattle.gateway.specs.Served.{Served, HasServed, begun}
 use Rattle.gateway.proofs.Joins.{at_map}
 use Rattle.gateway.proofs.Reached.{slice_map}
