@@ -1,0 +1,2 @@
+-- the line of a trade
+pub mod Line

@@ -1,0 +1,7 @@
+//! The lines that tell the trades of a day, each with what its room was, for who looks whether it was made lawfully.
+#![tactic(auto)]
+
+mod line;
+mod printing;
+
+pub use printing::{PrintFault, print_trades};
