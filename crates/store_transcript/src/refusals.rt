@@ -1,0 +1,22 @@
+//! The refusals for want of memory that a run may meet.
+
+use anyhow::{Result, ensure};
+
+/// How many calls may still be refused for want of memory: as many as growths are, so that none is refused without that cause.
+#[derive(Drop)]
+pub struct Refusals {
+    left: u32,
+}
+
+impl Refusals {
+    pub fn at_most(left: u32) -> Refusals {
+        Refusals { left }
+    }
+
+    /// One more call was refused. An error where no growth can have been.
+    pub fn one_more(&mut self) -> Result<()> {
+        ensure!(self.left > 0, "a call was refused, and no growth");
+        self.left -= 1;
+        Ok(())
+    }
+}
