@@ -8,8 +8,6 @@ mod hander;
 pub mod laws;
 mod plays;
 mod taker;
-#[cfg(test)]
-mod tests;
 mod views;
 
 pub use board::{Board, MOST_SEATS};

@@ -2,8 +2,8 @@ use Rattle.std.proofs.Common.{◌≡◌, ◌≢◌, ◌⊎◌, inl, inr, ⊎_eli
 use Rattle.std.proofs.lemmas.List.{length-set}
 use Rattle.std.proofs.lemmas.Option.{slice_get_read, slice_get_within}
 use Rattle.std.specs.Prelude.{Option, slice_get, IfSome}
-use Rattle.intake_seats.proofs.tests.each_seat_has_its_own_message.Invariants.{Own, OwnPutBack}
-use Rattle.intake_seats.proofs.tests.each_seat_has_its_own_message.Goals as goal
+use Rattle.seats_tests.proofs.tests.each_seat_has_its_own_message.Invariants.{Own, OwnPutBack}
+use Rattle.seats_tests.proofs.tests.each_seat_has_its_own_message.Goals as goal
 
 at_set : {A : Type 0} (xs : List A) (i k : ℕ) (a x : A) → slice_get (set xs i a) k ≡ Some x → ((k ≡ i) × (a ≡ x)) ⊎ ((k ≢ i) × (slice_get xs k ≡ Some x))
 at_set [] i k a x e = absurd (cc)

@@ -3,7 +3,7 @@ use Rattle.std.specs.Prelude.{slice_get, IfSome}
 use Rattle.atomic_table.specs.Seated.{TableId}
 use Rattle.intake_seats.specs.Given.{TakeEnd}
 use Rattle.intake_seats.specs.Ends.{AreHands, AreTakes}
-use Rattle.intake_seats.proofs.tests.each_seat_has_its_own_message.Given as goal
+use Rattle.seats_tests.proofs.tests.each_seat_has_its_own_message.Given as goal
 
 -- the taker's end of seat k, with nothing in hand but the seat's number
 abbrev pub Own : TableId → ℕ → TakeEnd ℕ → Type 0

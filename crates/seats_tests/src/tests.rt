@@ -1,7 +1,7 @@
 ghost use Rattle.std.specs.Prelude.{◌≡◌, ◌+◌, true, None, Some, IfOk, vec_len};
 ghost use Rattle.intake_seats.specs.Ends.{AreHands, AreTakes, IsSameHander, IsSameTaker};
 
-use crate::{Board, HandSeat, MOST_SEATS, TakeSeat, Unclosed};
+use intake_seats::{Board, HandSeat, MOST_SEATS, TakeSeat, Unclosed};
 use std::alloc::{AllocError, Global};
 use std::test::*;
 use std::thread;
