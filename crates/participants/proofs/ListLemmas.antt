@@ -22,6 +22,10 @@ any-seen p vs ds h = sym (list_any-map p view vs) ∙ ap (list_any p) h
 pub map-more : {X Y : Type 0} (f : X → Y) (xs : List X) (i : ℕ) (x : X) → x ≡ get_or xs i x → i < length xs → map f (take (i + 1) xs) ≡ map f (take i xs) ++ (f x ∷ [])
 map-more f xs i x at within = ap (map f) (take_more xs i x within) ∙ (map-append f (take i xs) (get_or xs i x ∷ []) ∙ ap (λ y. map f (take i xs) ++ (f y ∷ [])) (sym at))
 
+-- one more value is pushed behind those of the first so many
+pub pushed-more : {X Y : Type 0} (f : X → Y) (xs : List X) (i : ℕ) (x : X) (so_far new : List Y) (y : Y) → so_far ≡ map f (take i xs) → new ≡ so_far ++ (y ∷ []) → y ≡ f x → x ≡ get_or xs i x → i < length xs → new ≡ map f (take (i + 1) xs)
+pushed-more f xs i x so_far new y before more is at within = more ∙ ap (λ l. l ++ (y ∷ [])) before ∙ ap (λ z. map f (take i xs) ++ (z ∷ [])) is ∙ sym (map-more f xs i x at within)
+
 -- a member passes a test that all pass
 pub all-at : {X : Type 0} (p : X → Bool) (xs : List X) (i : ℕ) (x : X) → list_all p xs ≡ true → x ≡ get_or xs i x → i < length xs → p x ≡ true
 all-at p xs i x all at within = by (p x) refl
