@@ -1,11 +1,11 @@
-use Rattle.std.proofs.Common.{◌≡◌, refl, sym, ap, ◌∙◌, ℕ, Bool, true, false, not, cond, ◌&&◌, ◌||◌, ◌==◌, nat_le, List, [], ◌∷◌, find, filter, Option, bytes_eq}
+use Rattle.std.proofs.Common.{◌≡◌, refl, ap, ◌∙◌, ℕ, Bool, true, false, not, cond, ◌||◌, nat_le, List, [], ◌∷◌, find, filter}
 use Rattle.std.specs.List.{list_any}
 use Rattle.venue_rules.specs.declared.facts.Entry.{Entry}
 use Rattle.venue_rules.specs.declared.facts.Fact.{Fact}
 use Rattle.venue_rules.specs.declared.facts.Fact.TheVariants.{Entered, Traded, Removed, Held, Unheld, Asked, Quoted, Withdrawn, Closed}
 use Rattle.venue_rules.specs.declared.facts.HeldSide.{HeldSide}
 use Rattle.venue_rules.specs.declared.facts.Removal.{Removal}
-use Rattle.venue_rules.specs.Facts.{held_sides, is_bytes, is_cross_id_used, is_name, is_order_id_used, uses_order_id}
+use Rattle.venue_rules.specs.Facts.{held_sides, is_cross_id_used, is_name, is_order_id_used, uses_order_id}
 use Rattle.venue_rules.specs.Delay.{due, earliest, find_held, held, releases}
 use Rattle.cross_delay.specs.DelayFacts.{delay_facts}
 use Rattle.cross_delay.specs.Views.{stands}

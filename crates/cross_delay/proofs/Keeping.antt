@@ -1,5 +1,5 @@
-use Rattle.std.proofs.Common.{◌≡◌, refl, sym, ap, ◌∙◌, subst, ℕ, suc, ◌+◌, ◌≤◌, ◌<◌, Bool, true, false, not, cond, ◌&&◌, ◌||◌, ◌==◌, nat_lt, nat_le, List, [], ◌∷◌, ◌++◌, length, length-append, find, filter, Option, Some, None, IsSome, arith, bytes_eq}
-use Rattle.std.specs.List.{list_all, list_any}
+use Rattle.std.proofs.Common.{◌≡◌, refl, sym, ap, ◌∙◌, subst, ℕ, suc, ◌+◌, ◌≤◌, ◌<◌, Bool, true, false, not, cond, ◌&&◌, ◌||◌, ◌==◌, nat_le, List, [], ◌∷◌, ◌++◌, length, length-append, find, filter, Option, IsSome, arith, bytes_eq}
+use Rattle.std.specs.List.{list_any}
 use Rattle.std.proofs.lemmas.Bool.{eq-eqb, eqb-true}
 use Rattle.std.proofs.lemmas.Bool.Decides.{nat_tests}
 use Rattle.std.proofs.lemmas.List.Elements.{filter_map-append, filter-append}
@@ -7,14 +7,13 @@ use Rattle.std.proofs.lemmas.List.{append-nil}
 use Rattle.std.proofs.lemmas.List.Folds.{list_all-append, list_any-append}
 use Rattle.std.proofs.lemmas.Slice.Eq.{bytes_eq-Decides}
 use Rattle.venue_rules.specs.declared.facts.Fact.{Fact}
-use Rattle.venue_rules.specs.declared.facts.Fact.TheVariants.{Held, Unheld}
 use Rattle.venue_rules.specs.declared.facts.HeldSide.{HeldSide}
 use Rattle.venue_rules.specs.Facts.{held_in, held_sides, is_name}
 use Rattle.venue_rules.specs.Delay.{find_held, held, held_room, releases}
 use Rattle.cross_delay.specs.Contents.{Contents}
 use Rattle.cross_delay.specs.DelayFacts.{is_delay_fact}
 use Rattle.cross_delay.specs.Kept.{IsDelay, are_own}
-use Rattle.cross_delay.specs.Plans.{drop_plan, hold_plan, is_full}
+use Rattle.cross_delay.specs.Plans.{drop_plan}
 use Rattle.cross_delay.specs.Steps.{Step, Nothing, Holds, Drops, IsAllowed, IsPlanOf, facts_of}
 use Rattle.cross_delay.specs.Views.{stands}
 
@@ -36,7 +35,7 @@ fewer true false x xs ys h k = absurd (never (h refl))
 fewer false true x xs ys h k = omega arith
 fewer false false x xs ys h k = k
 
-filter-less : (p q : HeldSide → Bool) (xs : List HeldSide) → ((x : HeldSide) → p x ≡ true → q x ≡ true) → length (filter p xs) ≤ length (filter q xs)
+pub filter-less : (p q : HeldSide → Bool) (xs : List HeldSide) → ((x : HeldSide) → p x ≡ true → q x ≡ true) → length (filter p xs) ≤ length (filter q xs)
 filter-less p q [] h = omega arith
 filter-less p q (x ∷ xs) h = fewer (p x) (q x) x (filter p xs) (filter q xs) (h x) (filter-less p q xs h)
 

@@ -10,3 +10,8 @@ pub mod Contents
 pub mod Kept
 -- what may happen to held sides in one step
 pub mod Steps
+-- what is kept of the facts: the sides that are held, and the identifiers that were used
+pub mod Past
+pub mod ByDue
+pub mod Used
+pub mod Standing

@@ -1,12 +1,15 @@
 //! The held sides of crosses: the second side of a cross enters the book only after the delay (17 CFR 37.9(b)(1)).
 //!
-//! The facts of the day are held in order, and the definitions of `venue_rules` read everything off them.
+//! The sides that are held and the identifiers that were used are kept; contracts see the facts of the day, and the definitions of
+//! `venue_rules` that read everything off them.
 #![tactic(auto)]
 
 mod held;
 mod laws;
+mod past;
 mod plan;
-mod reading;
+mod sides;
+mod used;
 
 pub use held::{Held, Refusal};
 pub use laws::{delay_is_read_alone, due_side_is_held};

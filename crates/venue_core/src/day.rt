@@ -78,7 +78,7 @@ fn add_of_orders(day: &mut Day, answer: OrderAnswer)
     day.book.apply(fills);
     day.held.apply(holds);
     let _book = day.book.facts_are_own();
-    let _held = day.held.facts();
+    let _held = day.held.facts_are_own();
 }
 
 // Adds what is read back of a quote that is the first of its room.

@@ -1,0 +1,9 @@
+use Rattle.std.proofs.Common.{◌∙◌, ap}
+use Rattle.std.specs.List.{list_any}
+use Rattle.sorted_names.specs.Names.{is_of}
+use Rattle.cross_delay.specs.Past.{facts_in}
+use Rattle.cross_delay.proofs.Leaving.{crossed-names}
+use Rattle.cross_delay.proofs.held.Held.crossed.Goals as goal
+
+pub returns : goal.returns
+returns c = rw (← c.self.view_is) (c.has.ensures ∙ ap (list_any (is_of c.args.who c.args.id.now)) c.self.invariant.crosses ∙ crossed-names (facts_in c.self.inside.past) c.args.who c.args.id.now)
