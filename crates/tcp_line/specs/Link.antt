@@ -1,0 +1,35 @@
+-- What contracts see of a connection, and what reading and writing do to it.
+use Rattle.std.specs.Prelude.{◌≡◌, ℕ, Bool, true, false, List, ◌++◌, take, Option}
+use Rattle.std.specs.Io.KnownBytes.{Appends, Consumes, Keeps, IsAtEnd, append_known}
+use Rattle.gateway.specs.declared.line.Read.{Read}
+use Rattle.gateway.specs.declared.line.Read.TheVariants as read
+
+-- what is to come, where that is known; what the system took, where that is known; and what waits to be given to it
+pub record Link : Type 0 where
+  pub coming : Option (List ℕ)
+  pub taken : Option (List ℕ)
+  pub waiting : List ℕ
+
+-- what the system took or is to be given
+abbrev pub promised : Link → Option (List ℕ)
+promised l = append_known l.taken l.waiting
+
+-- what is to be given to the system once these are written
+abbrev pub due : Link → List ℕ → List ℕ
+due l bytes = l.waiting ++ bytes
+
+-- these wait behind those that waited, or nothing changed
+abbrev pub kept : Bool → Link → List ℕ → Link
+kept true l bytes = record l { waiting = l.waiting ++ bytes }
+kept false l bytes = l
+
+-- a first part of these was taken
+abbrev pub TookPart : Option (List ℕ) → Option (List ℕ) → List ℕ → Type 0
+TookPart old new bytes = (part : List ℕ) × (rest : List ℕ) × (bytes ≡ part ++ rest) × Appends old new part
+
+-- what came stands at the front of the buffer; the peer has ended only where nothing is to come, and else nothing came
+abbrev pub HasRead : Option (List ℕ) → Option (List ℕ) → Read → List ℕ → Type 0
+HasRead old new (read.Got count) buffer = Consumes old new (take count buffer)
+HasRead old new read.Quiet buffer = Keeps old new
+HasRead old new read.Ended buffer = Keeps old new × IsAtEnd new
+HasRead old new read.Fault buffer = Keeps old new

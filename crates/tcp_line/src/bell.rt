@@ -1,0 +1,120 @@
+//! How a thread that has nothing to do waits, and how another wakes it.
+
+use mio::{Events, Poll, Registry, Token, Waker};
+use std::alloc::{AllocError, Global};
+use std::net::Net;
+use std::sync::Arc;
+use std::sync::atomic::{AtomicU64, Ordering};
+use std::thread::Threads;
+use std::time::Duration;
+use std::{io, thread};
+
+/// The token of a bell among what its thread waits for.
+const BELL: Token = Token(0);
+
+/// How many milliseconds a thread waits at most. A wake-up that were lost would cost this, and nothing else.
+const LONGEST: u64 = 100;
+
+/// With so many processors a thread spins longer before it waits.
+const MANY_PROCESSORS: usize = 4;
+
+/// How many turns that found nothing a thread makes before it waits.
+pub fn spins<R: Threads>(rt: &R) -> u64 {
+    match thread::available_parallelism(rt) {
+        Ok(count) if count.get() >= MANY_PROCESSORS => 200,
+        _ => 20,
+    }
+}
+
+/// Wakes the thread that waits for it. It carries nothing, and no promise rests on it.
+#[derive(Drop)]
+pub struct Bell {
+    asleep: AtomicU64,
+    waker: Waker,
+}
+
+impl Bell {
+    // From now on the bell wakes the thread, once.
+    fn set_asleep(&self) {
+        self.asleep.store(1, Ordering::SeqCst);
+    }
+
+    fn set_awake(&self) {
+        self.asleep.store(0, Ordering::SeqCst);
+    }
+
+    /// Wakes the thread, if it sleeps. Whoever rings has done before what the thread is to find.
+    pub fn ring(&self) {
+        if self.asleep.load(Ordering::SeqCst) == 0 {
+            return;
+        }
+        if self.asleep.swap(0, Ordering::SeqCst) != 0 {
+            let _ = self.waker.wake();
+        }
+    }
+}
+
+/// A thread that waits for its bell, and for what else is registered.
+#[derive(Drop)]
+pub struct Sleeper {
+    poll: Poll,
+    events: Events,
+    bell: Arc<Bell>,
+    /// So many turns in a row found nothing.
+    idle: u64,
+    spins: u64,
+}
+
+impl Sleeper {
+    /// One that waits after so many turns that found nothing.
+    pub fn new<R: Net>(rt: &R, alloc: Global, spins: u64) -> io::Result<Sleeper> {
+        let poll = Poll::new(rt)?;
+        let waker = Waker::new(poll.registry(), BELL)?;
+        let bell = Bell {
+            asleep: AtomicU64::new(0),
+            waker,
+        };
+        Ok(Sleeper {
+            poll,
+            events: Events::with_capacity(alloc, 8)?,
+            bell: Arc::new(alloc, bell)?,
+            idle: 0,
+            spins,
+        })
+    }
+
+    /// Its bell, for another thread.
+    pub fn bell(&self) -> Result<Arc<Bell>, AllocError> {
+        Arc::try_clone(&self.bell)
+    }
+
+    /// Where sockets are registered that it is to wait for.
+    pub fn registry(&self) -> io::Result<Registry> {
+        self.poll.registry().try_clone()
+    }
+
+    /// The last turn found something.
+    pub fn stay(&mut self) {
+        if self.idle >= self.spins {
+            self.bell.set_awake();
+        }
+        self.idle = 0;
+    }
+
+    /// The last turn found nothing. After some such turns it tells that it sleeps, and one turn later, in which it would find what
+    /// was done before, it waits for something to happen.
+    pub fn rest(&mut self) {
+        self.idle = self.idle.saturating_add(1);
+        if self.idle < self.spins {
+            return;
+        }
+        if self.idle == self.spins {
+            self.bell.set_asleep();
+            return;
+        }
+        let longest = Duration::from_millis(LONGEST);
+        let _ = self.poll.poll(&mut self.events, Some(longest));
+        self.bell.set_awake();
+        self.idle = self.spins.saturating_sub(1);
+    }
+}

@@ -1,0 +1,101 @@
+//! The system's clock, for sessions and for the worker.
+ghost use Rattle.std.specs.Prelude.{◌≡◌, ◌/◌, ◌^◌, [], min};
+ghost use Rattle.std.specs.Duration.{as_nanos};
+ghost use Rattle.sef_moment.specs.Utc.{greatest};
+
+use crate::bell::{Bell, Sleeper};
+use gateway::past::Past;
+use sef_moment::Moment;
+use std::sync::Arc;
+use std::time::Duration;
+use std::{mem, time};
+use venue_worker::Clock;
+
+// The moment so long after the start of 1970, or the greatest one.
+fn moment_after(elapsed: Duration) -> Moment
+    ensures { result ≡ min (as_nanos elapsed / 10 ^ 6) greatest }
+{
+    let start = Moment::of_ms(0).unwrap();
+    let milliseconds = elapsed.as_millis().min(u64::MAX as u128);
+    start.plus(milliseconds as u64)
+}
+
+/// The system's clock. Where it cannot be read, it answers what it answered last.
+#[derive(Drop)]
+pub struct SystemClock<T> {
+    clock: T,
+    last: Moment,
+    past: Past<Moment>,
+}
+
+impl<T: time::Clock> SystemClock<T> {
+    /// It answers nothing before this moment where the clock cannot be read.
+    pub fn from(clock: T, moment: Moment) -> SystemClock<T>
+        ensures { ⟦<SystemClock<T> as Clock>⟧.answered result ≡ [] }
+    {
+        SystemClock {
+            clock,
+            last: moment,
+            past: Past::new(),
+        }
+    }
+}
+
+impl<T: time::Clock> Clock for SystemClock<T> {
+    ghost use Rattle.gateway.specs.Past.{entries};
+
+    ghost answered = { λ c. entries c.past };
+
+    fn now(&mut self) -> Moment {
+        if let Ok(elapsed) = self.clock.since_1970() {
+            self.last = moment_after(elapsed);
+        }
+        self.past.add(self.last);
+        self.last
+    }
+}
+
+/// The worker's clock: the system's, which waits before it answers where the last turns found nothing, until a session has moved a
+/// message. It wakes the sessions at whose seats the worker moved one.
+#[derive(Drop)]
+pub struct WorkerClock<T> {
+    clock: SystemClock<T>,
+    sleeper: Sleeper,
+    /// Of each participant.
+    sessions: Vec<Arc<Bell>>,
+    has_stirred: bool,
+}
+
+impl<T: time::Clock> WorkerClock<T> {
+    /// Over a clock, with the bells of all sessions in their order.
+    pub fn new(clock: SystemClock<T>, sleeper: Sleeper, sessions: Vec<Arc<Bell>>) -> WorkerClock<T>
+        ensures { ⟦<WorkerClock<T> as Clock>⟧.answered result ≡ ⟦<SystemClock<T> as Clock>⟧.answered clock }
+    {
+        WorkerClock {
+            clock,
+            sleeper,
+            sessions,
+            has_stirred: false,
+        }
+    }
+}
+
+impl<T: time::Clock> Clock for WorkerClock<T> {
+    ghost answered = { λ c. ⟦<SystemClock<T> as Clock>⟧.answered c.clock };
+
+    fn now(&mut self) -> Moment {
+        if mem::replace(&mut self.has_stirred, false) {
+            self.sleeper.stay();
+        } else {
+            self.sleeper.rest();
+        }
+        self.clock.now()
+    }
+
+    fn stirred(&mut self, participant: usize) {
+        self.has_stirred = true;
+        if let Some(bell) = self.sessions.get(participant) {
+            bell.ring();
+        }
+    }
+}

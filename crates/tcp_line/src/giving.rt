@@ -1,0 +1,66 @@
+//! Giving bytes to the system, all of them, and not for ever.
+ghost use Rattle.std.specs.Prelude.{◌≡◌, MatchResult};
+ghost use Rattle.std.specs.Io.KnownBytes.{Appends};
+ghost use Rattle.tcp_line.specs.Link.{TookPart};
+
+use gateway::line::LineFault;
+use std::io::{ErrorKind, Write};
+use std::time::{Clock, Duration, Instant};
+use std::{io, thread};
+
+/// How many seconds a peer that does not read is waited for.
+const LONGEST: u64 = 5;
+
+/// How many microseconds the system is left alone once it took nothing.
+const PAUSE: u64 = 50;
+
+/// How often the system is asked to take more, whatever the clock tells.
+const MOST_TRIES: u64 = 1_000_000;
+
+/// Gives all of these to the system, or a first part of them and then tells a fault. Where the system takes nothing it is asked
+/// again after a pause, for five seconds.
+pub(crate) fn give<O: Write, T: Clock>(
+    clock: &T,
+    output: &mut O,
+    bytes: &[u8],
+) -> Result<(), LineFault>
+    ensures { MatchResult result (λ _. Appends (O.contents output.old) (O.contents output.new) bytes.now) (λ _. TookPart (O.contents output.old) (O.contents output.new) bytes.now) }
+{
+    let mut rest = bytes;
+    let mut waited_since = None;
+    for _ in 0..MOST_TRIES {
+        if rest.is_empty() {
+            return Ok(());
+        }
+        match output.write(rest) {
+            Ok(0) => return Err(LineFault),
+            Ok(count) => rest = &rest[count..],
+            Err(error) => {
+                if !may_try_again(clock, error.kind(), &mut waited_since) {
+                    return Err(LineFault);
+                }
+            }
+        }
+    }
+    Err(LineFault)
+}
+
+// Whether a write that took nothing is to be tried again: after a signal at once, and where the system has no room after a
+// pause, unless it had none for too long.
+fn may_try_again<T: Clock>(clock: &T, kind: ErrorKind, waited_since: &mut Option<Instant>) -> bool {
+    match kind {
+        ErrorKind::Interrupted => true,
+        ErrorKind::WouldBlock => {
+            let Ok(now) = Instant::now(clock) else {
+                return false;
+            };
+            let began = *waited_since.get_or_insert(now);
+            if now.duration_since(began) >= Duration::from_secs(LONGEST) {
+                return false;
+            }
+            thread::sleep(clock, Duration::from_micros(PAUSE));
+            true
+        }
+        _ => false,
+    }
+}

@@ -1,0 +1,190 @@
+//! A line over one listener and at most one connection.
+ghost use Rattle.std.specs.Prelude.{◌≡◌, ◌≢◌, ◌^◌, ◌-◌, [], ◌∷◌, ◌++◌, IfOk, MatchResult, min};
+ghost use Rattle.gateway.specs.Said.{IsWithin, Accepted, faults_in};
+
+use crate::account::{Account, past_of};
+use crate::activity::Activity;
+use crate::connection::Connection;
+use gateway::line::{Accept, Line, LineFault, Read};
+use gateway::mem_line::Spoken;
+use gateway::piece::{Given, PIECE, Piece};
+use mio::unix::SourceFd;
+use mio::{Interest, Registry, Token};
+use std::alloc::Global;
+use std::io;
+use std::io::ErrorKind;
+use std::net::{TcpListener, TcpStream};
+use std::os::fd::AsRawFd;
+use std::sync::{Arc, Wait};
+use std::time::Clock;
+
+/// The tokens of the two sockets among what a session's thread waits for.
+const LISTENER: Token = Token(1);
+
+const STREAM: Token = Token(2);
+
+/// A line whose peer calls at a listener: one connection after another, and the next one ends the last.
+#[derive(Drop)]
+pub struct TcpLine<T> {
+    alloc: Global,
+    clock: T,
+    listener: TcpListener,
+    connection: Option<Connection<TcpStream, TcpStream>>,
+    registry: Registry,
+    activity: Arc<Activity>,
+    account: Account,
+}
+
+impl<T: Clock + Drop> TcpLine<T> {
+    /// Over this listener, which from now on waits for nobody. Both sockets are registered where the session's thread waits.
+    pub fn new(
+        alloc: Global,
+        clock: T,
+        listener: TcpListener,
+        registry: Registry,
+        activity: Arc<Activity>,
+    ) -> io::Result<TcpLine<T>>
+        ensures { IfOk result (λ line. ⟦<TcpLine<T> as Line>⟧.said line ≡ []) }
+    {
+        listener.set_nonblocking(true)?;
+        let descriptor = listener.as_raw_fd();
+        registry.register(&mut SourceFd(&descriptor), LISTENER, Interest::READABLE)?;
+        Ok(TcpLine {
+            alloc,
+            clock,
+            listener,
+            connection: None,
+            registry,
+            activity,
+            account: Account::new(),
+        })
+    }
+
+    /// Gives the system what still waits, and lets the connection go. Whether all that was written was taken.
+    pub fn close(&mut self) -> bool
+        ensures { self.new.account ≡ self.old.account }
+    {
+        match self.connection.take() {
+            None => true,
+            Some(mut connection) => connection.flush(&self.clock).is_ok(),
+        }
+    }
+
+    // Takes the next connection that waits at the listener.
+    fn next_connection(&mut self) -> Accept
+        ensures over { result ≢ Accept.Over }
+        ensures same { self.new.account ≡ self.old.account }
+    {
+        match self.listener.accept() {
+            Ok((stream, _)) => match self.prepare(stream) {
+                Ok(connection) => {
+                    self.connection = Some(connection);
+                    Accept::Up
+                }
+                Err(_) => Accept::Fault,
+            },
+            Err(error) => match error.kind() {
+                ErrorKind::WouldBlock => Accept::Quiet,
+                ErrorKind::Interrupted => Accept::Quiet,
+                ErrorKind::ConnectionAborted => Accept::Quiet,
+                _ => Accept::Fault,
+            },
+        }
+    }
+
+    // A stream that waits for nothing and sends at once, and wakes the session's thread.
+    fn prepare(&self, stream: TcpStream) -> io::Result<Connection<TcpStream, TcpStream>> {
+        stream.set_nodelay(true)?;
+        stream.set_nonblocking(true)?;
+        let descriptor = stream.as_raw_fd();
+        self.registry
+            .register(&mut SourceFd(&descriptor), STREAM, Interest::READABLE)?;
+        let output = stream.try_clone()?;
+        Ok(Connection::new(self.alloc, stream, output))
+    }
+
+    // Ends the connection that there is, and takes the next.
+    fn change(&mut self) -> Accept
+        ensures over { result ≢ Accept.Over }
+        ensures same { self.new.account ≡ self.old.account }
+    {
+        if !self.close() {
+            return Accept::Fault;
+        }
+        self.next_connection()
+    }
+
+    // Gives the system what waits, and reads once.
+    fn hear(&mut self, buffer: &mut [u8; PIECE]) -> Read
+        ensures within { IsWithin result }
+        ensures same { self.new.account ≡ self.old.account }
+    {
+        let Some(connection) = &mut self.connection else {
+            return Read::Fault;
+        };
+        if connection.flush(&self.clock).is_err() {
+            return Read::Fault;
+        }
+        connection.read(buffer)
+    }
+
+    // Whether the connection took all of these.
+    fn has_taken(&mut self, bytes: &[u8]) -> bool
+        ensures same { self.new.account ≡ self.old.account }
+    {
+        let Some(connection) = &mut self.connection else {
+            return false;
+        };
+        connection.write(&self.clock, bytes).is_ok()
+    }
+}
+
+impl<T: Clock + Drop> Line for TcpLine<T> {
+    ghost said = { λ l. l.account };
+
+    fn accept<R: Wait>(&mut self, _rt: &R) -> Accept
+        ensures over { result ≢ Accept.Over }
+        ensures said { self.new.account ≡ self.old.account ++ Accepted result ∷ [] }
+    {
+        let answer = self.change();
+        match answer {
+            Accept::Quiet => {}
+            Accept::Up | Accept::Over | Accept::Fault => self.activity.note(),
+        }
+        self.account.note(Spoken::Accepted { answer });
+        answer
+    }
+
+    fn read<R: Wait>(&mut self, _rt: &R, buffer: &mut [u8; PIECE]) -> Read {
+        let answer = self.hear(buffer);
+        let given = match answer {
+            Read::Got { count } => Given::Got {
+                piece: Piece::front(buffer, count),
+            },
+            Read::Quiet => Given::Quiet,
+            Read::Ended => Given::Ended,
+            Read::Fault => Given::Fault,
+        };
+        match given {
+            Given::Quiet => {}
+            _ => self.activity.note(),
+        }
+        self.account.note(Spoken::Gave { given });
+        answer
+    }
+
+    fn write<R: Wait>(&mut self, _rt: &R, bytes: &[u8]) -> Result<(), LineFault> {
+        let past = past_of(bytes);
+        self.activity.note();
+        if self.has_taken(bytes) {
+            self.account.note(Spoken::Took { bytes: past });
+            return Ok(());
+        }
+        self.account.note(Spoken::BrokeOff { bytes: past });
+        Err(LineFault)
+    }
+
+    fn faults(&self) -> u64 {
+        self.account.faults()
+    }
+}

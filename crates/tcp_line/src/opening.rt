@@ -1,0 +1,76 @@
+//! The lines, gates and clocks of a venue, joined by their bells.
+ghost use Rattle.std.specs.Prelude.{◌≡◌, ◌≤◌, ◌<◌, ◌+◌, ◌^◌, IfOk, length};
+
+use crate::activity::Activity;
+use crate::bell::{Bell, Sleeper, spins};
+use crate::clocks::{SystemClock, WorkerClock};
+use crate::gate::TcpGate;
+use crate::line::TcpLine;
+use sef_moment::Moment;
+use std::alloc::{AllocError, Global};
+use std::io;
+use std::net::{Net, TcpListener, TcpStream};
+use std::sync::Arc;
+use std::thread::Threads;
+use std::time::Clock;
+
+/// What a session's thread has of the outside.
+pub type Outside<T> = (TcpLine<T>, SystemClock<T>, TcpGate);
+
+/// What the threads of a venue have of the outside.
+#[derive(Drop)]
+pub struct Opened<T> {
+    /// Of each participant, in order.
+    pub sessions: Vec<Outside<T>>,
+    pub worker: WorkerClock<T>,
+}
+
+/// Opens a line for each participant, the first one at this port of 127.0.0.1 and each other at the next, and joins them with
+/// the worker's clock by bells.
+pub fn open_lines<
+    R: Net<Listener = TcpListener, Stream = TcpStream> + Threads,
+    T: Clock + Copy + Drop,
+>(rt: &R, alloc: Global, clock: T, port: u16, count: u16) -> io::Result<Opened<T>>
+    requires ports { port + count ≤ 2 ^ 16 }
+    ensures count { IfOk result (λ opened. length opened.sessions.items ≡ count) }
+{
+    let spins = spins(rt);
+    let start = Moment::of_ms(0).unwrap();
+    let at_worker = Sleeper::new(rt, alloc, spins)?;
+    let mut sessions = Vec::with_capacity(alloc, count as usize)?;
+    let mut bells = Vec::with_capacity(alloc, count as usize)?;
+    for k in 0..count {
+        let (outside, bell) = open_line(rt, alloc, clock, port + k, spins, at_worker.bell()?)?;
+        sessions.push(outside)?;
+        bells.push(bell)?;
+    }
+    Ok(Opened {
+        sessions,
+        worker: WorkerClock::new(SystemClock::from(clock, start), at_worker, bells),
+    })
+}
+
+// The line at a port, with the gate and the clock of its session, and the session's bell for the worker.
+fn open_line<R: Net<Listener = TcpListener, Stream = TcpStream>, T: Clock + Copy + Drop>(
+    rt: &R,
+    alloc: Global,
+    clock: T,
+    port: u16,
+    spins: u64,
+    worker: Arc<Bell>,
+) -> io::Result<(Outside<T>, Arc<Bell>)> {
+    let sleeper = Sleeper::new(rt, alloc, spins)?;
+    let bell = sleeper.bell()?;
+    let activity = Arc::new(alloc, Activity::new())?;
+    let listener = TcpListener::bind(rt, ("127.0.0.1", port))?;
+    let line = TcpLine::new(
+        alloc,
+        clock,
+        listener,
+        sleeper.registry()?,
+        Arc::try_clone(&activity)?,
+    )?;
+    let gate = TcpGate::new(sleeper, worker, activity);
+    let own = SystemClock::from(clock, Moment::of_ms(0).unwrap());
+    Ok(((line, own, gate), bell))
+}
