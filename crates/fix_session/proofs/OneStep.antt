@@ -1,6 +1,6 @@
 -- A step makes of a state what the machine says, from what its calls promise.
-use Rattle.std.proofs.Common.{◌≡◌, ℕ, List, ◌++◌, length, drop, true, false, Option, Some, None, refl, max, sym, ap, ◌∙◌, subst}
-use Rattle.std.proofs.lemmas.List.{drop_at}
+use Rattle.std.proofs.Common.{◌≡◌, ◌≤◌, ◌+◌, ◌-◌, arith, Bool, ℕ, List, ◌++◌, length, drop, true, false, Option, Some, None, refl, max, sym, ap, ◌∙◌, subst}
+use Rattle.std.proofs.lemmas.List.{drop_at, length-append}
 use Rattle.std.specs.Prelude.{IfSome, slice_range}
 use Rattle.fix_dictionary.specs.declared.messages.Item.{Item}
 use Rattle.resend_store.specs.declared.entry.Entry.{Entry}
@@ -10,8 +10,9 @@ use Rattle.fix_session.specs.Sent.{written, past_after, entries_in, marks}
 use Rattle.fix_session.specs.State.{State, era_of}
 use Rattle.fix_session.specs.declared.line.Line.{Line}
 use Rattle.fix_session.specs.declared.plan.Plan.{Plan}
-use Rattle.fix_session.specs.declared.plan.Step.{Step}
+use Rattle.fix_session.specs.declared.plan.Sends.{Sends}
 use Rattle.fix_session.specs.declared.plan.Step.TheVariants.{Idle}
+use Rattle.fix_session.specs.Table.{before, count}
 use Rattle.fix_session.specs.Machine.{step, moved, plan_in, line_after, item_of}
 use Rattle.fix_session.proofs.Steps.{step_heard, step_down, step_idle}
 
@@ -45,3 +46,11 @@ pub unchanged : (s : State) (unread : List ℕ) (past : List (List Entry)) (entr
     → unread ≡ s.unread → past ≡ s.past → entries ≡ s.entries → ready ≡ s.ready → wire ≡ s.wire
     → record s { unread = unread; past = past; entries = entries; ready = ready; wire = wire } ≡ s
 unchanged s unread past entries ready wire unread_is past_is entries_is ready_is wire_is = rw (unread_is, past_is, entries_is, ready_is, wire_is) refl
+
+-- what was appended to is no longer than what came of it
+pub longer : (old more new : List ℕ) → new ≡ old ++ more → length old ≤ length new
+longer old more new is = omega (arith, ap length is, length-append old more)
+
+-- the numbers that a plan needs, by the next number
+pub numbers_same : (begins : Bool) (sends : Sends) (len n : ℕ) → n ≡ len + 1 → before begins (n - 1) + count sends ≤ 999999999 → before begins len + count sends ≤ 999999999
+numbers_same begins sends len n is few = subst (λ k. before begins k + count sends ≤ 999999999) (let e : n - 1 ≡ len = omega arith in e) few
