@@ -1,5 +1,5 @@
 -- What contracts see of a connection, and what reading and writing do to it.
-use Rattle.std.specs.Prelude.{◌≡◌, ℕ, Bool, true, false, List, ◌++◌, take, Option}
+use Rattle.std.specs.Prelude.{◌≡◌, ℕ, Bool, true, false, List, [], ◌++◌, take, Option}
 use Rattle.std.specs.Io.KnownBytes.{Appends, Consumes, Keeps, IsAtEnd, append_known}
 use Rattle.gateway.specs.declared.line.Read.{Read}
 use Rattle.gateway.specs.declared.line.Read.TheVariants as read
@@ -33,3 +33,10 @@ HasRead old new (read.Got count) buffer = Consumes old new (take count buffer)
 HasRead old new read.Quiet buffer = Keeps old new
 HasRead old new read.Ended buffer = Keeps old new × IsAtEnd new
 HasRead old new read.Fault buffer = Keeps old new
+
+-- before a read that told no fault, all that waited was given to the system
+abbrev pub HasFlushed : Read → Link → Link → Type 0
+HasFlushed (read.Got count) old new = Appends old.taken new.taken old.waiting × (new.waiting ≡ [])
+HasFlushed read.Quiet old new = Appends old.taken new.taken old.waiting × (new.waiting ≡ [])
+HasFlushed read.Ended old new = Appends old.taken new.taken old.waiting × (new.waiting ≡ [])
+HasFlushed read.Fault old new = Unit {0}

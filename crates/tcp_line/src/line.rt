@@ -1,6 +1,7 @@
 //! A line over one listener and at most one connection.
 ghost use Rattle.std.specs.Prelude.{◌≡◌, ◌≢◌, ◌^◌, ◌-◌, [], ◌∷◌, ◌++◌, IfOk, MatchResult, min};
 ghost use Rattle.gateway.specs.Said.{IsWithin, Accepted, faults_in};
+ghost use Rattle.tcp_line.specs.Link.{HasFlushed, HasRead};
 
 use crate::account::{Account, past_of};
 use crate::activity::Activity;
@@ -114,28 +115,50 @@ impl<T: Clock + Drop> TcpLine<T> {
         self.next_connection()
     }
 
-    // Gives the system what waits, and reads once.
+    // Gives the system what waits, and reads once. A connection that told a fault is let go.
     fn hear(&mut self, buffer: &mut [u8; PIECE]) -> Read
         ensures within { IsWithin result }
         ensures same { self.new.account ≡ self.old.account }
     {
-        let Some(connection) = &mut self.connection else {
-            return Read::Fault;
+        let answer = match &mut self.connection {
+            None => Read::Fault,
+            Some(connection) => hear_out(connection, &self.clock, buffer),
         };
-        if connection.flush(&self.clock).is_err() {
-            return Read::Fault;
+        match answer {
+            Read::Fault => self.connection = None,
+            Read::Got { count: _ } | Read::Quiet | Read::Ended => {}
         }
-        connection.read(buffer)
+        answer
     }
 
-    // Whether the connection took all of these.
+    // Whether the connection took all of these. One that did not is let go.
     fn has_taken(&mut self, bytes: &[u8]) -> bool
         ensures same { self.new.account ≡ self.old.account }
     {
-        let Some(connection) = &mut self.connection else {
-            return false;
+        let has_taken = match &mut self.connection {
+            None => false,
+            Some(connection) => connection.write(&self.clock, bytes).is_ok(),
         };
-        connection.write(&self.clock, bytes).is_ok()
+        if !has_taken {
+            self.connection = None;
+        }
+        has_taken
+    }
+}
+
+// Gives the system what waits, and reads once.
+fn hear_out<I: io::Read, O: io::Write, T: Clock>(
+    connection: &mut Connection<I, O>,
+    clock: &T,
+    buffer: &mut [u8; PIECE],
+) -> Read
+    ensures within { IsWithin result }
+    ensures bytes { HasRead connection.old.coming connection.new.coming result buffer.new }
+    ensures written { HasFlushed result connection.old connection.new }
+{
+    match connection.flush(clock) {
+        Err(_) => Read::Fault,
+        Ok(()) => connection.read(buffer),
     }
 }
 
