@@ -1,0 +1,110 @@
+"""Writes what participants send, and times world_bench over it."""
+
+import os
+import subprocess
+import sys
+
+PROGRAM = "crates/world_bench/out/world_bench"
+SENT = "52=20250303-14:30:00|"
+LOGON = ("A", "98=0|108=30|1137=9|")
+# how many participants there are, and how many of them send
+CROWDS = ((2, 2), (5, 5), (32, 32), (32, 2))
+GONE = (1_000, 10_000, 100_000)
+# the messages that are timed: eleven batches of 100
+TIMED = 1_100
+TURNS = 3
+
+
+def order(number, symbol, side):
+    return "D", f"11=n{number}|55={symbol}|54={side}|38=100|40=2|44=2.5|"
+
+
+def refused(number, senders):
+    """An order in an instrument that is not listed."""
+    return number % senders, order(number, "NONE", 1)
+
+
+def come_and_gone(number, senders):
+    """An order that rests, or the cancel of the one before."""
+    who = number // 2 % senders
+    if number % 2 == 0:
+        return who, order(number, "IRS5Y", 1)
+    return who, ("F", f"11=n{number}|41=n{number - 1}|")
+
+
+def traded(number, senders):
+    """An order that rests, or one of the next participant that fills it."""
+    return number % senders, order(number, "IRS5Y", 1 + number % 2)
+
+
+KINDS = (("refused", refused), ("come and gone", come_and_gone), ("traded", traded))
+
+
+def name(place):
+    return f"P{place + 1:02}"
+
+
+def frame(place, number, kind, fields):
+    body = f"35={kind}|49={name(place)}|56=SEF|34={number}|{SENT}{fields}"
+    text = f"8=FIXT.1.1|9={len(body)}|{body}".replace("|", "\x01").encode()
+    return b"%d " % place + text + b"10=%03d\x01\n" % (sum(text) % 256)
+
+
+def stream(participants, senders, messages, kind):
+    """The participant file, and the frames: a Logon of each, and then so many messages in all."""
+    entries = "\n".join(f'[[participant]]\nname = "{name(place)}"' for place in range(participants))
+    lines = [f'venue = "SEF"\n{entries}\n\n'.encode()]
+    lines += [frame(place, 1, *LOGON) for place in range(participants)]
+    numbers = [2] * participants
+    for number in range(messages - participants):
+        place, message = kind(number, senders)
+        lines.append(frame(place, numbers[place], *message))
+        numbers[place] += 1
+    return b"".join(lines)
+
+
+def times(path):
+    """What world_bench tells of a message: nanoseconds through the world, the sessions and the venue."""
+    with open(path, "rb") as file:
+        said = subprocess.run([PROGRAM, "timed"], stdin=file, check=True, capture_output=True, text=True).stdout
+    words = said.splitlines()[-1].split()
+    return dict(zip(words[::2], map(int, words[1::2])))
+
+
+def best(told):
+    """The best of the turns: each part by itself."""
+    return {part: min(it[part] for it in told) for part in told[0]}
+
+
+def measure(kind, gone, place):
+    """For each crowd, what a message takes once so many came before, the crowds in turn."""
+    paths = [os.path.join(place, f"world_bench_{n}_{senders}.in") for n, senders in CROWDS]
+    for path, crowd in zip(paths, CROWDS):
+        with open(path, "wb") as file:
+            file.write(stream(*crowd, gone + TIMED, kind))
+    told = [[times(path) for path in paths] for _ in range(TURNS)]
+    for path in paths:
+        os.remove(path)
+    return [best(turns) for turns in zip(*told)]
+
+
+def main():
+    most, place = int(sys.argv[1]), sys.argv[2]
+    # builds it where it is not built, and plays the gate's few frames
+    with open("crates/world_bench/stdin", "rb") as file:
+        subprocess.run(["rt", "run"], cwd="crates/world_bench", check=True, stdin=file, capture_output=True)
+    for name, kind in KINDS:
+        for gone in (gone for gone in GONE if gone <= most):
+            print(f"{name}, {gone} before:")
+            told = measure(kind, gone, place)
+            for (n, senders), it in zip(CROWDS, told):
+                rest = it["world"] - it["sessions"] - it["venue"]
+                print(
+                    f"  {n} participants, {senders} send: {it['world']} ns (sessions {it['sessions']}, venue {it['venue']}, "
+                    f"the world's own {rest}), beside 2 participants {it['world'] / told[0]['world']:.2f}",
+                    flush=True,
+                )
+
+
+if __name__ == "__main__":
+    main()
