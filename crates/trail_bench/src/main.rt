@@ -8,7 +8,7 @@ mod recording;
 
 use anyhow::{Result, anyhow};
 use audit_trail::Trail;
-use recording::{empty_files, record_rows};
+use recording::{record_rows, small_files};
 use sqlite::{Alter, Connection};
 use std::alloc::Global;
 use std::env;
@@ -19,7 +19,7 @@ const FEW: u64 = 10;
 
 /// An empty trail.
 fn made<S: Alter + Drop>(alloc: Global, conn: Connection<S>) -> Result<Trail<S>> {
-    match Trail::create(alloc, conn, &empty_files(alloc)) {
+    match Trail::create(alloc, conn, &small_files(alloc)?) {
         Ok(trail) => Ok(trail),
         Err(_) => Err(anyhow!("no trail was made")),
     }

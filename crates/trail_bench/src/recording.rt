@@ -16,12 +16,19 @@ const START: u64 = 1_741_012_200_000;
 const TEXT: &[u8] =
     b"35=D\x0111=order-0001\x01583=link-0001\x0155=IRS5Y\x0154=1\x0138=100\x0140=2\x0144=2.5\x0159=0\x0160=20250303-14:30:00.000\x01";
 
-/// Files without a text.
-pub fn empty_files(alloc: Global) -> Files {
-    Files {
-        participants: FileText::from_vec(Vec::new(alloc)),
-        instruments: FileText::from_vec(Vec::new(alloc)),
-    }
+const PARTICIPANTS: &[u8] = b"venue = \"SEF\"\n[[participant]]\nname = \"ALPHA\"\n";
+
+const INSTRUMENTS: &[u8] =
+    b"[[instrument]]\nsymbol = \"IRS5Y\"\ntick = 2500\nleast = 1\nrfq_life = 30\n";
+
+/// The files of a venue with one participant and one instrument.
+pub fn small_files(alloc: Global) -> Result<Files> {
+    let participants = Vec::from_slice(alloc, PARTICIPANTS)?;
+    let instruments = Vec::from_slice(alloc, INSTRUMENTS)?;
+    Ok(Files {
+        participants: FileText::from_vec(participants),
+        instruments: FileText::from_vec(instruments),
+    })
 }
 
 /// The row with this number.
