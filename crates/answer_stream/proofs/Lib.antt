@@ -1,0 +1,5 @@
+mod First
+mod Going
+mod Stepping
+mod Events
+mod Outcomes
