@@ -6,7 +6,7 @@ ghost use Rattle.participants.specs.Names.{is_name};
 ghost use Rattle.participants.specs.ParticipantFile.{ParticipantFile};
 ghost use Rattle.participants.specs.Rows.{is_participant_file};
 ghost use Rattle.participants.specs.Reading.{IsFaultOf, Reads};
-ghost use Rattle.participants.specs.Relations.{apart, are_unrelated, find_participant, name_of, related, three_unrelated};
+ghost use Rattle.participants.specs.Relations.{apart, are_unrelated, find_participant, name_of, related, three_unrelated, Tells};
 
 use crate::fault::FileFault;
 use crate::name::Name;
@@ -179,13 +179,21 @@ impl Participants {
             .any(|b| self.has_third(requester, a, *b, recipients))
     }
 
-    /// Whether three of the recipients are pairwise different and unrelated, and each is so to the requester
-    /// (17 CFR 37.9(a)(3)).
-    pub fn three_unrelated(&self, requester: Who, recipients: &[Who]) -> bool
+    /// Whether three of the recipients are so.
+    fn has_three(&self, requester: Who, recipients: &[Who]) -> bool
         ensures { result ≡ three_unrelated self.now requester recipients.now }
     {
         recipients
             .iter()
             .any(|a| self.has_second(requester, *a, recipients))
+    }
+
+    /// Whether three of the recipients are pairwise different and unrelated, and each is so to the requester
+    /// (17 CFR 37.9(a)(3)).
+    pub fn three_unrelated(&self, requester: Who, recipients: &[Who]) -> bool
+        ensures test { result ≡ three_unrelated self.now requester recipients.now }
+        ensures related { Tells self.now requester recipients.now result }
+    {
+        self.has_three(requester, recipients)
     }
 }
