@@ -12,7 +12,7 @@ use crate::entering::SIDE_ROOM;
 use crate::orders::is_day;
 use crate::orders_kept::OrdersKept;
 use crate::sides::{enter_ladder, leave_ladder, reduce_ladder};
-use crate::slots::{find_number, leave_at, name_of, reduce_at, slot_of};
+use crate::slots::{find_entered, leave_at, name_of, reduce_at, slot_of};
 use fix_dictionary::Identifier;
 use sorted_names::NameIndex;
 use std::alloc::{AllocError, Global};
@@ -74,7 +74,7 @@ fn reduce(orders: &mut OrdersKept, number: u64, quantity: u64)
     ensures step { IsInStep orders.new }
     ensures room { (n : ℕ) → HasRoom n orders.old → HasRoom n orders.new }
 {
-    let Some(at) = find_number(&orders.slots, number) else {
+    let Some(at) = find_entered(&orders.slots, number) else {
         return;
     };
     let slot = &orders.slots[at];
@@ -94,7 +94,7 @@ fn leave(orders: &mut OrdersKept, number: u64)
     ensures step { IsInStep orders.new }
     ensures room { (n : ℕ) → HasRoom n orders.old → HasRoom n orders.new }
 {
-    let Some(at) = find_number(&orders.slots, number) else {
+    let Some(at) = find_entered(&orders.slots, number) else {
         return;
     };
     let slot = &orders.slots[at];

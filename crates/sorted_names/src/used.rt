@@ -1,0 +1,85 @@
+//! Identifiers that were used, of which it is asked alone whether one is there.
+ghost use Rattle.std.specs.Prelude.{◌≡◌, ℕ, ◌+◌, ◌≤◌, ◌<◌, ◌^◌, ◌||◌, [], false, List, IfOk};
+ghost use Rattle.std.specs.List.{list_any};
+ghost use Rattle.sorted_names.specs.Names.{is_of};
+ghost use Rattle.sorted_names.specs.Used.{most};
+
+use crate::names::Name;
+use fix_dictionary::Identifier;
+use participants::Who;
+use std::alloc::{AllocError, Global};
+use std::collections::HashSet;
+use std::hash::{BuildHasherDefault, FoldHasher};
+use std::marker::Model;
+
+// No more names are added to one set of them.
+const MOST: u64 = 0x7fff_ffff_ffff_ffff;
+
+/// Names that were used: whether one was is found by its hash, whatever the count of them.
+#[derive(Drop)]
+pub struct UsedNames {
+    names: HashSet<Name, BuildHasherDefault<FoldHasher>, Global>,
+    count: u64,
+}
+
+impl Model for UsedNames {
+    ghost use Rattle.sorted_names.specs.Used.{Known, known, AreUsed};
+
+    ghost Value = { Known };
+
+    ghost view = { known };
+
+    ghost invariant = { AreUsed };
+}
+
+impl UsedNames {
+    /// No names.
+    pub fn new(alloc: Global) -> UsedNames
+        ensures names { result.names ≡ [] }
+        ensures count { result.count ≡ 0 }
+    {
+        UsedNames {
+            names: HashSet::new(alloc),
+            count: 0,
+        }
+    }
+
+    /// How many names were added.
+    pub fn count(&self) -> u64
+        ensures value { result ≡ self.now.count }
+        ensures bound { result < 2 ^ 63 }
+    {
+        self.count
+    }
+
+    /// Makes room for so many names more.
+    pub fn reserve(&mut self, more: usize) -> Result<(), AllocError>
+        ensures names { (who : ℕ) (id : List ℕ) → list_any (is_of who id) self.new.names ≡ list_any (is_of who id) self.old.names }
+        ensures count { self.new.count ≡ self.old.count }
+        ensures room { IfOk result (λ _. more ≤ self.new.room) }
+        ensures grown { self.old.room ≤ self.new.room }
+    {
+        if MOST - self.count < more as u64 {
+            return Err(AllocError);
+        }
+        self.names.reserve(more)
+    }
+
+    /// Whether there is such a name.
+    pub fn has(&self, who: Who, id: &Identifier) -> bool
+        ensures { result ≡ list_any (is_of who id.now) self.now.names }
+    {
+        self.names.contains(&Name { who, id: *id })
+    }
+
+    /// One name more, for which there is room.
+    pub fn add(&mut self, name: Name)
+        requires { 1 ≤ self.old.room }
+        ensures names { (who : ℕ) (id : List ℕ) → list_any (is_of who id) self.new.names ≡ (is_of who id name || list_any (is_of who id) self.old.names) }
+        ensures count { self.new.count ≡ self.old.count + 1 }
+        ensures room { self.old.room ≤ self.new.room + 1 }
+    {
+        let _added = self.names.insert(name);
+        self.count += 1;
+    }
+}
