@@ -1,0 +1,63 @@
+-- What holds of the dictionaries.
+use Rattle.std.specs.Prelude.{◌≡◌, ◌⊎◌, ℕ, Bool, true, false, not, ◌&&◌, ◌||◌, List, [], ◌∷◌, ◌++◌, length, nat_lt, Option, Some, None, map}
+use Rattle.std.specs.List.{list_all}
+use Rattle.std.specs.Str.{bytes_eq}
+use Rattle.fix_dictionary.specs.Tables.{header_rows, rows_of}
+use Rattle.fix_dictionary.specs.Kinds.{type_of}
+use Rattle.fix_dictionary.specs.Table.{value_fault}
+use Rattle.data_dictionary.specs.declared.tables.Row.{Row}
+use Rattle.data_dictionary.specs.declared.message_types.MessageType.{MessageType}
+use Rattle.data_dictionary.specs.Fields.{data_type_of, name_of}
+use Rattle.data_dictionary.specs.Layout.{header_told, lines_in, rows_told, said_by}
+use Rattle.data_dictionary.specs.MessageTypes.{application_types, code_of, session_types}
+use Rattle.data_dictionary.specs.Values.{values_of}
+
+-- the lines of a table say each of its rows once, in order, with its tag, whether it is required, and its group
+abbrev pub SaysEachRow : List Row → Type 0
+SaysEachRow rows = said_by [] (lines_in 0 rows) ≡ rows
+
+-- Each row of each table is said once.
+abbrev pub EachRowIsSaid : Type 0
+EachRowIsSaid = SaysEachRow header_told × ((kind : MessageType) → SaysEachRow (rows_told kind))
+
+-- the types of both dictionaries, by what 35 says
+abbrev pub codes_told : List (List ℕ)
+codes_told = map code_of (session_types ++ application_types)
+
+abbrev pub is_among : List ℕ → List (List ℕ) → Bool
+is_among text [] = false
+is_among text (other ∷ others) = bytes_eq text other || is_among text others
+
+-- no text stands twice
+abbrev pub are_distinct : List (List ℕ) → Bool
+are_distinct [] = true
+are_distinct (text ∷ texts) = not (is_among text texts) && are_distinct texts
+
+-- A type that neither dictionary lists has no table: its messages have no tags of their own. No type is listed twice.
+abbrev pub EachTableIsTold : Type 0
+EachTableIsTold = ((kind : List ℕ) (begin : ℕ) → (is_among kind codes_told ≡ true) ⊎ (length (rows_of (type_of kind) begin) ≡ 0))
+    × (are_distinct codes_told ≡ true)
+
+-- each number is above the one before
+abbrev pub are_rising : List ℕ → Bool
+are_rising [] = true
+are_rising (n ∷ ns) = list_all (nat_lt n) ns && are_rising ns
+
+-- The tags of each dictionary stand once, under names of their own.
+abbrev pub NamesTellFields : List ℕ → Type 0
+NamesTellFields tags = (are_rising tags ≡ true) × (are_distinct ([] ∷ map name_of tags) ≡ true)
+
+-- Of the fields that have values in a dictionary, each value is one that is read, in each table.
+abbrev pub is_none : {A : Type 0} → Option A → Bool
+is_none None = true
+is_none (Some x) = false
+
+abbrev pub all_of : {A : Type 0} → List A → (A → Bool) → Bool
+all_of things test = list_all test things
+
+abbrev pub are_read : List ℕ → Bool
+are_read kind = all_of (rows_of (type_of kind) 0) (λ row. all_of (values_of (data_type_of row.tag)) (λ named. is_none (value_fault row.form named.value)))
+
+abbrev pub ValuesAreRead : Type 0
+ValuesAreRead = (list_all are_read codes_told ≡ true)
+    × (all_of header_rows (λ row. all_of (values_of (data_type_of row.tag)) (λ named. is_none (value_fault row.form named.value))) ≡ true)

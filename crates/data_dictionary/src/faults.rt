@@ -1,0 +1,24 @@
+//! Why a dictionary was not written.
+
+use std::alloc::AllocError;
+use thiserror::Error;
+
+/// Why a dictionary was not written.
+#[derive(Clone, Copy, Debug, PartialEq, Eq, Error)]
+pub enum WriteFault {
+    /// 1: memory was refused. Nothing was written.
+    #[error("memory")]
+    Memory,
+    /// 2: a write failed.
+    #[error("output")]
+    Output,
+    /// 3: a table has a tag that no field here has; none of this version's tables has one. Nothing was written.
+    #[error("a field has no name")]
+    Unnamed,
+}
+
+impl From<AllocError> for WriteFault {
+    fn from(_: AllocError) -> WriteFault {
+        WriteFault::Memory
+    }
+}

@@ -1,0 +1,25 @@
+//! What holds of the dictionaries.
+ghost use Rattle.data_dictionary.specs.Laws.{EachRowIsSaid, EachTableIsTold, NamesTellFields, ValuesAreRead};
+ghost use Rattle.data_dictionary.specs.Layout.{application_tags, transport_tags};
+
+/// The lines of each table say each of its rows once, in order, with its tag, whether it is required, and the group in whose lines it
+/// stands.
+pub fn each_row_is_said()
+    ensures { EachRowIsSaid }
+{}
+
+/// A type that neither dictionary lists has no table, and none is listed twice.
+pub fn each_table_is_told()
+    ensures { EachTableIsTold }
+{}
+
+/// No tag and no name of a field stands twice in a dictionary, and each field has a name: so a name tells its tag.
+pub fn names_tell_fields()
+    ensures transport { NamesTellFields transport_tags }
+    ensures application { NamesTellFields application_tags }
+{}
+
+/// Each value that a dictionary has for a field is one that is read, in each table that has the field.
+pub fn values_are_read()
+    ensures { ValuesAreRead }
+{}

@@ -1,0 +1,14 @@
+//! The venue's messages as QuickFIX's data dictionaries.
+#![tactic(auto)]
+
+mod dictionaries;
+mod faults;
+mod fields;
+mod laws;
+mod lines;
+mod message_types;
+mod tables;
+
+pub use dictionaries::{Dictionary, write_dictionary};
+pub use faults::WriteFault;
+pub use laws::{each_row_is_said, each_table_is_told, names_tell_fields, values_are_read};

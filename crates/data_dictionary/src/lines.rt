@@ -1,0 +1,105 @@
+//! The lines of a table, in QuickFIX's XML.
+ghost use Rattle.std.specs.Prelude.{◌≡◌, ◌++◌, OnOk};
+ghost use Rattle.std.specs.List.{flat_map};
+ghost use Rattle.fix_fields.specs.Views.{joined};
+ghost use Rattle.data_dictionary.specs.Dictionaries.{answer, attributes, line_text, table_text};
+ghost use Rattle.data_dictionary.specs.Layout.{is_counted, lines_in};
+
+use crate::faults::WriteFault;
+use crate::fields::field_of;
+use crate::tables::Row;
+
+/// A line of a message.
+#[derive(Clone, Copy)]
+pub(crate) enum Line {
+    /// a field
+    Field(Row),
+    /// the count field of a group, whose instances' rows have the lines up to the group's end
+    GroupBegin(Row),
+    GroupEnd,
+}
+
+/// Appends texts, one behind the other.
+pub(crate) fn append(text: &mut Vec<u8>, parts: &[&str]) -> Result<(), WriteFault>
+    ensures { OnOk result (text.new.items ≡ text.old.items ++ joined parts.now) }
+{
+    for part in parts {
+        text.extend_from_slice(part.as_bytes())?;
+    }
+    Ok(())
+}
+
+#[tactic(auto, unfolding(crate::specs::Dictionaries::answer))]
+fn answer(required: bool) -> &'static str
+    ensures { result.now ≡ answer required }
+{
+    if required { "Y" } else { "N" }
+}
+
+// Appends which field a row has, and whether it is required.
+#[tactic(auto, unfolding(crate::specs::Dictionaries::attributes))]
+fn append_attributes(text: &mut Vec<u8>, row: Row) -> Result<(), WriteFault>
+    ensures { OnOk result (text.new.items ≡ text.old.items ++ attributes row) }
+{
+    let Some((name, _)) = field_of(row.tag) else {
+        return Err(WriteFault::Unnamed);
+    };
+    append(
+        text,
+        &[" name='", name, "' required='", answer(row.required), "'"],
+    )
+}
+
+#[tactic(auto, unfolding(crate::specs::Dictionaries::line_text))]
+fn append_line(text: &mut Vec<u8>, line: Line) -> Result<(), WriteFault>
+    ensures { OnOk result (text.new.items ≡ text.old.items ++ line_text line) }
+{
+    match line {
+        Line::Field(row) => {
+            append(text, &["      <field"])?;
+            append_attributes(text, row)?;
+            append(text, &["/>\n"])
+        }
+        Line::GroupBegin(row) => {
+            append(text, &["      <group"])?;
+            append_attributes(text, row)?;
+            append(text, &[">\n"])
+        }
+        Line::GroupEnd => append(text, &["      </group>\n"]),
+    }
+}
+
+fn is_counted(tag: u32, rows: &[Row]) -> bool
+    ensures { result ≡ is_counted tag rows.now }
+{
+    rows.iter().any(|row| row.group == tag)
+}
+
+// Appends the lines of the rows that stand in this group, 0 for outside of groups. A count field has the lines of its instances' rows
+// behind it.
+fn append_rows(text: &mut Vec<u8>, group: u32, rows: &[Row]) -> Result<(), WriteFault>
+    ensures { OnOk result (text.new.items ≡ text.old.items ++ flat_map line_text (lines_in group rows.now)) }
+{
+    let Some((row, rest)) = rows.split_first() else {
+        return Ok(());
+    };
+    if row.group != group {
+        return append_rows(text, group, rest);
+    }
+    if !is_counted(row.tag, rest) {
+        append_line(text, Line::Field(*row))?;
+        return append_rows(text, group, rest);
+    }
+    append_line(text, Line::GroupBegin(*row))?;
+    append_rows(text, row.tag, rest)?;
+    append_line(text, Line::GroupEnd)?;
+    append_rows(text, group, rest)
+}
+
+/// Appends the lines of a table.
+#[tactic(auto, unfolding(crate::specs::Dictionaries::table_text))]
+pub(crate) fn append_table(text: &mut Vec<u8>, rows: &[Row]) -> Result<(), WriteFault>
+    ensures { OnOk result (text.new.items ≡ text.old.items ++ table_text rows.now) }
+{
+    append_rows(text, 0, rows)
+}
