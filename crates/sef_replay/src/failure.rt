@@ -1,0 +1,108 @@
+//! How the program ends where it does not end well.
+
+ghost use Rattle.std.specs.Prelude.{◌≡◌};
+ghost use Rattle.sef_replay.specs.Failures.{code_failure, open_failure, status_of, trail_failure};
+ghost use Rattle.sef_replay.specs.declared.failure.Failure.TheVariants.{Stopped as Stops};
+
+use sqlite::{Error as StoreError, ErrorCode};
+use std::alloc::AllocError;
+use thiserror::Error;
+use venue_rules::TrailFault;
+
+/// What stopped the program.
+#[derive(Clone, Copy, Debug, PartialEq, Eq, Error)]
+pub enum Stop {
+    /// Memory was refused.
+    #[error("memory")]
+    Memory,
+    /// The file is there and cannot be read.
+    #[error("input")]
+    Input,
+    /// A write failed.
+    #[error("output")]
+    Output,
+    /// Somebody else has the trail open, the disk failed, or what was opened was not read back as it was.
+    #[error("trail")]
+    Trail,
+}
+
+/// Why the program ends with a status other than 0. Its text goes to standard error.
+#[derive(Debug, Drop, Error)]
+pub enum Failure {
+    /// Status 1.
+    #[error("stopped: {0}")]
+    Stopped(Stop),
+    /// Status 2.
+    #[error("command line refused")]
+    CommandLine,
+    /// Status 3: the number of the trail's fault.
+    #[error("trail refused {0}")]
+    Trail(u8),
+}
+
+impl Failure {
+    /// The status that the program ends with.
+    pub fn status(&self) -> u8
+        ensures { result ≡ status_of self.now }
+    {
+        match self {
+            Failure::Stopped(_) => 1,
+            Failure::CommandLine => 2,
+            Failure::Trail(_) => 3,
+        }
+    }
+}
+
+impl From<AllocError> for Stop {
+    fn from(_: AllocError) -> Stop {
+        Stop::Memory
+    }
+}
+
+impl From<Stop> for Failure {
+    ghost from_gives = { λ stop failure. failure ≡ Stops stop };
+
+    fn from(stop: Stop) -> Failure {
+        Failure::Stopped(stop)
+    }
+}
+
+impl From<TrailFault> for Failure {
+    ghost from_gives = { λ fault failure. failure ≡ trail_failure fault };
+
+    fn from(fault: TrailFault) -> Failure {
+        match fault {
+            TrailFault::Refused => Failure::Trail(1),
+            TrailFault::OtherFiles => Failure::Trail(2),
+            TrailFault::BadRow(_) => Failure::Trail(3),
+            TrailFault::OtherVersion => Failure::Trail(4),
+            TrailFault::BadDelay(_) => Failure::Trail(5),
+            TrailFault::NoMemory => Failure::Stopped(Stop::Memory),
+        }
+    }
+}
+
+impl From<StoreError> for Failure {
+    ghost from_gives = { λ error failure. failure ≡ open_failure error };
+
+    fn from(error: StoreError) -> Failure {
+        match error {
+            StoreError::SqliteFailure(code) => Failure::from(code),
+            _ => Failure::Trail(1),
+        }
+    }
+}
+
+impl From<ErrorCode> for Failure {
+    ghost from_gives = { λ code failure. failure ≡ code_failure code };
+
+    fn from(code: ErrorCode) -> Failure {
+        match code {
+            ErrorCode::OutOfMemory => Failure::Stopped(Stop::Memory),
+            ErrorCode::DatabaseBusy => Failure::Stopped(Stop::Trail),
+            ErrorCode::SystemIoFailure => Failure::Stopped(Stop::Trail),
+            ErrorCode::DiskFull => Failure::Stopped(Stop::Trail),
+            _ => Failure::Trail(1),
+        }
+    }
+}

@@ -1,0 +1,51 @@
+//! The market that a trail keeps.
+
+ghost use Rattle.std.specs.Prelude.{IfOk};
+ghost use Rattle.sef_replay.specs.Day.{AreKept, ReadsInstruments, ReadsParticipants};
+
+use crate::failure::Stop;
+use audit_trail::Files;
+use instruments::{DelayFault, FileFault as InstrumentsFault, Instruments};
+use participants::{FileFault as ParticipantsFault, Participants};
+use std::alloc::Global;
+
+/// The participants that the kept text tells.
+fn participants_kept(alloc: Global, text: &[u8]) -> Result<Participants, Stop>
+    ensures { IfOk result (λ file. ReadsParticipants text.now file) }
+{
+    match Participants::read(alloc, text) {
+        Ok(participants) => Ok(participants),
+        Err(ParticipantsFault::NoMemory) => Err(Stop::Memory),
+        Err(_) => Err(Stop::Trail),
+    }
+}
+
+/// The instruments that the kept text tells, each with the kept delay in the place of the one that the text tells: the delay by which
+/// the day ran.
+fn instruments_kept(alloc: Global, text: &[u8], delays: &[u64]) -> Result<Instruments, Stop>
+    ensures { IfOk result (λ rows. ReadsInstruments text.now delays.now rows) }
+{
+    match Instruments::read(alloc, text) {
+        Ok(told) => match told.with_delays(alloc, delays) {
+            Ok(instruments) => Ok(instruments),
+            Err(DelayFault::NoMemory) => Err(Stop::Memory),
+            Err(_) => Err(Stop::Trail),
+        },
+        Err(InstrumentsFault::NoMemory) => Err(Stop::Memory),
+        Err(_) => Err(Stop::Trail),
+    }
+}
+
+/// Who may trade, and what, as a trail keeps it. Where the trail was opened its readers took the texts and the delays, so that one that
+/// is refused here was not read back as it was.
+pub fn market_kept(
+    alloc: Global,
+    files: &Files,
+    delays: &[u64],
+) -> Result<(Participants, Instruments), Stop>
+    ensures { IfOk result (λ m. AreKept files.now delays.now m.0 m.1) }
+{
+    let participants = participants_kept(alloc, files.participants.as_slice())?;
+    let instruments = instruments_kept(alloc, files.instruments.as_slice(), delays)?;
+    Ok((participants, instruments))
+}

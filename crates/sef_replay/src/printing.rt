@@ -1,0 +1,63 @@
+//! The trades of the day that a database keeps as a trail, printed.
+
+ghost use Rattle.std.specs.Prelude.{IfOk, IfErr, OnOk};
+ghost use Rattle.std.specs.Io.KnownBytes.{Keeps};
+ghost use Rattle.sqlite.specs.State.{HasCleanDisk, Survives};
+ghost use Rattle.sqlite.specs.Held.{state};
+ghost use Rattle.audit_trail.specs.Trail.{kept_rows, store};
+ghost use Rattle.sef_replay.specs.Day.{IsFailureOf, TellsDay, TellsKept, UnlessPrinting, UnlessStopped};
+
+use crate::failure::{Failure, Stop};
+use crate::replaying::venue_kept;
+use audit_trail::Trail;
+use sqlite::{Alter, Connection};
+use std::alloc::Global;
+use std::io::Write;
+use trade_lines::{PrintFault, print_trades};
+
+/// Writes the lines of the trades of the day that a trail keeps.
+#[tactic(auto, using(crate::proofs::Kept::day_told))]
+fn print_kept<S: Alter, W: Write>(
+    alloc: Global,
+    trail: &mut Trail<S>,
+    writer: &mut W,
+) -> Result<(), Stop>
+    ensures told { HasCleanDisk (store S.Store trail.new) → OnOk result
+        (TellsKept trail.old.files trail.old.delays (kept_rows S.Store trail.old) (W.contents writer.old) (W.contents writer.new)) }
+    ensures unwritten { IfErr result (λ stop. UnlessStopped stop (Keeps (W.contents writer.old) (W.contents writer.new))) }
+    ensures crash { Survives (store S.Store trail.old) (store S.Store trail.new) (λ _. ⊥) }
+{
+    let venue = venue_kept(alloc, trail)?;
+    match print_trades(alloc, &venue, writer) {
+        Ok(()) => Ok(()),
+        Err(PrintFault::Memory) => Err(Stop::Memory),
+        Err(PrintFault::Output) => Err(Stop::Output),
+    }
+}
+
+/// Writes a line for each trade of the day that a database keeps as a trail, in their order, read back from its rows alone: these are
+/// replayed over the files and with the delays that it keeps. Nothing is written into the database, nor, where it is refused, to the
+/// writer. The connection comes back.
+#[tactic(auto, using(crate::proofs::Kept::kept_day, crate::proofs::Kept::survives_both, crate::proofs::Ends::fault_told, crate::proofs::Ends::refused_unwritten))]
+pub fn print_day<S: Alter, W: Write>(
+    alloc: Global,
+    conn: Connection<S>,
+    writer: &mut W,
+) -> Result<Connection<S>, (Failure, Connection<S>)>
+    ensures told { IfOk result (λ back. HasCleanDisk (state S.Store back) → TellsDay (state S.Store conn).now (W.contents writer.old) (W.contents writer.new)) }
+    ensures fault { IfErr result (λ e. HasCleanDisk (state S.Store e.1) → IsFailureOf (state S.Store conn).now e.0) }
+    ensures unwritten { IfErr result (λ e. UnlessPrinting e.0 (Keeps (W.contents writer.old) (W.contents writer.new))) }
+
+    // Nothing is committed: a crash leaves what it could leave before.
+    ensures crash { IfOk result (λ back. Survives (state S.Store conn) (state S.Store back) (λ _. ⊥)) }
+    ensures crash_err { IfErr result (λ e. Survives (state S.Store conn) (state S.Store e.1) (λ _. ⊥)) }
+{
+    let mut trail = match Trail::open(alloc, conn, None) {
+        Ok(trail) => trail,
+        Err((fault, conn)) => return Err((Failure::from(fault), conn)),
+    };
+    match print_kept(alloc, &mut trail, writer) {
+        Ok(()) => Ok(trail.into_connection()),
+        Err(stop) => Err((Failure::Stopped(stop), trail.into_connection())),
+    }
+}
