@@ -3,3 +3,6 @@ mod Going
 mod Stepping
 mod Events
 mod Outcomes
+mod Pieces
+mod Beginning
+mod Streams

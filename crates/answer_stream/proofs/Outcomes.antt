@@ -33,3 +33,7 @@ so_err (Err e) P Q f p = f e p
 pub so_some : {X : Type 0} (o : Option X) (P Q : X → Type 0) → ((x : X) → P x → Q x) → IfSome o P → IfSome o Q
 so_some None P Q f p = tt
 so_some (Some x) P Q f p = f x p
+
+pub all_ok : {X E : Type 0} (r : Result X E) (A B C D : Type 0) → (A → B → C → D) → OnOk r A → OnOk r B → OnOk r C → OnOk r D
+all_ok (Ok x) A B C D f a b c = f a b c
+all_ok (Err e) A B C D f a b c = tt

@@ -1,3 +1,5 @@
+-- a whole run: to be read first
+pub mod Stream
 -- the acts of a run
 pub mod Acts
 -- what holds of a run that stopped
@@ -6,3 +8,5 @@ pub mod Outcome
 pub mod Faults
 -- a part of a run
 pub mod Course
+-- a stream that is read
+pub mod Reading

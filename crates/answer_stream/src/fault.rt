@@ -11,7 +11,7 @@ use venue_rules::EventFault;
 /// Why a run stopped before the end of its input.
 #[derive(Clone, Copy, Debug, PartialEq, Eq, Error)]
 pub enum OnceFault {
-    /// 1: a growth was refused.
+    /// 1: a growth was refused; see also what an event's fault comes to.
     #[error("memory")]
     Memory,
     /// 2: a read failed, or 1,000,000,000 reads were made.

@@ -3,7 +3,10 @@
 
 mod answering;
 mod fault;
+mod opening;
+mod reading;
 mod sender;
+mod stream;
 
-pub use answering::answer_frames;
 pub use fault::OnceFault;
+pub use stream::answer_stream;

@@ -1,0 +1,218 @@
+-- What a whole run is.
+use Rattle.std.proofs.Common.{◌≡◌, ◌≤◌, ◌-◌, ◌==◌, ◌||◌, ℕ, suc, zero, List, [], ◌∷◌, ◌++◌, length, map, max, Bool, true, false, if◌then◌else◌, Option, Some, None, option_to_list, refl, sym, ap, ◌∙◌, subst, append-nil, slice_get, arith}
+use Rattle.std.specs.Io.KnownBytes.{Appends, Consumes}
+use Rattle.std.specs.List.{list_any}
+use Rattle.std.proofs.KnownBytes.{Appends-nil, Consumes-nil}
+use Rattle.std.proofs.Math.Dec.{eqb-suc-zero}
+use Rattle.std.proofs.Math.Nat.{max-eq_right}
+use Rattle.fix_dictionary.specs.declared.messages.App.{App}
+use Rattle.fix_dictionary.specs.declared.messages.Item.{Item}
+use Rattle.fix_session.specs.Chain.{accepted}
+use Rattle.fix_session.specs.Reader.{Reader}
+use Rattle.fix_session.specs.Sent.{numbered}
+use Rattle.venue_rules.specs.Market.{Market}
+use Rattle.venue_rules.specs.Run.{Input, Message, Tick, owed}
+use Rattle.venue_world.specs.declared.act.Act.{Act}
+use Rattle.venue_world.specs.declared.act.Act.TheVariants.{Alone, Takes, VenueTicks}
+use Rattle.venue_world.specs.declared.act.Doing.{Doing}
+use Rattle.venue_world.specs.declared.act.Doing.TheVariants.{Pieces, Steps, Ticks, Breaks, Resumes, Hands, Delivers, Collects, Cuts, Writes}
+use Rattle.venue_world.specs.declared.outgoing.Outgoing.{Outgoing}
+use Rattle.venue_world.specs.declared.outgoing.Outgoing.TheVariants.{Message as Reply, Cut}
+use Rattle.venue_world.specs.Headline.{Headline, OwedAll, TakenThenWaiting, heard_of, is_cut_of, items_of, taken_from, was_cut}
+use Rattle.venue_world.specs.Seen.{Seen, Shows}
+use Rattle.venue_world.specs.Side.{Side, for_session, for_venue, outgoing}
+use Rattle.venue_world.specs.World.{Stand, after_act, after_all, answered, at, emptied, first_behind, fresh_world, is_due, message_from, replies_after, seat_at, takes, unless_behind}
+use Rattle.answer_stream.specs.Acts.{IsAnswered, IsHeardOut, Leads, MayCome, OfFirst}
+use Rattle.answer_stream.specs.Course.{IsAllHeard, Went, Wrote}
+use Rattle.answer_stream.specs.Reading.{Halts}
+use Rattle.answer_stream.specs.Stream.{AnswersStream, Owes, Stopped, cuts_behind, opened, opening, run_of, taken}
+use Rattle.answer_stream.proofs.First.{of-so}
+use Rattle.answer_stream.proofs.Going.{after-append}
+
+-- All that was taken came from the first participant, at t.
+
+record AtMoment (t : ℕ) (w : Stand) : Type 0 where
+  pub moment : w.moment ≤ t
+  pub items : w.items ≡ taken t (taken_from 0 w.items)
+
+taken-more : (t : ℕ) (items : List Item) (x : Item) → taken t (items ++ x ∷ []) ≡ taken t items ++ message_from 0 x t ∷ []
+taken-more t [] x = refl
+taken-more t (y ∷ items) x = ap (λ (l : List Input). message_from 0 y t ∷ l) (taken-more t items x)
+
+one-more-if : (b : Bool) (y x : Item) (l l' : List Item) → l' ≡ l ++ x ∷ [] → (if b then y ∷ l' else l') ≡ (if b then y ∷ l else l) ++ x ∷ []
+one-more-if true y x l l' e = ap (λ (k : List Item). y ∷ k) e
+one-more-if false y x l l' e = e
+
+taken-from-more : (u : ℕ) (items : List Input) (x : Item) → taken_from 0 (items ++ message_from 0 x u ∷ []) ≡ taken_from 0 items ++ x ∷ []
+taken-from-more u [] x = refl
+taken-from-more u (Message y t ∷ items) x = one-more-if (y.from == 0) y.item x (taken_from 0 items) (taken_from 0 (items ++ message_from 0 x u ∷ [])) (taken-from-more u items x)
+taken-from-more u (Tick t ∷ items) x = taken-from-more u items x
+
+items-more : (t : ℕ) (w : Stand) (x : Item) → AtMoment t w → w.items ++ message_from 0 x t ∷ [] ≡ taken t (taken_from 0 (w.items ++ message_from 0 x t ∷ []))
+items-more t w x h =
+    ap (λ (l : List Input). l ++ message_from 0 x t ∷ []) h.items ∙ sym (taken-more t (taken_from 0 w.items) x) ∙ ap (taken t) (sym (taken-from-more t w.items x))
+
+unless-at : (t : ℕ) (fb : Option ℕ) (w' w : Stand) → AtMoment t w' → AtMoment t w → AtMoment t (unless_behind fb w' w)
+unless-at t None w' w h' h = h'
+unless-at t (Some j) w' w h' h = h
+
+takes-at : (t : ℕ) (w : Stand) (due : Bool) (seat : Option Item) → AtMoment t w → AtMoment t (takes w 0 t due seat)
+takes-at t w true seat h = h
+takes-at t w false None h = record { moment = omega arith; items = h.items }
+takes-at t w false (Some x) h =
+    let item = message_from 0 x t in
+    unless-at t (first_behind 0 (replies_after w.market w.items item) w.sides) (answered w item t (at 0 emptied w.sides)) w (record { moment = omega arith; items = items-more t w x h }) h
+
+take-at : (r : Reader) (t : ℕ) (w : Stand) → AtMoment t w → AtMoment t (after_act r w (Takes 0 t))
+take-at r t w h =
+    let e : max w.moment t ≡ t = max-eq_right h.moment in
+    subst (λ (u : ℕ). AtMoment t (takes w 0 u (is_due w.market w.items u) (seat_at 0 w.sides))) (sym e)
+    (takes-at t w (is_due w.market w.items t) (seat_at 0 w.sides) h)
+
+one-at : (r : Reader) (t : ℕ) (w : Stand) (a : Act) → MayCome r t w a → AtMoment t w → AtMoment t (after_act r w a)
+one-at r t w (Alone zero x) may h = record { moment = h.moment; items = h.items }
+one-at r t w (Alone (suc k) x) may h = absurd may
+one-at r t w (Takes zero u) may h = subst (λ (v : ℕ). AtMoment t (after_act r w (Takes 0 v))) (sym may) (take-at r t w h)
+one-at r t w (Takes (suc k) u) may h = absurd may
+one-at r t w (VenueTicks u) may h = absurd may
+
+all-at : (r : Reader) (t : ℕ) (w : Stand) (acts : List Act) → Leads r t w acts → AtMoment t w → AtMoment t (after_all r w acts)
+all-at r t w [] leads h = h
+all-at r t w (a ∷ acts) leads h = all-at r t (after_act r w a) acts leads.1 (one-at r t w a leads.0 h)
+
+cuts-at : (r : Reader) (t : ℕ) (w : Stand) (k : ℕ) → AtMoment t w → AtMoment t (after_all r w (cuts_behind k))
+cuts-at r t w zero h = h
+cuts-at r t w (suc k) h =
+    let before = cuts-at r t w k h in
+    subst (AtMoment t) (sym (after-append r w (cuts_behind k) (Alone (suc k) Cuts ∷ []))) (record { moment = before.moment; items = before.items })
+
+up-at : (r : Reader) (t : ℕ) (w : Stand) (k : ℕ) → AtMoment t w → AtMoment t (after_all r w (cuts_behind k ++ Alone 0 (Resumes t) ∷ []))
+up-at r t w k h =
+    let before = cuts-at r t w k h in
+    subst (AtMoment t) (sym (after-append r w (cuts_behind k) (Alone 0 (Resumes t) ∷ []))) (record { moment = before.moment; items = before.items })
+
+fresh-at : (m : Market) (t : ℕ) → AtMoment t (fresh_world m)
+fresh-at m t = record { moment = omega arith; items = refl }
+
+opened-at : (r : Reader) (m : Market) (t : ℕ) → AtMoment t (opened r m t)
+opened-at r m t = up-at r t (fresh_world m) (length m.participants.names - 1) (fresh-at m t)
+
+-- The first participant is not cut.
+
+uncut-more : (c d e : Bool) → (c || d) ≡ false → (d ≡ false → e ≡ false) → (c || e) ≡ false
+uncut-more true d e p f = p
+uncut-more false d e p f = f p
+
+uncut-append : (a b : List Act) → was_cut 0 a ≡ false → was_cut 0 b ≡ false → was_cut 0 (a ++ b) ≡ false
+uncut-append [] b p q = q
+uncut-append (x ∷ a) b p q = uncut-more (is_cut_of 0 x) (was_cut 0 a) (was_cut 0 (a ++ b)) p (λ p'. uncut-append a b p' q)
+
+cuts-uncut : (k : ℕ) → was_cut 0 (cuts_behind k) ≡ false
+cuts-uncut zero = refl
+cuts-uncut (suc k) = uncut-append (cuts_behind k) (Alone (suc k) Cuts ∷ []) (cuts-uncut k) (ap (λ (b : Bool). b || false) (eqb-suc-zero k))
+
+does-uncut : (r : Reader) (t : ℕ) (w : Stand) (x : Doing) → MayCome r t w (Alone 0 x) → is_cut_of 0 (Alone 0 x) ≡ false
+does-uncut r t w (Pieces bytes) may = refl
+does-uncut r t w (Steps u) may = refl
+does-uncut r t w (Ticks u) may = refl
+does-uncut r t w Breaks may = refl
+does-uncut r t w (Resumes u) may = refl
+does-uncut r t w Hands may = refl
+does-uncut r t w Delivers may = refl
+does-uncut r t w (Collects u) may = refl
+does-uncut r t w Cuts may = absurd may
+does-uncut r t w Writes may = refl
+
+one-uncut : (r : Reader) (t : ℕ) (w : Stand) (a : Act) → MayCome r t w a → is_cut_of 0 a ≡ false
+one-uncut r t w (Alone zero x) may = does-uncut r t w x may
+one-uncut r t w (Alone (suc k) x) may = absurd may
+one-uncut r t w (Takes k u) may = refl
+one-uncut r t w (VenueTicks u) may = refl
+
+all-uncut : (r : Reader) (t : ℕ) (w : Stand) (acts : List Act) → Leads r t w acts → was_cut 0 acts ≡ false
+all-uncut r t w [] leads = refl
+all-uncut r t w (a ∷ acts) leads = ap (λ (b : Bool). b || was_cut 0 acts) (one-uncut r t w a leads.0) ∙ all-uncut r t (after_act r w a) acts leads.1
+
+run-uncut : (r : Reader) (m : Market) (t : ℕ) (acts : List Act) → Leads r t (opened r m t) acts → was_cut 0 (run_of m t acts) ≡ false
+run-uncut r m t acts leads =
+    uncut-append (opening (length m.participants.names) t) acts (uncut-append (cuts_behind (length m.participants.names - 1)) (Alone 0 (Resumes t) ∷ []) (cuts-uncut (length m.participants.names - 1)) refl) (all-uncut r t (opened r m t) acts leads)
+
+-- Where nothing waits, all that was accepted is taken, and all that is owed is numbered.
+
+none-for-venue : (s : Side) → IsAnswered s → for_venue s ≡ []
+none-for-venue s a = ap (λ (seat : Option Item). option_to_list seat ++ s.session.ready) a.none_in_seat ∙ a.none_ready
+
+none-for-session : (s : Side) → IsAnswered s → for_session s ≡ []
+none-for-session s a = ap (λ (reply : Option Outgoing). option_to_list reply ++ s.queue) a.no_reply ∙ a.none_queued
+
+first-taken : (r : Reader) (m : Market) (acts : List Act) (sides : List Side) → OfFirst IsAnswered sides → TakenThenWaiting sides r m acts → taken_from 0 (items_of r m acts) ≡ accepted (heard_of r m 0 acts)
+first-taken r m acts [] a law = absurd a
+first-taken r m acts (s ∷ sides) a law =
+    let all = taken_from 0 (items_of r m acts) in
+    sym (append-nil all) ∙ ap (λ (l : List Item). all ++ l) (sym (none-for-venue s a)) ∙ law 0 s refl
+
+abbrev apps : List Outgoing → List App
+apps [] = []
+apps (Reply app ∷ rest) = app ∷ apps rest
+apps (Cut ∷ rest) = apps rest
+
+apps-of : (l : List App) → apps (outgoing l) ≡ l
+apps-of [] = refl
+apps-of (app ∷ l) = ap (λ (k : List App). app ∷ k) (apps-of l)
+
+first-owed : (r : Reader) (m : Market) (acts : List Act) (sides : List Side) → OfFirst IsAnswered sides → was_cut 0 acts ≡ false → OwedAll sides r m acts → OfFirst (Owes m (items_of r m acts)) sides
+first-owed r m acts [] a uncut law = absurd a
+first-owed r m acts (s ∷ sides) a uncut law =
+    let sent = outgoing (numbered s.session) in
+    let is : sent ≡ outgoing (owed m 0 (items_of r m acts)) = sym (append-nil sent) ∙ ap (λ (l : List Outgoing). sent ++ l) (sym (none-for-session s a)) ∙ law 0 s refl uncut in
+    sym (apps-of (numbered s.session)) ∙ ap apps is ∙ apps-of (owed m 0 (items_of r m acts))
+
+-- A whole run.
+
+abbrev pub KeepsItsWord : Type 0
+KeepsItsWord = (r : Reader) (m : Market) (acts : List Act) → Headline (after_all r (fresh_world m) acts).sides (after_all r (fresh_world m) acts).moment r m acts
+
+pub answers-stream : KeepsItsWord → (r : Reader) (m : Market) (t : ℕ) (old new : Seen) (input : List ℕ) (held held' : Option (List ℕ)) → Shows old (opened r m t)
+    → OfFirst IsAnswered new.sides → OfFirst IsAllHeard new.sides → Wrote t old new input held held'
+    → (output : List ℕ) × AnswersStream r m t input output × Appends held held' output
+answers-stream law r m t old new input held held' opens is_answered is_heard wrote =
+    let w : Stand = opened r m t in
+    let acts = wrote.went.acts in
+    let leads = wrote.went.leads r w opens in
+    let last : Stand = after_all r w acts in
+    let sides = (wrote.went.shows r w opens).sides in
+    let all = run_of m t acts in
+    let joined : after_all r (fresh_world m) all ≡ last = after-append r (fresh_world m) (opening (length m.participants.names) t) acts in
+    let word : Headline last.sides last.moment r m all = subst (λ (x : Stand). Headline x.sides x.moment r m all) joined (law r m all) in
+    let answered_there : OfFirst IsAnswered last.sides = subst (OfFirst IsAnswered) sides is_answered in
+    let at_t : AtMoment t (after_all r (fresh_world m) all) = subst (AtMoment t) (sym joined) (all-at r t w acts leads (opened-at r m t)) in (
+      wrote.given,
+      record {
+        acts = acts;
+        leads = leads;
+        reads = wrote.went.reads;
+        heard = subst (OfFirst (IsHeardOut r)) sides (of-so IsAllHeard (IsHeardOut r) new.sides is_heard (λ s h. h r));
+        answered = answered_there;
+        takes = at_t.items ∙ ap (taken t) (first-taken r m all last.sides answered_there word.taken_then_waiting);
+        owes = first-owed r m all last.sides answered_there (run-uncut r m t acts leads) word.owed_all;
+        gives = wrote.went.gives r w opens;
+      },
+      wrote.written,
+    )
+
+-- where a run stops
+pub stopped-at : (r : Reader) (m : Market) (t : ℕ) (old : Seen) (left left' held held' : Option (List ℕ)) → Shows old (opened r m t) → Halts t old left left' held held' → Stopped r m t left left' held held'
+stopped-at r m t old left left' held held' opens h =
+    let w : Stand = opened r m t in
+    record {
+      acts = h.wrote.went.acts;
+      lost = h.lost;
+      leads = h.wrote.went.leads r w opens;
+      consumed = subst (λ (l : List ℕ). Consumes left left' (l ++ h.lost)) (sym h.wrote.went.reads) h.consumed;
+      short = h.short;
+      written = subst (Appends held held') (sym (h.wrote.went.gives r w opens)) h.wrote.written;
+    }
+
+-- before anything is read
+pub stopped-at-once : (r : Reader) (m : Market) (t : ℕ) (left held : Option (List ℕ)) → Stopped r m t left left held held
+stopped-at-once r m t left held = record { acts = []; lost = []; leads = tt; consumed = Consumes-nil left; short = omega arith; written = Appends-nil held }
