@@ -10,7 +10,7 @@ use Rattle.venue_main.specs.declared.market.FilesFault.{FilesFault}
 use Rattle.venue_main.specs.declared.market.FilesFault.TheVariants as files
 use Rattle.venue_main.specs.declared.failure.Failure.{Failure}
 use Rattle.venue_main.specs.declared.failure.Failure.TheVariants.{Stopped, CommandLine, Participants, Instruments}
-use Rattle.venue_main.specs.declared.once.OnceFault.TheVariants.{Memory, Output}
+use Rattle.answer_stream.specs.declared.fault.OnceFault.TheVariants.{Memory, Output}
 
 -- the status that the program ends with
 abbrev pub status_of : Failure → ℕ

@@ -1,7 +1,6 @@
 //! The program of the venue.
 #![tactic(auto)]
 
-mod answering;
 mod check;
 mod command_line;
 mod failure;
