@@ -9,12 +9,17 @@ use Rattle.venue_main.specs.declared.check.CheckFault.TheVariants as check
 use Rattle.venue_main.specs.declared.market.FilesFault.{FilesFault}
 use Rattle.venue_main.specs.declared.market.FilesFault.TheVariants as files
 use Rattle.venue_main.specs.declared.failure.Failure.{Failure}
-use Rattle.venue_main.specs.declared.failure.Failure.TheVariants.{Stopped, CommandLine, Participants, Instruments}
+use Rattle.venue_main.specs.declared.failure.Failure.TheVariants.{Stopped, Served, CommandLine, Participants, Instruments}
 use Rattle.answer_stream.specs.declared.fault.OnceFault.TheVariants.{Memory, Output}
+use Rattle.gateway.specs.declared.threads.RunFault.{RunFault}
+use Rattle.gateway.specs.declared.threads.RunFault.TheVariants as run
+use Rattle.venue_main.specs.declared.serve.ServeFault.{ServeFault}
+use Rattle.venue_main.specs.declared.serve.ServeFault.TheVariants as serve
 
 -- the status that the program ends with
 abbrev pub status_of : Failure → ℕ
 status_of (Stopped fault) = 1
+status_of (Served fault) = 1
 status_of CommandLine = 2
 status_of (Participants number) = 3
 status_of (Instruments number) = 3
@@ -47,3 +52,9 @@ abbrev pub check_failure : CheckFault → Failure
 check_failure (check.Participants fault) = participants_failure fault
 check_failure (check.Instruments fault) = instruments_failure fault
 check_failure check.Output = Stopped Output
+
+-- why a venue is not served, where its run ends with this fault
+abbrev pub run_fault : RunFault → ServeFault
+run_fault run.NoMemory = serve.Memory
+run_fault run.NoThread = serve.Thread
+run_fault run.TrailRefused = serve.Trail

@@ -3,6 +3,7 @@
 use crate::failure::Failure;
 use crate::files::Paths;
 use crate::once::OnceFault;
+use crate::service::Service;
 use clap::error::ErrorKind;
 use clap::{Arg, ArgAction, ArgMatches, Command, Error};
 use sef_moment::{Moment, read_utc};
@@ -14,6 +15,8 @@ use std::{env, io};
 pub enum Task {
     /// `once --participants FILE --instruments FILE --at TIME`
     Once { paths: Paths, at: Moment },
+    /// `serve --participants FILE --instruments FILE --port P --turns N`
+    Serve { paths: Paths, service: Service },
     /// `check --participants FILE --instruments FILE`
     Check { paths: Paths },
     /// `--help`: the text was printed.
@@ -68,7 +71,29 @@ fn command_on_files<'a>(
         .arg(instruments)
 }
 
-/// The program's own command, with `once` and `check`.
+/// The command that serves the participants.
+fn command_of_serve<'a>(alloc: Global) -> Result<Command<'a>, AllocError> {
+    let port = needed(
+        alloc,
+        "port",
+        "P",
+        "The first participant's port, from 1024 to 65500; each other has the next",
+    );
+    let turns = needed(
+        alloc,
+        "turns",
+        "N",
+        "How many turns each thread makes, from 1 to 1000000000",
+    );
+    let serve = command_on_files(
+        alloc,
+        "serve",
+        "Serves each participant over TCP, at 127.0.0.1",
+    )?;
+    serve.arg(port)?.arg(turns)
+}
+
+/// The program's own command, with `once`, `serve` and `check`.
 fn program<'a>(alloc: Global) -> Result<Command<'a>, AllocError> {
     let at = needed(
         alloc,
@@ -86,6 +111,7 @@ fn program<'a>(alloc: Global) -> Result<Command<'a>, AllocError> {
         .about("A swap execution facility over FIX")
         .subcommand_required(true)
         .subcommand(once.arg(at)?)?
+        .subcommand(command_of_serve(alloc)?)?
         .subcommand(check)
 }
 
@@ -98,6 +124,9 @@ fn task_in(alloc: Global, words: &[String]) -> Result<Option<Task>, Error> {
         };
         return Ok(Some(Task::Check { paths }));
     }
+    if let Some(given) = matches.subcommand_matches("serve") {
+        return serve_in(alloc, given);
+    }
     let Some(given) = matches.subcommand_matches("once") else {
         return Ok(None);
     };
@@ -108,6 +137,31 @@ fn task_in(alloc: Global, words: &[String]) -> Result<Option<Task>, Error> {
         return Ok(None);
     };
     Ok(Some(Task::Once { paths, at }))
+}
+
+fn serve_in(alloc: Global, given: &ArgMatches<'_>) -> Result<Option<Task>, Error> {
+    let Some(service) = service_in(given) else {
+        return Ok(None);
+    };
+    let Some(paths) = paths_in(alloc, given)? else {
+        return Ok(None);
+    };
+    Ok(Some(Task::Serve { paths, service }))
+}
+
+fn service_in(given: &ArgMatches<'_>) -> Option<Service> {
+    let port = number_in(given.get_str("port")?)?;
+    let turns = number_in(given.get_str("turns")?)?;
+    Service::of(port, turns)
+}
+
+/// The number that a text of decimal digits alone stands for.
+fn number_in(text: &str) -> Option<u64> {
+    if text.as_bytes().iter().all(|byte| byte.is_ascii_digit()) {
+        text.parse::<u64>().ok()
+    } else {
+        None
+    }
 }
 
 fn paths_in(alloc: Global, given: &ArgMatches<'_>) -> Result<Option<Paths>, AllocError> {

@@ -2,11 +2,12 @@
 
 ghost use Rattle.std.specs.Prelude.{◌≡◌};
 ghost use Rattle.venue_main.specs.Failures.{check_failure, files_failure, instruments_failure, participants_failure, status_of};
-ghost use Rattle.venue_main.specs.declared.failure.Failure.TheVariants.{Stopped as Stops};
+ghost use Rattle.venue_main.specs.declared.failure.Failure.TheVariants.{Served as ServesNot, Stopped as Stops};
 
 use crate::check::CheckFault;
 use crate::market::FilesFault;
 use crate::once::OnceFault;
+use crate::serve::ServeFault;
 use thiserror::Error;
 
 /// Why the program ends with a status other than 0. Its text goes to standard error.
@@ -15,6 +16,9 @@ pub enum Failure {
     /// Status 1.
     #[error("stopped: {0}")]
     Stopped(OnceFault),
+    /// Status 1: a venue that is served stopped.
+    #[error("stopped: {0}")]
+    Served(ServeFault),
     /// Status 2.
     #[error("command line refused")]
     CommandLine,
@@ -33,6 +37,7 @@ impl Failure {
     {
         match self {
             Failure::Stopped(_) => 1,
+            Failure::Served(_) => 1,
             Failure::CommandLine => 2,
             Failure::Participants(_) => 3,
             Failure::Instruments(_) => 3,
@@ -45,6 +50,14 @@ impl From<OnceFault> for Failure {
 
     fn from(fault: OnceFault) -> Failure {
         Failure::Stopped(fault)
+    }
+}
+
+impl From<ServeFault> for Failure {
+    ghost from_gives = { λ fault failure. failure ≡ ServesNot fault };
+
+    fn from(fault: ServeFault) -> Failure {
+        Failure::Served(fault)
     }
 }
 

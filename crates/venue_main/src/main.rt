@@ -7,6 +7,8 @@ mod failure;
 mod files;
 mod market;
 mod once;
+mod serve;
+mod service;
 
 pub use check::{CheckFault, check};
 use command_line::{Task, task_given};
@@ -15,6 +17,8 @@ use files::{Texts, texts_at};
 pub use market::{FilesFault, Market};
 pub use once::{OnceFault, once};
 use sef_moment::Moment;
+pub use serve::{ServeFault, serve, tell_closed};
+use service::Service;
 use std::process::ExitCode;
 
 fn run_once(rt: &HostRuntime, texts: &Texts, at: Moment) -> Result<(), Failure> {
@@ -40,16 +44,46 @@ fn run_check(rt: &HostRuntime, texts: &Texts) -> Result<(), Failure> {
     Ok(())
 }
 
-fn run(rt: &HostRuntime) -> Result<(), Failure> {
+/// A market, and where it is to be served.
+#[derive(Drop)]
+struct Asked {
+    market: Market,
+    service: Service,
+}
+
+fn asked_for(rt: &HostRuntime, texts: &Texts, service: Service) -> Result<Asked, Failure> {
+    let market = Market::read(rt.alloc(), &texts.participants, &texts.instruments)?;
+    Ok(Asked { market, service })
+}
+
+/// Does what the command line asks for. What is to be served is handed back, since `main` alone may start threads.
+fn run(rt: &HostRuntime) -> Result<Option<Asked>, Failure> {
     match task_given(rt)? {
-        Task::Once { paths, at } => run_once(rt, &texts_at(rt, &paths)?, at),
-        Task::Check { paths } => run_check(rt, &texts_at(rt, &paths)?),
-        Task::Help => Ok(()),
+        Task::Once { paths, at } => run_once(rt, &texts_at(rt, &paths)?, at)?,
+        Task::Check { paths } => run_check(rt, &texts_at(rt, &paths)?)?,
+        Task::Serve { paths, service } => {
+            return Ok(Some(asked_for(rt, &texts_at(rt, &paths)?, service)?));
+        }
+        Task::Help => {}
     }
+    Ok(None)
 }
 
 fn main(rt: HostRuntime) -> ExitCode {
-    match run(&rt) {
+    let ended = match run(&rt) {
+        Ok(Some(asked)) => serve(
+            &rt,
+            rt.alloc(),
+            asked.market,
+            asked.service,
+            &mut rt.stderr(),
+            &mut rt.stdout(),
+        )
+        .map_err(Failure::from),
+        Ok(None) => Ok(()),
+        Err(failure) => Err(failure),
+    };
+    match ended {
         Ok(()) => ExitCode::SUCCESS,
         Err(failure) => {
             // Where standard error fails too there is nobody left to tell.

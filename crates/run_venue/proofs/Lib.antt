@@ -1,0 +1,4 @@
+pub mod Lists
+pub mod Starts
+pub mod Ends
+pub mod Closing

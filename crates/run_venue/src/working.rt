@@ -1,0 +1,36 @@
+//! What the worker does beside the threads of the sessions.
+
+ghost use Rattle.intake_seats.specs.Ends.{AreTakes};
+ghost use Rattle.venue_worker.specs.Turns.{AreUnmarked};
+ghost use Rattle.run_venue.specs.Working.{HasWorked};
+
+use intake_seats::{Board, TakeSeat};
+use venue_rules::{EventFault, Keep};
+use venue_worker::{Clock, Parts, Worker};
+
+/// How a worker's turns ended, and all that it had.
+#[derive(Drop)]
+pub(crate) struct Worked<K: Keep + Drop> {
+    pub(crate) ran: Result<(), EventFault>,
+    pub(crate) parts: Parts<K>,
+}
+
+/// Gives a worker its turns, and takes it apart.
+pub(crate) fn work_out<W: Clock, K: Keep + Drop>(
+    worker: Worker<'_, K>,
+    clock: &mut W,
+    ends: &Board<()>,
+    marks: Vec<TakeSeat<()>>,
+    turns: u64,
+) -> Worked<K>
+    requires marks { AreTakes ends.now marks.items × AreUnmarked marks.items }
+    ensures { HasWorked turns (W.answered clock.old) (W.answered clock.new) result.ran worker.entry result.parts.venue (K.rows result.parts.keeper) (K.is_clean result.parts.keeper) result.parts.queues.items result.parts.takes.items result.parts.hands.items }
+{
+    let mut worker = worker;
+    let mut marks = marks;
+    let ran = worker.run(clock, ends, &mut marks, turns);
+    Worked {
+        ran,
+        parts: worker.into_parts(),
+    }
+}
