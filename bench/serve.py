@@ -1,8 +1,7 @@
-"""Serves a venue, and times what a counterparty hears of it."""
+"""Times what a counterparty hears of a venue that is served over TCP, beside a venue of stock parts, in turn."""
 
 import os
-import select
-import socket
+import statistics
 import subprocess
 import sys
 import time
@@ -10,122 +9,129 @@ import time
 PROGRAM = "crates/venue_main/out/venue_main"
 FILES = ("--participants", "examples/participants.toml", "--instruments", "examples/instruments.toml")
 NAMES = ("ALPHA", "BETA", "GAMMA", "DELTA", "EPSILON")
-ENDLESS = 1_000_000_000  # turns
-RUNS = 3
-PINGS = 2_000
+ENDLESS = "1000000000"  # turns
+TURNS = 3
+ROUND_TRIPS = 2_000
 IDLE = 10.0  # seconds
-REPORT = b"\x0135=8\x01"
 TICKS = os.sysconf("SC_CLK_TCK")
+# messages that are refused without a look at the book, and orders that rest and are cancelled
+KINDS = (("refused", "NOPE"), ("come and gone", "IRS5Y"))
+
+SETTINGS = """[DEFAULT]
+ConnectionType=acceptor
+BeginString=FIXT.1.1
+DefaultApplVerID=9
+SenderCompID=SEF
+StartTime=00:00:00
+EndTime=00:00:00
+UseDataDictionary=N
+CheckLatency=N
+SocketNodelay=Y
+HeartBtInt=3600
+"""
 
 
-def frame(name, number, kind, fields):
-    now = time.strftime("%Y%m%d-%H:%M:%S", time.gmtime())
-    body = f"35={kind}|49={name}|56=SEF|34={number}|52={now}|{fields}"
-    text = f"8=FIXT.1.1|9={len(body)}|{body}".replace("|", "\x01").encode()
-    return text + b"10=%03d\x01" % (sum(text) % 256)
+class Venue:
+    """A venue that serves in a process of its own: who it is, its first port, and how it was started."""
+
+    def __init__(self, name, port, words, ready):
+        self.name, self.port, self.runs = name, port, 0
+        self.process = subprocess.Popen(words, stdout=subprocess.PIPE, stderr=subprocess.STDOUT, text=True)
+        for line in self.process.stdout:
+            if ready(line):
+                return
+        raise SystemExit(f"bench/serve: {name} does not listen")
+
+    def spent(self):
+        """Processor seconds so far, of user and system."""
+        with open(f"/proc/{self.process.pid}/stat", encoding="utf-8") as file:
+            fields = file.read().rsplit(")", 1)[1].split()
+        return (int(fields[11]) + int(fields[12])) / TICKS
+
+    def load(self, place, symbol, messages, how):
+        """What the load client tells, by its words."""
+        self.runs += 1
+        words = [f"{place}/load", str(self.port), NAMES[0], symbol, str(messages), how, str(self.runs)]
+        said = subprocess.run(words, check=True, capture_output=True, text=True).stdout.split()
+        return dict(zip(said[::2], map(int, said[1::2])))
 
 
-def order(name, number, run):
-    return frame(name, number, "D", f"11=r{run}n{number}|55=NOPE|54=1|38=10|40=2|44=2.5|")
+def ours(place, port, trail):
+    """The venue of this repository."""
+    words = [PROGRAM, "serve", *FILES, "--port", str(port), "--turns", ENDLESS]
+    heard = []
+    return Venue("dazhwiro", port, words + (["--trail", f"{place}/bench.trail"] if trail else []), lambda line: " at 127.0.0.1:" in line and (heard.append(line) or len(heard) == len(NAMES)))
 
 
-def logged_on(name, port):
-    """A line whose numbers begin at 1 on both sides."""
-    line = socket.create_connection(("127.0.0.1", port))
-    line.setsockopt(socket.IPPROTO_TCP, socket.TCP_NODELAY, 1)
-    line.sendall(frame(name, 1, "A", "98=0|108=3600|1137=9|141=Y|"))
-    heard = b""
-    while b"\x0135=A\x01" not in heard:
-        heard += line.recv(4096)
-    return line
+def peer(place, port, trail):
+    """QuickFIX's engine, with a book of a map."""
+    sessions = (f"\n[SESSION]\nTargetCompID={name}\nSocketAcceptPort={port + k}\n" for k, name in enumerate(NAMES))
+    with open(f"{place}/quickfix.cfg", "w", encoding="utf-8") as file:
+        file.write(SETTINGS + "".join(sessions))
+    words = [f"{place}/quickfix_venue", f"{place}/quickfix.cfg"]
+    return Venue("QuickFIX", port, words + ([f"{place}/peer.trail"] if trail else []), lambda line: line.strip() == "ready")
 
 
-def processor_time(venue):
-    """Seconds, of user and system."""
-    with open(f"/proc/{venue.pid}/stat") as file:
-        fields = file.read().rsplit(")", 1)[1].split()
-    return (int(fields[11]) + int(fields[12])) / TICKS
+def measure(venue, place, messages):
+    """One turn: each kind of message at once, then one by one."""
+    figures = {}
+    for kind, symbol in KINDS:
+        before = venue.spent()
+        at_once = venue.load(place, symbol, messages, "at-once")
+        cost = (venue.spent() - before) / messages * 1e6
+        in_turn = venue.load(place, symbol, min(messages, ROUND_TRIPS), "in-turn")
+        figures[kind] = (at_once["per_second"], cost, in_turn["p50_us"], in_turn["p99_us"])
+        print(f"{venue.name}: {kind}: {figures[kind][0]} a second, {cost:.1f} us of the processor each; round trip p50 {figures[kind][2]} us, p99 {figures[kind][3]} us", flush=True)
+    return figures
 
 
-def pipelined(line, sent, count):
-    """Seconds until so many reports were heard of what is sent at once."""
-    line.setblocking(False)
-    begun = time.perf_counter()
-    at, reports, last = 0, 0, b""
-    while reports < count:
-        wanted = [line] if at < len(sent) else []
-        readable, writable, _ = select.select([line], wanted, [], 10.0)
-        if not readable and not writable:
-            raise SystemExit(f"bench/serve: {reports} reports of {count} were heard")
-        if writable:
-            at += line.send(sent[at : at + 65536])
-        if readable:
-            heard = last + line.recv(1 << 20)
-            reports += heard.count(REPORT)
-            last = heard[-(len(REPORT) - 1) :]
-    line.setblocking(True)
-    return time.perf_counter() - begun
+def compare(turns):
+    """The middle of the turns, and the ratio of ours to the peer's."""
+    for kind, _ in KINDS:
+        told = []
+        for at, what in enumerate(("a second", "us of the processor", "p50 us", "p99 us")):
+            mine, theirs = (statistics.median(figures[kind][at] for figures in each) for each in turns)
+            told.append(f"{what} {mine:.0f} beside {theirs:.0f} ({mine / theirs:.2f})")
+        print(f"{kind}: " + ", ".join(told), flush=True)
 
 
-def round_trip(line, sent):
-    """Microseconds until the report of this order was heard."""
-    begun = time.perf_counter()
-    line.sendall(sent)
-    heard = b""
-    while REPORT not in heard:
-        heard += line.recv(4096)
-    return (time.perf_counter() - begun) * 1e6
-
-
-def hundredths(times):
-    times.sort()
-    return f"p50 {times[len(times) // 2]:.0f} us, p99 {times[len(times) * 99 // 100]:.0f} us, longest {times[-1]:.0f} us"
-
-
-def measure(venue, port, orders):
-    number = 1
-    line = logged_on(NAMES[0], port)
-    for run in range(RUNS):
-        sent = b"".join(order(NAMES[0], number + 1 + k, run) for k in range(orders))
-        number += orders
-        before = processor_time(venue)
-        seconds = pipelined(line, sent, orders)
-        spent = processor_time(venue) - before
-        print(f"at once: {orders / seconds:.0f} orders a second, {spent / orders * 1e6:.1f} us of the processor each", flush=True)
-        times = []
-        for _ in range(PINGS):
-            number += 1
-            times.append(round_trip(line, order(NAMES[0], number, run)))
-        print(f"one by one: {hundredths(times)}", flush=True)
-    times = []
+def idle(venue, place):
+    """What five participants cost that are logged on and say nothing, and what an order takes after an idle second."""
+    trips = []
     for _ in range(10):
         time.sleep(1.05)
-        number += 1
-        times.append(round_trip(line, order(NAMES[0], number, RUNS)))
-    print(f"after an idle second: {hundredths(times)}", flush=True)
-    others = [logged_on(name, port + k) for k, name in enumerate(NAMES) if k > 0]
+        trips.append(venue.load(place, "NOPE", 1, "in-turn")["p50_us"])
+    print(f"{venue.name}: after an idle second a round trip takes {statistics.median(trips):.0f} us, at most {max(trips)}", flush=True)
+    holders = [subprocess.Popen([f"{place}/load", str(venue.port + k), name, "NOPE", "0", "hold", "0"]) for k, name in enumerate(NAMES)]
     time.sleep(1.0)
-    before = processor_time(venue)
+    before = venue.spent()
     time.sleep(IDLE)
-    spent = processor_time(venue) - before
-    print(f"five idle participants: {spent / IDLE * 100:.1f} % of a processor", flush=True)
-    for each in [line, *others]:
-        each.close()
+    print(f"{venue.name}: five idle participants take {(venue.spent() - before) / IDLE * 100:.1f} % of a processor", flush=True)
+    for holder in holders:
+        holder.terminate()
 
 
 def main():
-    orders, port = int(sys.argv[1]), int(sys.argv[2])
-    files = [word if word.startswith("--") else os.path.abspath(word) for word in FILES]
-    # builds it where it is not built
-    subprocess.run(["rt", "run", "--", "check", *files], cwd="crates/venue_main", check=True, stdin=subprocess.DEVNULL, capture_output=True)
-    venue = subprocess.Popen([PROGRAM, "serve", *files, "--port", str(port), "--turns", str(ENDLESS)], stderr=subprocess.PIPE, text=True)
+    messages, port, place, trail, with_peer = int(sys.argv[1]), int(sys.argv[2]), sys.argv[3], sys.argv[4] == "trail", sys.argv[5] == "peer"
+    for name in ("bench.trail", "bench.trail-wal", "peer.trail", "peer.trail-wal", "peer.trail-shm"):
+        if os.path.exists(f"{place}/{name}"):
+            os.remove(f"{place}/{name}")
+    print(f"load of the machine: {os.getloadavg()[0]:.1f} on {os.cpu_count()} processors; rows {'in a file' if trail else 'in memory'}", flush=True)
+    venues = [ours(place, port, trail)]
     try:
-        for _ in NAMES:
-            venue.stderr.readline()
-        print(f"load of the machine: {os.getloadavg()[0]:.1f} on {os.cpu_count()} processors", flush=True)
-        measure(venue, port, orders)
+        if with_peer:
+            venues.append(peer(place, port + 100, trail))
+        turns = [[] for _ in venues]
+        for _ in range(TURNS):
+            for venue, figures in zip(venues, turns):
+                figures.append(measure(venue, place, messages))
+        if with_peer:
+            compare(turns)
+        for venue in venues:
+            idle(venue, place)
     finally:
-        venue.terminate()
+        for venue in venues:
+            venue.process.terminate()
 
 
 if __name__ == "__main__":

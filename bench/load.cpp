@@ -1,0 +1,172 @@
+// A counterparty that times a venue over TCP. load PORT NAME SYMBOL MESSAGES at-once|in-turn|hold RUN logs NAME on at 127.0.0.1:PORT by a
+// Logon that begins the numbers anew, sends so many messages, an order for SYMBOL and its cancel by turns, and counts the answers (one
+// ExecutionReport or OrderCancelReject each).
+//   at-once   all messages as fast as the socket takes them: the seconds to the last answer
+//   in-turn   each message once the answer to the one before was heard: the round trips
+//   hold      nothing: the line is held until the program is ended
+// RUN is put into the identifiers, which a venue takes once a day. Prints one line of words and numbers.
+#include <algorithm>
+#include <arpa/inet.h>
+#include <chrono>
+#include <cstdio>
+#include <cstring>
+#include <ctime>
+#include <fcntl.h>
+#include <netinet/tcp.h>
+#include <poll.h>
+#include <stdexcept>
+#include <string>
+#include <string_view>
+#include <sys/socket.h>
+#include <unistd.h>
+#include <vector>
+
+namespace {
+
+// without a report for so long the run is given up
+constexpr int PATIENCE_MS = 10'000;
+
+double now() {
+    return std::chrono::duration<double>(std::chrono::steady_clock::now().time_since_epoch()).count();
+}
+
+std::string moment() {
+    char text[32];
+    time_t seconds = time(nullptr);
+    strftime(text, sizeof text, "%Y%m%d-%H:%M:%S", gmtime(&seconds));
+    return text;
+}
+
+// The frame of a body that is written with | for SOH.
+std::string frame(std::string body) {
+    std::replace(body.begin(), body.end(), '|', '\x01');
+    std::string text = "8=FIXT.1.1\x01" "9=" + std::to_string(body.size()) + "\x01" + body;
+    unsigned sum = 0;
+    for (unsigned char byte : text) sum += byte;
+    char trailer[9];
+    snprintf(trailer, sizeof trailer, "10=%03u\x01", sum % 256);
+    return text + trailer;
+}
+
+struct Client {
+    std::string name, symbol, run;
+    std::string at = moment();
+    int socket = -1;
+    std::string unread{};
+
+    std::string header(const char *type, long number) const {
+        return std::string("35=") + type + "|49=" + name + "|56=SEF|34=" + std::to_string(number) + "|52=" + at + "|";
+    }
+
+    // The k-th message: an order to buy, or the cancel of the one before it.
+    std::string message(long k) const {
+        std::string id = "|11=r" + run + "n" + std::to_string(k);
+        if (k % 2 == 0) return frame(header("D", k + 2) + id.substr(1) + "|55=" + symbol + "|54=1|38=10|40=2|44=2.5|60=" + at + "|");
+        return frame(header("F", k + 2) + id.substr(1) + "|41=r" + run + "n" + std::to_string(k - 1) + "|55=" + symbol + "|54=1|60=" + at + "|");
+    }
+
+    void connect_to(int port) {
+        socket = ::socket(AF_INET, SOCK_STREAM, 0);
+        int yes = 1;
+        setsockopt(socket, IPPROTO_TCP, TCP_NODELAY, &yes, sizeof yes);
+        sockaddr_in address{};
+        address.sin_family = AF_INET;
+        address.sin_port = htons(port);
+        address.sin_addr.s_addr = htonl(INADDR_LOOPBACK);
+        if (connect(socket, reinterpret_cast<sockaddr *>(&address), sizeof address)) throw std::runtime_error("nobody listens");
+    }
+
+    void send_all(std::string_view text) const {
+        while (!text.empty()) {
+            ssize_t sent = write(socket, text.data(), text.size());
+            if (sent <= 0) throw std::runtime_error("the venue closed the line");
+            text.remove_prefix(sent);
+        }
+    }
+
+    // Reads what there is, and counts the messages of these types among it.
+    long heard(const char *types) {
+        char bytes[65536];
+        ssize_t count = read(socket, bytes, sizeof bytes);
+        if (count == 0 || (count < 0 && errno != EAGAIN)) throw std::runtime_error("the venue closed the line");
+        unread.append(bytes, std::max<ssize_t>(count, 0));
+        long found = 0;
+        size_t at = 0;
+        for (size_t end; (end = unread.find("\x01" "10=", at)) != std::string::npos && end + 8 <= unread.size(); at = end + 8) {
+            size_t field = unread.find("\x01" "35=", at);
+            found += field < end && strchr(types, unread[field + 4]) && unread[field + 5] == '\x01';
+        }
+        unread.erase(0, at);
+        return found;
+    }
+
+    // Waits until the line can be read (or written, where that is asked for).
+    short ready(bool writing) const {
+        pollfd line{socket, static_cast<short>(writing ? POLLIN | POLLOUT : POLLIN), 0};
+        if (poll(&line, 1, PATIENCE_MS) == 0) throw std::runtime_error("no answer");
+        return line.revents;
+    }
+
+    void log_on() {
+        send_all(frame(header("A", 1) + "98=0|108=3600|1137=9|141=Y|"));
+        while (!heard("A")) {}
+    }
+
+    double at_once(long messages, long &answers) {
+        fcntl(socket, F_SETFL, O_NONBLOCK);
+        double begun = now();
+        std::string waiting;
+        for (long k = 0; answers < messages;) {
+            while (waiting.size() < 65536 && k < messages) waiting += message(k++);
+            short events = ready(!waiting.empty());
+            if (events & (POLLIN | POLLHUP | POLLERR)) answers += heard("89");
+            if (events & POLLOUT) {
+                ssize_t sent = write(socket, waiting.data(), waiting.size());
+                waiting.erase(0, std::max<ssize_t>(sent, 0));
+            }
+        }
+        return now() - begun;
+    }
+
+    std::vector<double> in_turn(long messages, long &answers) {
+        std::vector<double> trips;
+        for (long k = 0; k < messages; k++) {
+            double begun = now();
+            send_all(message(k));
+            for (long before = answers; answers == before;) {
+                ready(false);
+                answers += heard("89");
+            }
+            trips.push_back(now() - begun);
+        }
+        std::sort(trips.begin(), trips.end());
+        return trips;
+    }
+};
+
+} // namespace
+
+int main(int count, char **words) {
+    if (count != 7) {
+        fprintf(stderr, "load PORT NAME SYMBOL MESSAGES at-once|in-turn|hold RUN\n");
+        return 2;
+    }
+    try {
+        Client client{words[2], words[3], words[6]};
+        long messages = std::stol(words[4]), answers = 0;
+        client.connect_to(std::stoi(words[1]));
+        client.log_on();
+        if (!strcmp(words[5], "hold")) pause();
+        if (!strcmp(words[5], "at-once")) {
+            double seconds = client.at_once(messages, answers);
+            printf("messages %ld answers %ld per_second %.0f\n", messages, answers, messages / seconds);
+        } else {
+            std::vector<double> trips = client.in_turn(messages, answers);
+            printf("messages %ld answers %ld p50_us %.0f p99_us %.0f\n", messages, answers, trips[messages / 2] * 1e6, trips[messages * 99 / 100] * 1e6);
+        }
+        return 0;
+    } catch (const std::exception &fault) {
+        fprintf(stderr, "load: %s\n", fault.what());
+        return 1;
+    }
+}
