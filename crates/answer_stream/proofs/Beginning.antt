@@ -1,5 +1,5 @@
 -- A line that comes up, where all other participants are cut.
-use Rattle.std.proofs.Common.{◌≡◌, ◌≤◌, ◌<◌, ◌+◌, ◌-◌, ℕ, suc, zero, List, [], ◌∷◌, ◌++◌, length, map, max, refl, sym, subst, arith}
+use Rattle.std.proofs.Common.{◌≡◌, ◌≤◌, ◌<◌, ◌+◌, ◌-◌, ℕ, suc, zero, List, [], ◌∷◌, ◌++◌, length, map, refl, sym, subst, arith}
 use Rattle.fix_session.specs.declared.comp_ids.CompIds.{CompIds}
 use Rattle.fix_session.specs.Reader.{Reader}
 use Rattle.participants.specs.ParticipantFile.{ParticipantFile}
@@ -10,7 +10,7 @@ use Rattle.venue_world.specs.Seen.{Done, Seen, Shows}
 use Rattle.venue_world.specs.Side.{Side, does, fresh_side}
 use Rattle.venue_world.specs.World.{Stand, after_all, at, fresh_world, ids_of}
 use Rattle.answer_stream.specs.Acts.{IsAnswered, OfFirst}
-use Rattle.answer_stream.specs.Stream.{cuts_behind, opened, opening}
+use Rattle.answer_stream.specs.Stream.{cuts_behind, opened}
 use Rattle.answer_stream.proofs.First.{of-at}
 use Rattle.answer_stream.proofs.Going.{after-append}
 

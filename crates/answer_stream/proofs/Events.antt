@@ -1,8 +1,8 @@
 -- What each event makes of the first participant's side.
-use Rattle.std.proofs.Common.{◌≡◌, ◌≤◌, ◌<◌, ◌+◌, ◌-◌, ◌⊎◌, ℕ, suc, zero, List, [], ◌∷◌, ◌++◌, length, max, Bool, true, false, if◌then◌else◌, Option, Some, None, refl, sym, ap, ◌∙◌, subst, inl, slice_get, arith}
+use Rattle.std.proofs.Common.{◌≡◌, ◌≤◌, ◌<◌, ◌-◌, ◌⊎◌, ℕ, suc, zero, List, [], ◌∷◌, ◌++◌, length, max, Bool, true, false, if◌then◌else◌, Option, Some, None, refl, sym, ap, ◌∙◌, subst, inl, slice_get, arith}
 use Rattle.fix_dictionary.specs.declared.messages.App.{App}
 use Rattle.fix_dictionary.specs.declared.messages.Item.{Item}
-use Rattle.fix_session.specs.Machine.{AtEnd, pushed, sent, step}
+use Rattle.fix_session.specs.Machine.{AtEnd, sent, step}
 use Rattle.fix_session.specs.Reader.{Reader, settled}
 use Rattle.fix_session.specs.Shorter.{Shortens}
 use Rattle.fix_session.specs.State.{State}
@@ -22,8 +22,8 @@ use Rattle.venue_world.specs.World.{Stand, answered, at, behind, down, emptied, 
 use Rattle.answer_stream.specs.Acts.{IsAnswered, IsHeardOut, MayCome, OfFirst}
 use Rattle.std.proofs.lemmas.List.{nil_from_length}
 use Rattle.venue_world.specs.Headline.{given_by, wire_of}
-use Rattle.answer_stream.specs.Course.{IsAllHeard, waiting, unread, Answers, Ends, IsEmptied, IsFree, IsHeard, IsKept, IsSent, IsSomewhere, IsTaken, OfBoth, Replies, RepliesOnce, Shortened, Takes as TakesReady}
-use Rattle.answer_stream.proofs.First.{both-at, both-same, both-then, of-at, of-both, of-place, of-so}
+use Rattle.answer_stream.specs.Course.{IsAllHeard, waiting, unread, Answers, Ends, IsEmptied, IsFree, IsHeard, IsKept, IsSent, IsSomewhere, OfBoth, Replies, RepliesOnce, Shortened, Takes as TakesReady}
+use Rattle.answer_stream.proofs.First.{both-at, both-same, both-then, of-at, of-so}
 use Rattle.answer_stream.proofs.Stepping.{one_more_ready}
 
 -- An act of its own.

@@ -1,5 +1,5 @@
 -- Facts of the first participant's side.
-use Rattle.std.proofs.Common.{◌≡◌, ◌≤◌, ◌<◌, ℕ, List, [], ◌∷◌, length, Option, Some, refl, sym, subst, slice_get, arith}
+use Rattle.std.proofs.Common.{◌≡◌, ◌<◌, List, [], ◌∷◌, length, Some, refl, sym, subst, slice_get, arith}
 use Rattle.venue_world.specs.Side.{Side}
 use Rattle.venue_world.specs.World.{at}
 use Rattle.answer_stream.specs.Acts.{OfFirst}

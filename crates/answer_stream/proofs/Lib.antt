@@ -5,4 +5,6 @@ mod Events
 mod Outcomes
 mod Pieces
 mod Beginning
+mod Uncut
+mod Queued
 mod Streams

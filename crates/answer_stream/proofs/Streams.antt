@@ -1,9 +1,7 @@
 -- What a whole run is.
-use Rattle.std.proofs.Common.{◌≡◌, ◌≤◌, ◌-◌, ◌==◌, ◌||◌, ℕ, suc, zero, List, [], ◌∷◌, ◌++◌, length, map, max, Bool, true, false, if◌then◌else◌, Option, Some, None, option_to_list, refl, sym, ap, ◌∙◌, subst, append-nil, slice_get, arith}
+use Rattle.std.proofs.Common.{◌≡◌, ◌≤◌, ◌-◌, ◌==◌, ℕ, suc, zero, List, [], ◌∷◌, ◌++◌, length, max, Bool, true, false, if◌then◌else◌, Option, Some, None, option_to_list, refl, sym, ap, ◌∙◌, subst, append-nil, arith}
 use Rattle.std.specs.Io.KnownBytes.{Appends, Consumes}
-use Rattle.std.specs.List.{list_any}
 use Rattle.std.proofs.KnownBytes.{Appends-nil, Consumes-nil}
-use Rattle.std.proofs.Math.Dec.{eqb-suc-zero}
 use Rattle.std.proofs.Math.Nat.{max-eq_right}
 use Rattle.fix_dictionary.specs.declared.messages.App.{App}
 use Rattle.fix_dictionary.specs.declared.messages.Item.{Item}
@@ -14,20 +12,22 @@ use Rattle.venue_rules.specs.Market.{Market}
 use Rattle.venue_rules.specs.Run.{Input, Message, Tick, owed}
 use Rattle.venue_world.specs.declared.act.Act.{Act}
 use Rattle.venue_world.specs.declared.act.Act.TheVariants.{Alone, Takes, VenueTicks}
-use Rattle.venue_world.specs.declared.act.Doing.{Doing}
-use Rattle.venue_world.specs.declared.act.Doing.TheVariants.{Pieces, Steps, Ticks, Breaks, Resumes, Hands, Delivers, Collects, Cuts, Writes}
+use Rattle.venue_world.specs.declared.act.Doing.TheVariants.{Resumes, Cuts}
 use Rattle.venue_world.specs.declared.outgoing.Outgoing.{Outgoing}
 use Rattle.venue_world.specs.declared.outgoing.Outgoing.TheVariants.{Message as Reply, Cut}
-use Rattle.venue_world.specs.Headline.{Headline, OwedAll, TakenThenWaiting, heard_of, is_cut_of, items_of, taken_from, was_cut}
+use Rattle.venue_world.specs.Headline.{Headline, OwedAll, TakenThenWaiting, heard_of, items_of, taken_from, was_cut}
 use Rattle.venue_world.specs.Seen.{Seen, Shows}
 use Rattle.venue_world.specs.Side.{Side, for_session, for_venue, outgoing}
+use Rattle.venue_world.specs.Wires.{WiresLoseNothing}
 use Rattle.venue_world.specs.World.{Stand, after_act, after_all, answered, at, emptied, first_behind, fresh_world, is_due, message_from, replies_after, seat_at, takes, unless_behind}
 use Rattle.answer_stream.specs.Acts.{IsAnswered, IsHeardOut, Leads, MayCome, OfFirst}
-use Rattle.answer_stream.specs.Course.{IsAllHeard, Went, Wrote}
+use Rattle.answer_stream.specs.Course.{IsAllHeard, Wrote}
 use Rattle.answer_stream.specs.Reading.{Halts}
 use Rattle.answer_stream.specs.Stream.{AnswersStream, Owes, Stopped, cuts_behind, opened, opening, run_of, taken}
 use Rattle.answer_stream.proofs.First.{of-so}
 use Rattle.answer_stream.proofs.Going.{after-append}
+use Rattle.answer_stream.proofs.Queued.{all-queued}
+use Rattle.answer_stream.proofs.Uncut.{KeepsItsWord, run-uncut}
 
 -- All that was taken came from the first participant, at t.
 
@@ -97,46 +97,6 @@ fresh-at m t = record { moment = omega arith; items = refl }
 opened-at : (r : Reader) (m : Market) (t : ℕ) → AtMoment t (opened r m t)
 opened-at r m t = up-at r t (fresh_world m) (length m.participants.names - 1) (fresh-at m t)
 
--- The first participant is not cut.
-
-uncut-more : (c d e : Bool) → (c || d) ≡ false → (d ≡ false → e ≡ false) → (c || e) ≡ false
-uncut-more true d e p f = p
-uncut-more false d e p f = f p
-
-uncut-append : (a b : List Act) → was_cut 0 a ≡ false → was_cut 0 b ≡ false → was_cut 0 (a ++ b) ≡ false
-uncut-append [] b p q = q
-uncut-append (x ∷ a) b p q = uncut-more (is_cut_of 0 x) (was_cut 0 a) (was_cut 0 (a ++ b)) p (λ p'. uncut-append a b p' q)
-
-cuts-uncut : (k : ℕ) → was_cut 0 (cuts_behind k) ≡ false
-cuts-uncut zero = refl
-cuts-uncut (suc k) = uncut-append (cuts_behind k) (Alone (suc k) Cuts ∷ []) (cuts-uncut k) (ap (λ (b : Bool). b || false) (eqb-suc-zero k))
-
-does-uncut : (r : Reader) (t : ℕ) (w : Stand) (x : Doing) → MayCome r t w (Alone 0 x) → is_cut_of 0 (Alone 0 x) ≡ false
-does-uncut r t w (Pieces bytes) may = refl
-does-uncut r t w (Steps u) may = refl
-does-uncut r t w (Ticks u) may = refl
-does-uncut r t w Breaks may = refl
-does-uncut r t w (Resumes u) may = refl
-does-uncut r t w Hands may = refl
-does-uncut r t w Delivers may = refl
-does-uncut r t w (Collects u) may = refl
-does-uncut r t w Cuts may = absurd may
-does-uncut r t w Writes may = refl
-
-one-uncut : (r : Reader) (t : ℕ) (w : Stand) (a : Act) → MayCome r t w a → is_cut_of 0 a ≡ false
-one-uncut r t w (Alone zero x) may = does-uncut r t w x may
-one-uncut r t w (Alone (suc k) x) may = absurd may
-one-uncut r t w (Takes k u) may = refl
-one-uncut r t w (VenueTicks u) may = refl
-
-all-uncut : (r : Reader) (t : ℕ) (w : Stand) (acts : List Act) → Leads r t w acts → was_cut 0 acts ≡ false
-all-uncut r t w [] leads = refl
-all-uncut r t w (a ∷ acts) leads = ap (λ (b : Bool). b || was_cut 0 acts) (one-uncut r t w a leads.0) ∙ all-uncut r t (after_act r w a) acts leads.1
-
-run-uncut : (r : Reader) (m : Market) (t : ℕ) (acts : List Act) → Leads r t (opened r m t) acts → was_cut 0 (run_of m t acts) ≡ false
-run-uncut r m t acts leads =
-    uncut-append (opening (length m.participants.names) t) acts (uncut-append (cuts_behind (length m.participants.names - 1)) (Alone 0 (Resumes t) ∷ []) (cuts-uncut (length m.participants.names - 1)) refl) (all-uncut r t (opened r m t) acts leads)
-
 -- Where nothing waits, all that was accepted is taken, and all that is owed is numbered.
 
 none-for-venue : (s : Side) → IsAnswered s → for_venue s ≡ []
@@ -169,13 +129,13 @@ first-owed r m acts (s ∷ sides) a uncut law =
 
 -- A whole run.
 
-abbrev pub KeepsItsWord : Type 0
-KeepsItsWord = (r : Reader) (m : Market) (acts : List Act) → Headline (after_all r (fresh_world m) acts).sides (after_all r (fresh_world m) acts).moment r m acts
+abbrev pub LosesNothing : Type 0
+LosesNothing = (r : Reader) (m : Market) (acts : List Act) → WiresLoseNothing (after_all r (fresh_world m) acts).sides r m acts
 
-pub answers-stream : KeepsItsWord → (r : Reader) (m : Market) (t : ℕ) (old new : Seen) (input : List ℕ) (held held' : Option (List ℕ)) → Shows old (opened r m t)
+pub answers-stream : KeepsItsWord → LosesNothing → (r : Reader) (m : Market) (t : ℕ) (old new : Seen) (input : List ℕ) (held held' : Option (List ℕ)) → Shows old (opened r m t)
     → OfFirst IsAnswered new.sides → OfFirst IsAllHeard new.sides → Wrote t old new input held held'
     → (output : List ℕ) × AnswersStream r m t input output × Appends held held' output
-answers-stream law r m t old new input held held' opens is_answered is_heard wrote =
+answers-stream law wires r m t old new input held held' opens is_answered is_heard wrote =
     let w : Stand = opened r m t in
     let acts = wrote.went.acts in
     let leads = wrote.went.leads r w opens in
@@ -184,6 +144,7 @@ answers-stream law r m t old new input held held' opens is_answered is_heard wro
     let all = run_of m t acts in
     let joined : after_all r (fresh_world m) all ≡ last = after-append r (fresh_world m) (opening (length m.participants.names) t) acts in
     let word : Headline last.sides last.moment r m all = subst (λ (x : Stand). Headline x.sides x.moment r m all) joined (law r m all) in
+    let lose : WiresLoseNothing last.sides r m all = subst (λ (x : Stand). WiresLoseNothing x.sides r m all) joined (wires r m all) in
     let answered_there : OfFirst IsAnswered last.sides = subst (OfFirst IsAnswered) sides is_answered in
     let at_t : AtMoment t (after_all r (fresh_world m) all) = subst (AtMoment t) (sym joined) (all-at r t w acts leads (opened-at r m t)) in (
       wrote.given,
@@ -196,6 +157,7 @@ answers-stream law r m t old new input held held' opens is_answered is_heard wro
         takes = at_t.items ∙ ap (taken t) (first-taken r m all last.sides answered_there word.taken_then_waiting);
         owes = first-owed r m all last.sides answered_there (run-uncut r m t acts leads) word.owed_all;
         gives = wrote.went.gives r w opens;
+        queued = all-queued law r m t acts last.sides leads answered_there lose ∙ wrote.went.gives r w opens;
       },
       wrote.written,
     )

@@ -1,5 +1,5 @@
 -- A part of a run: from where a world stands to where it stands then.
-use Rattle.std.specs.Prelude.{◌≡◌, ◌≤◌, ◌-◌, ℕ, List, [], ◌∷◌, ◌++◌, Option, None, length}
+use Rattle.std.specs.Prelude.{◌≡◌, ◌≤◌, ◌-◌, ℕ, List, [], ◌∷◌, Option, None, length}
 use Rattle.std.specs.Io.KnownBytes.{Appends}
 use Rattle.fix_session.specs.Machine.{AtEnd}
 use Rattle.fix_session.specs.Reader.{Reader}
@@ -10,7 +10,7 @@ use Rattle.venue_world.specs.Headline.{given_from}
 use Rattle.venue_world.specs.Seen.{Seen, Shows}
 use Rattle.venue_world.specs.Side.{Side}
 use Rattle.venue_world.specs.World.{Stand, after_all}
-use Rattle.answer_stream.specs.Acts.{IsAnswered, IsHeardOut, Leads, OfFirst, pieces}
+use Rattle.answer_stream.specs.Acts.{IsAnswered, IsHeardOut, Leads, pieces}
 
 -- the world stands somewhere
 abbrev pub IsSomewhere : Seen → Type 0

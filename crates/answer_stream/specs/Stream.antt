@@ -12,6 +12,8 @@ use Rattle.venue_world.specs.declared.act.Act.TheVariants.{Alone}
 use Rattle.venue_world.specs.declared.act.Doing.TheVariants.{Cuts, Resumes}
 use Rattle.venue_world.specs.Headline.{given_from, heard_of, items_of}
 use Rattle.venue_world.specs.Side.{Side}
+use Rattle.venue_world.specs.Wires as wires
+use Rattle.venue_world.specs.Wires.{in_acts}
 use Rattle.venue_world.specs.World.{Stand, after_all, fresh_world, message_from}
 use Rattle.answer_stream.specs.Acts.{IsAnswered, IsHeardOut, Leads, OfFirst, pieces}
 use Rattle.answer_stream.specs.Reading.{longest_piece}
@@ -47,7 +49,8 @@ Owes m items s = numbered s.session ≡ owed m 0 items
 
 -- What is written for a whole stream: acts that may come read it, up to where all is heard, answered and written. What the venue took
 -- is what the first participant's session accepted of all that it heard, each at t, and the application messages that it
--- numbered for the participant are those that the rules' run of what was taken owes it. What the acts gave is what is written.
+-- numbered for the participant are those that the rules' run of what was taken owes it. What the acts gave is what is written,
+-- and so is, in order and to the last byte, all that its session queued for its line from its beginning on: nothing was dropped.
 pub record AnswersStream (r : Reader) (m : Market) (t : ℕ) (input output : List ℕ) : Type 0 where
   pub acts : List Act
   pub leads : Leads r t (opened r m t) acts
@@ -57,6 +60,7 @@ pub record AnswersStream (r : Reader) (m : Market) (t : ℕ) (input output : Lis
   pub takes : items_of r m (run_of m t acts) ≡ taken t (accepted (heard_of r m 0 (run_of m t acts)))
   pub owes : OfFirst (Owes m (items_of r m (run_of m t acts))) (ended r m t acts)
   pub gives : given_from r 0 (opened r m t) acts ≡ output
+  pub queued : in_acts wires.queued r m 0 (run_of m t acts) ≡ output
 
 -- What stands where a run stops: acts that may come read some bytes, and the piece behind them, if there is one, did not come; what
 -- they gave was written, and nothing else.

@@ -15,7 +15,7 @@ use participants::Participants;
 use sef_moment::Moment;
 use std::alloc::Global;
 use std::io::{Read, Write};
-use venue_world::laws::every_world_keeps_its_word;
+use venue_world::laws::{every_world_keeps_its_word, wires_lose_nothing};
 use venue_world::{ListTrail, World};
 
 /// Answers the first participant's stream on a venue of these participants and instruments, by a session (FIXT 1.1) of the
@@ -40,6 +40,7 @@ pub fn answer_stream<R: Read, W: Write>(
 {
     one_reader();
     every_world_keeps_its_word();
+    wires_lose_nothing();
     let count = count_of(&participants);
     let mut world = World::new(alloc, participants, instruments, ListTrail::new(alloc))?;
     open_line(&mut world, count, at)?;

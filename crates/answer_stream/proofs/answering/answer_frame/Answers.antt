@@ -4,7 +4,7 @@ use Rattle.fix_session.specs.Reader.{Reader}
 use Rattle.venue_world.specs.declared.act.Act.TheVariants.{Alone}
 use Rattle.venue_world.specs.declared.act.Doing.TheVariants.{Steps}
 use Rattle.venue_world.specs.Side.{Side}
-use Rattle.answer_stream.specs.Course.{IsHeard, OfBoth, Went}
+use Rattle.answer_stream.specs.Course.{IsHeard, Went}
 use Rattle.answer_stream.proofs.Events.{Stepped, alone-first, alone-sides, frame-first, may-step, step-first}
 use Rattle.answer_stream.proofs.First.{of-later}
 use Rattle.answer_stream.proofs.Going.{somewhere-then, went-one, went-then, went-wrote}

@@ -1,8 +1,8 @@
-use Rattle.std.proofs.Common.{◌≡◌, ℕ, [], Some, length, slice_get, subst, sym, ◌∙◌, arith}
+use Rattle.std.proofs.Common.{◌≡◌, ℕ, [], Some, length, slice_get, subst, arith}
 use Rattle.venue_world.specs.Side.{Side}
-use Rattle.answer_stream.specs.Course.{IsFree, OfBoth, Replies, RepliesOnce}
+use Rattle.answer_stream.specs.Course.{IsFree, Replies, RepliesOnce}
 use Rattle.answer_stream.proofs.Events.{fewer-wait, none-waits, replies-none, replies-then, waits-first}
-use Rattle.answer_stream.proofs.First.{both-same, both-so, both-then, is-named, of-later}
+use Rattle.answer_stream.proofs.First.{both-same, both-then, is-named, of-later}
 use Rattle.answer_stream.proofs.Going.{somewhere-then, went-nil, went-then}
 use Rattle.answer_stream.proofs.answering.send_replies.Goals as goal
 

@@ -1,5 +1,5 @@
 use Rattle.std.specs.Io.KnownBytes.{Appends}
-use Rattle.std.proofs.Common.{◌≡◌, ℕ, List, [], refl, subst, Some, slice_get}
+use Rattle.std.proofs.Common.{◌≡◌, ℕ, List, subst, Some, slice_get}
 use Rattle.venue_world.specs.Side.{Side}
 use Rattle.venue_world.specs.declared.act.Act.TheVariants.{Alone}
 use Rattle.venue_world.specs.declared.act.Doing.TheVariants.{Writes}

@@ -1,5 +1,4 @@
 use Rattle.std.proofs.Common.{◌≡◌, ◌-◌, ◌∙◌, ℕ, refl, subst, arith}
-use Rattle.venue_world.specs.declared.act.Act.TheVariants.{Alone}
 use Rattle.venue_world.specs.declared.act.Doing.TheVariants.{Resumes}
 use Rattle.venue_world.specs.Seen.{Shows}
 use Rattle.venue_world.specs.World.{after_all}

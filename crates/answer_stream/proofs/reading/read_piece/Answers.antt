@@ -1,4 +1,4 @@
-use Rattle.std.proofs.Common.{◌≡◌, ℕ, List, [], refl, subst, length-take, take, arith}
+use Rattle.std.proofs.Common.{ℕ, List, [], refl, subst, length-take, take, arith}
 use Rattle.std.specs.Io.KnownBytes.{Consumes}
 use Rattle.std.proofs.KnownBytes.{Consumes-kept, Consumes-nil}
 use Rattle.fix_session.specs.Reader.{Reader}

@@ -1,4 +1,4 @@
-use Rattle.std.proofs.Common.{◌≡◌, ◌<◌, ◌∙◌, ℕ, List, IfSome, sym, subst}
+use Rattle.std.proofs.Common.{◌<◌, ◌∙◌, ℕ, List, IfSome, sym, subst}
 use Rattle.std.specs.Io.KnownBytes.{Appends}
 use Rattle.std.proofs.lemmas.Result.{err_from_is_err_and}
 use Rattle.fix_session.specs.Reader.{Reader}
@@ -64,7 +64,7 @@ returns-clause-answered g c =
     (λ wrote answered heard r.
     so_some left (λ input. Wrote t old new input held held') (λ input. (output : List ℕ) × AnswersStream r market t input output × Appends held held' output)
     (λ input more.
-    answers-stream c.every_world_keeps_its_word.ensures r market t old new input held held'
+    answers-stream c.every_world_keeps_its_word.ensures c.wires_lose_nothing.ensures r market t old new input held held'
     (subst (λ (n : ℕ). Shows old (after_all r (fresh_world market) (opening n t))) c.count_of-count.ensures.count (c.in_ok-open_line.ensures.opened r (fresh_world market) c.in_ok-world.ensures.fresh))
     answered heard more)
     wrote)
