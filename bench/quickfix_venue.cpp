@@ -1,6 +1,5 @@
 // What a desk would build from stock parts: QuickFIX's engine (FIXT 1.1, FIX 5.0 SP2), a session and a port for each participant, and
-// a book of prices to orders by entry. quickfix_venue SETTINGS [TRAIL]: with TRAIL each order and cancel is inserted into an SQLite
-// file (write-ahead log, synchronous FULL), one transaction each, before it is answered. Says "ready" once it listens.
+// a book of prices to orders by entry. quickfix_venue SETTINGS says "ready" once it listens.
 #include <quickfix/Application.h>
 #include <quickfix/MessageStore.h>
 #include <quickfix/Session.h>
@@ -11,7 +10,6 @@
 #include <quickfix/fix50sp2/NewOrderSingle.h>
 #include <quickfix/fix50sp2/OrderCancelReject.h>
 #include <quickfix/fix50sp2/OrderCancelRequest.h>
-#include <sqlite3.h>
 
 #include <algorithm>
 #include <iostream>
@@ -38,38 +36,11 @@ struct Sides {
     Side &of(char side) { return side == '1' ? bids : offers; }
 };
 
-void run(sqlite3 *file, const char *statement) {
-    if (sqlite3_exec(file, statement, nullptr, nullptr, nullptr) != SQLITE_OK) throw std::runtime_error(sqlite3_errmsg(file));
-}
-
-struct Trail {
-    sqlite3 *file = nullptr;
-    sqlite3_stmt *insert = nullptr;
-    long items = 0;
-
-    explicit Trail(const char *path) {
-        sqlite3_open(path, &file);
-        run(file, "PRAGMA journal_mode=WAL");
-        run(file, "PRAGMA synchronous=FULL");
-        run(file, "CREATE TABLE item(n INTEGER PRIMARY KEY, who INTEGER NOT NULL, number INTEGER NOT NULL, moment INTEGER NOT NULL, text BLOB NOT NULL)");
-        sqlite3_prepare_v2(file, "INSERT INTO item VALUES(?, 1, ?1, 0, ?)", -1, &insert, nullptr);
-    }
-
-    void record(const FIX::Message &message) {
-        std::string text = message.toString();
-        sqlite3_bind_int64(insert, 1, ++items);
-        sqlite3_bind_blob(insert, 2, text.data(), text.size(), SQLITE_TRANSIENT);
-        if (sqlite3_step(insert) != SQLITE_DONE) throw std::runtime_error(sqlite3_errmsg(file));
-        sqlite3_reset(insert);
-    }
-};
-
 class Venue : public FIX::Application, public FIX50SP2::MessageCracker {
     std::mutex lock;
     std::map<std::string, Sides> book{{"IRS5Y", {}}, {"BASIS1Y", {}}};
     std::unordered_map<std::string, Side::iterator> resting;
     long orders = 0, reports = 0, trades = 0;
-    Trail *trail;
 
     void onCreate(const FIX::SessionID &) override {}
     void onLogon(const FIX::SessionID &) override {}
@@ -79,7 +50,6 @@ class Venue : public FIX::Application, public FIX50SP2::MessageCracker {
     void fromAdmin(const FIX::Message &, const FIX::SessionID &) throw(FIX::FieldNotFound, FIX::IncorrectDataFormat, FIX::IncorrectTagValue, FIX::RejectLogon) override {}
     void fromApp(const FIX::Message &message, const FIX::SessionID &from) throw(FIX::FieldNotFound, FIX::IncorrectDataFormat, FIX::IncorrectTagValue, FIX::UnsupportedMessageType) override {
         std::lock_guard<std::mutex> held(lock);
-        if (trail) trail->record(message);
         crack(message, from);
     }
 
@@ -115,8 +85,6 @@ class Venue : public FIX::Application, public FIX50SP2::MessageCracker {
     }
 
   public:
-    explicit Venue(Trail *trail) : trail(trail) {}
-
     using FIX50SP2::MessageCracker::onMessage;
 
     void onMessage(const FIX50SP2::NewOrderSingle &message, const FIX::SessionID &from) override {
@@ -159,14 +127,13 @@ class Venue : public FIX::Application, public FIX50SP2::MessageCracker {
 } // namespace
 
 int main(int count, char **words) {
-    if (count < 2) {
-        std::cerr << "quickfix_venue SETTINGS [TRAIL]" << std::endl;
+    if (count != 2) {
+        std::cerr << "quickfix_venue SETTINGS" << std::endl;
         return 2;
     }
     try {
         FIX::SessionSettings settings(words[1]);
-        Trail *trail = count > 2 ? new Trail(words[2]) : nullptr;
-        Venue venue(trail);
+        Venue venue;
         FIX::MemoryStoreFactory stores;
         FIX::ThreadedSocketAcceptor acceptor(venue, stores, settings);
         acceptor.start();

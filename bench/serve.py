@@ -56,20 +56,23 @@ class Venue:
         return dict(zip(said[::2], map(int, said[1::2])))
 
 
-def ours(place, port, trail):
-    """The venue of this repository."""
-    words = [PROGRAM, "serve", *FILES, "--port", str(port), "--turns", ENDLESS]
-    heard = []
-    return Venue("dazhwiro", port, words + (["--trail", f"{place}/bench.trail"] if trail else []), lambda line: " at 127.0.0.1:" in line and (heard.append(line) or len(heard) == len(NAMES)))
+def ours(port):
+    """The venue of this repository, which listens where it has said so of each participant."""
+    listening = []
+
+    def is_ready(line):
+        listening.extend([line] if " at 127.0.0.1:" in line else [])
+        return len(listening) == len(NAMES)
+
+    return Venue("dazhwiro", port, [PROGRAM, "serve", *FILES, "--port", str(port), "--turns", ENDLESS], is_ready)
 
 
-def peer(place, port, trail):
+def peer(place, port):
     """QuickFIX's engine, with a book of a map."""
     sessions = (f"\n[SESSION]\nTargetCompID={name}\nSocketAcceptPort={port + k}\n" for k, name in enumerate(NAMES))
     with open(f"{place}/quickfix.cfg", "w", encoding="utf-8") as file:
         file.write(SETTINGS + "".join(sessions))
-    words = [f"{place}/quickfix_venue", f"{place}/quickfix.cfg"]
-    return Venue("QuickFIX", port, words + ([f"{place}/peer.trail"] if trail else []), lambda line: line.strip() == "ready")
+    return Venue("QuickFIX", port, [f"{place}/quickfix_venue", f"{place}/quickfix.cfg"], lambda line: line.strip() == "ready")
 
 
 def measure(venue, place, messages):
@@ -112,15 +115,12 @@ def idle(venue, place):
 
 
 def main():
-    messages, port, place, trail, with_peer = int(sys.argv[1]), int(sys.argv[2]), sys.argv[3], sys.argv[4] == "trail", sys.argv[5] == "peer"
-    for name in ("bench.trail", "bench.trail-wal", "peer.trail", "peer.trail-wal", "peer.trail-shm"):
-        if os.path.exists(f"{place}/{name}"):
-            os.remove(f"{place}/{name}")
-    print(f"load of the machine: {os.getloadavg()[0]:.1f} on {os.cpu_count()} processors; rows {'in a file' if trail else 'in memory'}", flush=True)
-    venues = [ours(place, port, trail)]
+    messages, port, place, with_peer = int(sys.argv[1]), int(sys.argv[2]), sys.argv[3], sys.argv[4] == "peer"
+    print(f"load of the machine: {os.getloadavg()[0]:.1f} on {os.cpu_count()} processors", flush=True)
+    venues = [ours(port)]
     try:
         if with_peer:
-            venues.append(peer(place, port + 100, trail))
+            venues.append(peer(place, port + 100))
         turns = [[] for _ in venues]
         for _ in range(TURNS):
             for venue, figures in zip(venues, turns):
