@@ -9,6 +9,7 @@ mod market;
 mod once;
 mod serve;
 mod service;
+mod serving;
 
 pub use check::{CheckFault, check};
 use command_line::{Task, task_given};
