@@ -1,6 +1,6 @@
 -- What stands once a venue ran and was closed.
 use Rattle.std.proofs.Common.{◌≡◌, ℕ, ◌+◌, ◌<◌, List, [], ◌∷◌, ◌++◌, map, length, Bool, true, false, refl, ap, sym, ◌∙◌, subst, arith}
-use Rattle.std.specs.Prelude.{Option, Some, None, slice_get}
+use Rattle.std.specs.Prelude.{Option, Some, None, Ok, Err, is_err, slice_get}
 use Rattle.std.specs.Option.{option_to_list}
 use Rattle.std.specs.declared.result.Result.{Result}
 use Rattle.std.proofs.lemmas.List.{length-map}
@@ -15,13 +15,14 @@ use Rattle.gateway.specs.Said.{Said}
 use Rattle.gateway.specs.Served.{Served, AreServed}
 use Rattle.gateway.specs.Thread.{Thread}
 use Rattle.gateway.specs.Whole.{HasLed, IsNew}
-use Rattle.intake_seats.specs.Ends.{AreUnusedHands, AreUnusedTakes}
+use Rattle.intake_seats.specs.Ends.{AreHands, AreTakes, AreUnusedHands, AreUnusedTakes}
 use Rattle.intake_seats.specs.Given.{HandEnd, TakeEnd}
 use Rattle.participants.specs.ParticipantFile.{ParticipantFile}
-use Rattle.venue_core.specs.State.{State as VenueState, standing}
+use Rattle.atomic_table.specs.Seated.{TableId}
+use Rattle.venue_core.specs.State.{State as VenueState, Standing, standing}
 use Rattle.venue_core.specs.Standing.{IsStanding}
 use Rattle.venue_rules.specs.Kept.{IsLastOf}
-use Rattle.venue_rules.specs.Lawful.{Lawful}
+use Rattle.venue_rules.specs.Lawful.{EveryRunIsLawful}
 use Rattle.venue_rules.specs.Market.{Market}
 use Rattle.venue_rules.specs.Run.{Input, rows, run, is_timely_from}
 use Rattle.venue_rules.specs.declared.trail.EventFault.{EventFault}
@@ -29,13 +30,14 @@ use Rattle.venue_rules.specs.declared.trail.TrailRow.{TrailRow}
 use Rattle.venue_worker.specs.Account.{IsAccount, owed_to}
 use Rattle.venue_worker.specs.Inputs.{Each, IsSeated, items_from}
 use Rattle.venue_worker.specs.Queued.{IsOwed, AreEmptyQueues}
-use Rattle.venue_worker.specs.Turns.{HasRun, GoesOn, BehindIsOwedMuch}
+use Rattle.venue_worker.specs.Turns.{GoesOn, BehindIsOwedMuch, IsMomentOf, IsStop}
 use Rattle.venue_worker.specs.Work.{Work}
 use Rattle.venue_worker.specs.declared.queue.Outgoing.{Outgoing}
 use Rattle.venue_worker.specs.declared.queue.Queue.{Queue}
 use Rattle.run_venue.specs.Starting.{AreNewSessions, AreStarts, Outside, ids_at, outside}
-use Rattle.run_venue.specs.Working.{HasWorked}
-use Rattle.run_venue.specs.Closing.{Side, IsServed, Closing, IsSide, AreCounted, HasClosed}
+use Rattle.run_venue.specs.Making.{AreMade}
+use Rattle.run_venue.specs.Working.{HasWorkedAnew}
+use Rattle.run_venue.specs.Closing.{Side, IsServed, Closing, IsSide, AreCounted, HasClosed, closing}
 use Rattle.run_venue.proofs.Lists.{at_map, at_both, get_within, long_both, slice_map}
 
 same_at : {A : Type 0} (xs : List A) (k : ℕ) (x y : A) → slice_get xs k ≡ Some x → slice_get xs k ≡ Some y → x ≡ y
@@ -112,6 +114,9 @@ served_at {E} turns k ids line items owed side s f e thread t h ended takes hand
       cut = cut;
     })
 
+beyond : (a b c : ℕ) → a + b < c → a < c
+beyond a b c below = omega (arith, below)
+
 -- one that was cut in a worker's turns was owed more than 64,000 replies
 cut_much : (P : ℕ → Type 0) (m : Market) (before : List Input) (w w' : Work) (goes : GoesOn P before [] w w') (j : ℕ) (q : Queue) (h : HandEnd Outgoing) → BehindIsOwedMuch → w.ledger.market ≡ m → AreEmptyQueues w.ledger.queues → j < length w.ledger.queues →
     slice_get w'.ledger.queues j ≡ Some q → slice_get w'.hands j ≡ Some h → q.is_cut ≡ true → 64000 < length (owed_to m before goes.more j)
@@ -119,94 +124,130 @@ cut_much P m before w w' goes j q h law market empty below at_q at_h is_cut =
     let first = get_within w.ledger.queues j below in
     let was = goes.cut j first.0 q h first.1 at_q at_h (empty j first.0 first.1).1 is_cut in
     let much = law w.ledger.market before goes.more j (h.given ++ q.waiting.items) was in
-    subst (λ (n : Market). 64000 < length (owed_to n before goes.more j)) market (omega (arith, much))
+    subst (λ (n : Market). 64000 < length (owed_to n before goes.more j)) market
+    (beyond 64000 (length was.given) (length (owed_to w.ledger.market before goes.more j)) much)
 
 -- the facts of all parts, as they come
 pub record Facts (E : Type 0) (turns : ℕ) (m : Market) (kept : List TrailRow) (lines : List Outside) (told told' : List ℕ) (ran : Result Unit EventFault) (c : Closing)
-    (sessions : List Seen) (hands : List (HandEnd Item)) (takes : List (TakeEnd Outgoing)) (marks : List (HandEnd Unit)) (starts finished : List Served) (ended : List E) (thread : E → Thread)
-    (w : Work) (venue : VenueState) (worker_takes : List (TakeEnd Item)) (worker_hands : List (HandEnd Outgoing)) : Type 0 where
-  pub news : AreNewSessions m.participants (length lines) sessions
-  pub idle_hands : AreUnusedHands hands
-  pub idle_takes : AreUnusedTakes takes
-  pub begin : AreStarts sessions lines hands takes marks starts
+    (intake replies ends : TableId) (takes : List (TakeEnd Item)) (hands : List (HandEnd Outgoing)) (marks : List (TakeEnd Unit)) (starts finished : List Served) (ended : List E) (thread : E → Thread)
+    (opened : Standing) (refused refused' : ℕ) (venue : VenueState) (worker_takes : List (TakeEnd Item)) (worker_hands : List (HandEnd Outgoing)) : Type 0 where
+  pub made : AreMade m.participants lines intake takes replies hands ends marks starts
   pub served : AreServed turns starts finished
-  pub ends : map thread ended ≡ map (λ (f : Served). f.thread) finished
-  pub before : List Input
-  pub kept_is : kept ≡ rows before
-  pub account : IsAccount before [] w
-  pub market : w.ledger.market ≡ m
-  pub empty : AreEmptyQueues w.ledger.queues
-  pub number : ℕ
-  pub last_is : IsLastOf kept number w.ledger.last
-  pub long_queues : length w.ledger.queues ≡ length lines
-  pub long_takes : length w.takes ≡ length lines
-  pub long_hands : length w.hands ≡ length lines
-  pub worked : HasWorked turns told told' ran w venue c.rows c.is_clean c.queues worker_takes worker_hands
+  pub shown : map thread ended ≡ map (λ (f : Served). f.thread) finished
+  pub worked : HasWorkedAnew turns told told' ran m opened kept refused intake takes replies hands venue c.rows c.is_clean refused' c.queues worker_takes worker_hands
   pub stands : standing venue.day ≡ c.stands
   pub sessions_are : c.sessions ≡ map (λ (e : E). (thread e).session) ended
   pub said_are : c.said ≡ map (λ (e : E). (thread e).said) ended
-  pub long_left : length c.left ≡ length lines
-  pub long_replies : length c.replies_left ≡ length lines
+  pub long_left : length c.left ≡ intake.words
+  pub long_replies : length c.replies_left ≡ replies.words
   pub closes_taken : ClosesTaken thread ended worker_takes c.left
   pub closes_reached : ClosesReached thread ended worker_hands c.queues c.replies_left
-  pub lawful : (is : List Input) → Lawful m is
+  pub lawful : EveryRunIsLawful
   pub much : BehindIsOwedMuch
 
 pub closes : {E : Type 0} (turns : ℕ) (m : Market) (kept : List TrailRow) (lines : List Outside) (told told' : List ℕ) (ran : Result Unit EventFault) (c : Closing)
-    (sessions : List Seen) (hands : List (HandEnd Item)) (takes : List (TakeEnd Outgoing)) (marks : List (HandEnd Unit)) (starts finished : List Served) (ended : List E) (thread : E → Thread)
-    (w : Work) (venue : VenueState) (worker_takes : List (TakeEnd Item)) (worker_hands : List (HandEnd Outgoing)) →
-    Facts E turns m kept lines told told' ran c sessions hands takes marks starts finished ended thread w venue worker_takes worker_hands → HasClosed turns m kept lines told told' c
-closes {E} turns m kept lines told told' ran c sessions hands takes marks starts finished ended thread w venue worker_takes worker_hands facts =
-    let after = facts.worked.after in
-    let turned = facts.worked.run in
-    let parts = facts.worked.parts in
-    let goes = turned.moves.goes facts.before [] facts.account in
+    (intake replies ends : TableId) (takes : List (TakeEnd Item)) (hands : List (HandEnd Outgoing)) (marks : List (TakeEnd Unit)) (starts finished : List Served) (ended : List E) (thread : E → Thread)
+    (opened : Standing) (refused refused' : ℕ) (venue : VenueState) (worker_takes : List (TakeEnd Item)) (worker_hands : List (HandEnd Outgoing)) →
+    Facts E turns m kept lines told told' ran c intake replies ends takes hands marks starts finished ended thread opened refused refused' venue worker_takes worker_hands → HasClosed turns m kept lines told told' c
+closes {E} turns m kept lines told told' ran c intake replies ends takes hands marks starts finished ended thread opened refused refused' venue worker_takes worker_hands facts =
+    let made = facts.made in
+    let w = facts.worked.worker in
+    let anew = facts.worked.begins in
+    let before = anew.before in
+    let after = facts.worked.worked.after in
+    let turned = facts.worked.worked.run in
+    let parts = facts.worked.worked.parts in
+    let goes = turned.moves.goes before [] anew.account in
     let account = goes.account in
     let since = goes.more in
-    let same : after.ledger.market ≡ m = turned.moves.same.market ∙ facts.market in
+    let same : after.ledger.market ≡ m = turned.moves.same.market ∙ anew.market in
+    let long_takes : length w.takes ≡ length lines = ap (λ (zs : List (TakeEnd Item)). length zs) anew.takes_are ∙ made.intake_takes.0.0 ∙ made.intake_seats in
+    let long_hands : length hands ≡ length lines = made.reply_hands.0.0 ∙ made.reply_seats in
     let long_starts : length starts ≡ length lines =
-    sym (length-map starts (λ (s : Served). outside s.thread.said s.told s.passed)) ∙ ap (λ (zs : List Outside). length zs) facts.begin.outsides in
-    let long_ended : length ended ≡ length lines = long_both thread (λ (f : Served). f.thread) ended finished facts.ends ∙ facts.served.count ∙ long_starts in
-    let long_queues : length c.queues ≡ length lines = ap (λ (qs : List Queue). length qs) parts.queues_are ∙ turned.moves.queues ∙ facts.long_queues in
+    sym (length-map starts (λ (s : Served). outside s.thread.said s.told s.passed)) ∙ ap (λ (zs : List Outside). length zs) made.begin.outsides in
+    let long_ended : length ended ≡ length lines = long_both thread (λ (f : Served). f.thread) ended finished facts.shown ∙ facts.served.count ∙ long_starts in
+    let long_queues : length w.ledger.queues ≡ length lines = anew.count ∙ long_hands in
     record {
-      before = facts.before;
+      before = before;
       since = since;
-      began = facts.kept_is;
+      began = anew.kept_is;
       recorded = λ clean. parts.rows_are ∙ account.rows (sym parts.clean ∙ clean);
       stands =
-          subst (λ (n : Market). IsStanding c.stands (run n (facts.before ++ since)).history) same
-          (subst (λ p. IsStanding p (run after.ledger.market (facts.before ++ since)).history) (sym parts.stands ∙ facts.stands) account.history);
-      timely = subst (λ (n : Market). is_timely_from n (run n facts.before).history since ≡ true) same account.timely;
-      seated = subst (λ (n : ℕ). Each (IsSeated n) since) (turned.moves.takes ∙ facts.long_takes) account.seated;
+          subst (λ (n : Market). IsStanding c.stands (run n (before ++ since)).history) same
+          (subst (λ (p : Standing). IsStanding p (run after.ledger.market (before ++ since)).history) (sym parts.stands ∙ facts.stands) account.history);
+      timely = subst (λ (n : Market). is_timely_from n (run n before).history since ≡ true) same account.timely;
+      seated = subst (λ (n : ℕ). Each (IsSeated n) since) (turned.moves.takes ∙ long_takes) account.seated;
       moments = turned.moments;
       clock = turned.clock;
-      number = facts.number;
+      number = anew.number;
       last = w.ledger.last;
-      last_is = facts.last_is;
+      last_is = anew.last_is;
       answered = goes.each;
-      lawful = facts.lawful (facts.before ++ since);
+      rising = (after.ledger.last, account.risen);
+      lawful = facts.lawful m (before ++ since);
       counted = record {
-        sessions = ap (λ (zs : List State). length zs) facts.sessions_are ∙ length-map ended _ ∙ long_ended;
-        said = ap (λ (zs : List (List Said)). length zs) facts.said_are ∙ length-map ended _ ∙ long_ended;
-        left = facts.long_left;
-        replies_left = facts.long_replies;
-        queues = long_queues;
+        sessions = ap (λ (zs : List State). length zs) facts.sessions_are ∙ length-map ended (λ (e : E). (thread e).session) ∙ long_ended;
+        said = ap (λ (zs : List (List Said)). length zs) facts.said_are ∙ length-map ended (λ (e : E). (thread e).said) ∙ long_ended;
+        left = facts.long_left ∙ made.intake_seats;
+        replies_left = facts.long_replies ∙ made.reply_seats;
+        queues = ap (λ (qs : List Queue). length qs) parts.queues_are ∙ turned.moves.queues ∙ long_queues;
       };
       each = λ k line side at is.
-          let begins = begun m.participants (length lines) sessions lines hands takes marks starts facts.news facts.idle_hands facts.idle_takes facts.begin k line at in
-          let below = slice_get_within lines k line at in
+          let begins = begun m.participants (length lines) made.sessions lines made.session_hands made.session_takes made.session_ends starts made.news made.intake_hands.1 made.reply_takes.1 made.begin k line at in
+          let below : k < length lines = slice_get_within lines k line at in
           let f = get_within finished k (omega (arith, below, facts.served.count, long_starts)) in
-          let e = at_both (λ (f : Served). f.thread) thread finished ended k f.0 (sym facts.ends) f.1 in
+          let e = at_both (λ (f : Served). f.thread) thread finished ended k f.0 (sym facts.shown) f.1 in
           let has = facts.served.each k begins.0 f.0 begins.1 f.1 in
           let session = same_at c.sessions k (thread e.0).session side.session (ap (λ (zs : List State). slice_get zs k) facts.sessions_are ∙ slice_map (λ (e : E). (thread e).session) ended k e.0 e.1) is.session in
           let said = same_at c.said k (thread e.0).said side.said (ap (λ (zs : List (List Said)). slice_get zs k) facts.said_are ∙ slice_map (λ (e : E). (thread e).said) ended k e.0 e.1) is.said in
-          let t = get_within after.takes k (omega (arith, below, turned.moves.takes, facts.long_takes)) in
-          let h = get_within after.hands k (omega (arith, below, turned.moves.hands, facts.long_hands)) in
+          let t = get_within after.takes k (omega (arith, below, turned.moves.takes, long_takes)) in
+          let long_after : length w.hands ≡ length hands = ap (λ (zs : List (HandEnd Outgoing)). length zs) anew.hands_are in
+          let h = get_within after.hands k (omega (arith, below, turned.moves.hands, long_after, long_hands)) in
           let at_q : slice_get after.ledger.queues k ≡ Some side.queue = ap (λ (qs : List Queue). slice_get qs k) (sym parts.queues_are) ∙ is.queue in
-          served_at turns k (ids_at m.participants k) line (items_from k since) (owed_to m facts.before since k) side begins.0 f.0 e.0 thread t.0 h.0 ended worker_takes worker_hands c.queues c.left c.replies_left
+          served_at turns k (ids_at m.participants k) line (items_from k since) (owed_to m before since k) side begins.0 f.0 e.0 thread t.0 h.0 ended worker_takes worker_hands c.queues c.left c.replies_left
           begins.2 has.led (sym e.2) session said (account.taken k t.0 t.1)
-          (subst (λ (n : Market). IsOwed (owed_to n facts.before since k) h.0.given side.queue.waiting.items side.queue.is_cut) same (account.owed k side.queue h.0 at_q h.1))
-          (cut_much _ m facts.before w after goes k side.queue h.0 facts.much facts.market facts.empty (omega (arith, below, facts.long_queues)) at_q h.1)
+          (subst (λ (n : Market). IsOwed (owed_to n before since k) h.0.given side.queue.waiting.items side.queue.is_cut) same (account.owed k side.queue h.0 at_q h.1))
+          (cut_much (IsMomentOf w.ledger.last turned.moments) m before w after goes k side.queue h.0 facts.much anew.market anew.empty (omega (arith, below, long_queues)) at_q h.1)
           e.1 (ap (λ (zs : List (TakeEnd Item)). slice_get zs k) parts.takes_are ∙ t.1) (ap (λ (zs : List (HandEnd Outgoing)). slice_get zs k) parts.hands_are ∙ h.1)
           is.queue is.left is.reply_left facts.closes_taken facts.closes_reached;
     }
+
+-- the closed venue is of the same market
+pub same_market : (turns : ℕ) (told told' : List ℕ) (ran : Result Unit EventFault) (m : Market) (opened : Standing) (kept : List TrailRow) (refused : ℕ) (intake : TableId) (takes : List (TakeEnd Item)) (replies : TableId) (hands : List (HandEnd Outgoing))
+    (venue : VenueState) (written : List TrailRow) (is_clean : Bool) (refused' : ℕ) (queues : List Queue) (takes' : List (TakeEnd Item)) (hands' : List (HandEnd Outgoing)) →
+    HasWorkedAnew turns told told' ran m opened kept refused intake takes replies hands venue written is_clean refused' queues takes' hands' → venue.market ≡ m
+same_market turns told told' ran m opened kept refused intake takes replies hands venue written is_clean refused' queues takes' hands' has = has.worked.parts.market ∙ has.worked.run.moves.same.market ∙ has.begins.market
+
+-- where the worker's turns ended well, the keeper refused nothing
+as_before : (ran : Result Unit EventFault) (had has : ℕ) → is_err ran ≡ false → IsStop ran had has → has ≡ had
+as_before (Ok u) had has well stop = stop
+as_before (Err f) had has well stop = absurd (cc)
+
+pub none_refused : (turns : ℕ) (told told' : List ℕ) (ran : Result Unit EventFault) (m : Market) (opened : Standing) (kept : List TrailRow) (refused : ℕ) (intake : TableId) (takes : List (TakeEnd Item)) (replies : TableId) (hands : List (HandEnd Outgoing))
+    (venue : VenueState) (written : List TrailRow) (is_clean : Bool) (refused' : ℕ) (queues : List Queue) (takes' : List (TakeEnd Item)) (hands' : List (HandEnd Outgoing)) →
+    is_err ran ≡ false → HasWorkedAnew turns told told' ran m opened kept refused intake takes replies hands venue written is_clean refused' queues takes' hands' → refused' ≡ refused
+none_refused turns told told' ran m opened kept refused intake takes replies hands venue written is_clean refused' queues takes' hands' well has =
+    has.worked.parts.refusals ∙ as_before ran has.worker.ledger.refused has.worked.after.ledger.refused well has.worked.run.stop ∙ has.begins.refusals
+
+-- the worker's ends that come back are those of its boards
+pub ends_left : (turns : ℕ) (told told' : List ℕ) (ran : Result Unit EventFault) (m : Market) (opened : Standing) (kept : List TrailRow) (refused : ℕ) (intake : TableId) (takes : List (TakeEnd Item)) (replies : TableId) (hands : List (HandEnd Outgoing))
+    (venue : VenueState) (written : List TrailRow) (is_clean : Bool) (refused' : ℕ) (queues : List Queue) (takes' : List (TakeEnd Item)) (hands' : List (HandEnd Outgoing)) →
+    HasWorkedAnew turns told told' ran m opened kept refused intake takes replies hands venue written is_clean refused' queues takes' hands' → AreTakes intake takes' × AreHands replies hands'
+ends_left turns told told' ran m opened kept refused intake takes replies hands venue written is_clean refused' queues takes' hands' has =
+    let worked = has.worked in
+    let account = worked.kept.account in
+    let moves = worked.run.moves in (
+      subst (λ (ts : List (TakeEnd Item)). AreTakes intake ts) (sym worked.parts.takes_are) (subst (λ (b : TableId). AreTakes b worked.after.takes) (moves.intake ∙ has.begins.intake_is) account.takes),
+      subst (λ (hs : List (HandEnd Outgoing)). AreHands replies hs) (sym worked.parts.hands_are) (subst (λ (b : TableId). AreHands b worked.after.hands) (moves.replies ∙ has.begins.replies_is) account.hands),
+    )
+
+-- the same is closed where its parts are the same
+pub same_closing : (turns : ℕ) (m : Market) (kept : List TrailRow) (lines : List Outside) (told told' : List ℕ) (sessions : List State) (said : List (List Said)) (left : List (Option Item)) (replies_left : List (Option Outgoing))
+    (queues queues' : List Queue) (stands stands' : Standing) (written written' : List TrailRow) (is_clean is_clean' : Bool) →
+    queues' ≡ queues → stands' ≡ stands → written' ≡ written → is_clean' ≡ is_clean →
+    HasClosed turns m kept lines told told' (closing sessions said left replies_left queues stands written is_clean) → HasClosed turns m kept lines told told' (closing sessions said left replies_left queues' stands' written' is_clean')
+same_closing turns m kept lines told told' sessions said left replies_left queues queues' stands stands' written written' is_clean is_clean' same_queues same_stands same_rows same_clean has =
+    subst (λ (qs : List Queue). HasClosed turns m kept lines told told' (closing sessions said left replies_left qs stands' written' is_clean')) (sym same_queues)
+    (subst (λ (s : Standing). HasClosed turns m kept lines told told' (closing sessions said left replies_left queues s written' is_clean')) (sym same_stands)
+    (subst (λ (rs : List TrailRow). HasClosed turns m kept lines told told' (closing sessions said left replies_left queues stands rs is_clean')) (sym same_rows)
+    (subst (λ (b : Bool). HasClosed turns m kept lines told told' (closing sessions said left replies_left queues stands written b)) (sym same_clean) has)))

@@ -19,7 +19,7 @@ use Rattle.venue_rules.specs.Market.{Market}
 use Rattle.venue_rules.specs.Run.{Input, rows, run, is_timely_from}
 use Rattle.venue_rules.specs.declared.trail.TrailRow.{TrailRow}
 use Rattle.venue_worker.specs.Account.{owed_to}
-use Rattle.venue_worker.specs.Inputs.{Each, IsSeated, items_from}
+use Rattle.venue_worker.specs.Inputs.{AreRising, Each, IsSeated, items_from}
 use Rattle.venue_worker.specs.Turns.{IsMomentOf}
 use Rattle.venue_worker.specs.declared.queue.Outgoing.{Outgoing}
 use Rattle.venue_worker.specs.declared.queue.Queue.{Queue}
@@ -111,6 +111,7 @@ pub record HasClosed (turns : ℕ) (m : Market) (kept : List TrailRow) (lines : 
   pub last : ℕ
   pub last_is : IsLastOf kept number last
   pub answered : Each (λ (i : Input). IsMomentOf last moments (moment_of i)) since
+  pub rising : AreRising (before ++ since)
   -- all that the venue did is lawful
   pub lawful : Lawful m (before ++ since)
   pub counted : AreCounted (length lines) c

@@ -24,7 +24,7 @@ pub(crate) fn work_out<W: Clock, K: Keep + Drop>(
     turns: u64,
 ) -> Worked<K>
     requires marks { AreTakes ends.now marks.items × AreUnmarked marks.items }
-    ensures { HasWorked turns (W.answered clock.old) (W.answered clock.new) result.ran worker.entry result.parts.venue (K.rows result.parts.keeper) (K.is_clean result.parts.keeper) result.parts.queues.items result.parts.takes.items result.parts.hands.items }
+    ensures { HasWorked turns (W.answered clock.old) (W.answered clock.new) result.ran worker.entry result.parts.venue (K.rows result.parts.keeper) (K.is_clean result.parts.keeper) (K.refused result.parts.keeper) result.parts.queues.items result.parts.takes.items result.parts.hands.items }
 {
     let mut worker = worker;
     let mut marks = marks;
