@@ -55,7 +55,7 @@ pub record IsBegun (ids : CompIds) (line : Outside) (s : Served) : Type 0 where
   pub new : IsNew s.thread
   pub names : s.thread.session.ids ≡ ids
   pub bare : s.thread.kept ≡ None
-  pub line : outside s.thread.said s.told s.passed ≡ line
+  pub line_is : outside s.thread.said s.told s.passed ≡ line
 
 -- each thread began with a new session at unused seats
 pub begun : (file : ParticipantFile) (count : ℕ) (sessions : List Seen) (lines : List Outside) (hands : List (HandEnd Item)) (takes : List (TakeEnd Outgoing)) (marks : List (HandEnd Unit)) (starts : List Served) →
@@ -68,7 +68,7 @@ begun file count sessions lines hands takes marks starts news idle_hands idle_ta
     let state : s.thread.session ≡ fresh (ids_at file k) = sym from.2 ∙ news.each k from.0 from.1 in
     let hand = idle_hands k s.thread.hand (ap (λ (zs : List (HandEnd Item)). slice_get zs k) (sym are.hands_are) ∙ slice_map (λ (s : Served). s.thread.hand) starts k s found.1) in
     let take = idle_takes k s.thread.take (ap (λ (zs : List (TakeEnd Outgoing)). slice_get zs k) (sym are.takes_are) ∙ slice_map (λ (s : Served). s.thread.take) starts k s found.1) in
-    (s, found.1, record { new = new_thread (ids_at file k) s.thread state hand.0 take.0; names = ap (λ (st : State). st.ids) state; bare = are.kept k s found.1; line = found.2 })
+    (s, found.1, record { new = new_thread (ids_at file k) s.thread state hand.0 take.0; names = ap (λ (st : State). st.ids) state; bare = are.kept k s found.1; line_is = found.2 })
 
 -- what the closing says of what was taken, and of what was reached
 abbrev pub ClosesTaken : {E : Type 0} → (E → Thread) → List E → List (TakeEnd Item) → List (Option Item) → Type 0
@@ -91,7 +91,7 @@ served_at : {E : Type 0} (turns k : ℕ) (ids : CompIds) (line : Outside) (items
     ClosesTaken thread ended takes left → ClosesReached thread ended hands queues replies_left → IsServed turns ids line items owed side
 served_at {E} turns k ids line items owed side s f e thread t h ended takes hands queues left replies_left begins led same session said taken out cut at_e at_t at_h at_q at_x at_y closes_taken closes_reached =
     let own : HasLed turns s.thread (thread e) s.passed f.passed s.told f.told = subst (λ (end : Thread). HasLed turns s.thread end s.passed f.passed s.told f.told) same led in
-    subst (λ (o : Outside). IsServed turns ids o items owed side) begins.line
+    subst (λ (o : Outside). IsServed turns ids o items owed side) begins.line_is
     (record {
       start = s.thread;
       finish = thread e;

@@ -10,6 +10,7 @@ use Rattle.intake_seats.specs.Ends.{AreHands, AreTakes}
 use Rattle.intake_seats.specs.Given.{HandEnd, TakeEnd}
 use Rattle.participants.specs.ParticipantFile.{ParticipantFile}
 use Rattle.venue_worker.specs.declared.queue.Outgoing.{Outgoing}
+use Rattle.run_venue.specs.Making.{AreMade}
 use Rattle.run_venue.specs.Starting.{AreNewSessions, AreStarts, Outside, ids_at}
 use Rattle.run_venue.proofs.Lists.{at_snoc, get_within, index_get, slice_map}
 
@@ -33,3 +34,8 @@ ready intake replies board sessions lines hands takes marks starts are own_hands
     let take = own_takes.1 k s.thread.take (ap (λ (zs : List (TakeEnd Outgoing)). slice_get zs k) (sym are.takes_are) ∙ slice_map (λ (s : Served). s.thread.take) starts k s here.1) in
     let mark = own_marks.1 k s.end (ap (λ (zs : List (HandEnd Unit)). slice_get zs k) (sym are.marks) ∙ slice_map (λ (s : Served). s.end) starts k s here.1) in
     subst (λ (z : Served). IsReady intake replies board z) (sym (index_get starts k d s here.1)) (hand.0, take.0, mark.0, take.2)
+
+pub made_ready : (file : ParticipantFile) (lines : List Outside) (intake : TableId) (takes : List (TakeEnd Item)) (replies : TableId) (hands : List (HandEnd Outgoing)) (ends : TableId) (marks : List (TakeEnd Unit)) (starts : List Served) →
+    AreMade file lines intake takes replies hands ends marks starts → All (λ (s : Served). IsReady intake replies ends s) starts
+made_ready file lines intake takes replies hands ends marks starts made =
+    ready intake replies ends made.sessions lines made.session_hands made.session_takes made.session_ends starts made.begin made.intake_hands.0 made.reply_takes.0 made.end_hands

@@ -29,8 +29,6 @@ pub(crate) fn work_out<W: Clock, K: Keep + Drop>(
     let mut worker = worker;
     let mut marks = marks;
     let ran = worker.run(clock, ends, &mut marks, turns);
-    Worked {
-        ran,
-        parts: worker.into_parts(),
-    }
+    let parts = worker.into_parts();
+    Worked { ran, parts }
 }

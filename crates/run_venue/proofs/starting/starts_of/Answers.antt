@@ -32,32 +32,32 @@ loop-session-init g c =
       ends_left = omega (arith, c.into_iter-ends.ensures.len, c.args.ends.ok.0, c.requires.ends);
     }
 
-pub unwrap-requires : goal.unwrap-requires
-unwrap-requires g c =
+pub unwrap-outside-requires : goal.unwrap-outside-requires
+unwrap-outside-requires g c =
     let gives = c.into_iter-session-iterator.ensures.into_iter_gives in
     let len : into_iter_len c.into_iter-session-iterator.result ≡ length c.args.sessions.items = omega (arith, gives.1, c.args.sessions.ok.0) in
-    let turn = YieldsList-turn (YieldsList-from_vec c.args.sessions.items gives.0 len) c.loop-session.yielded _ c.loop-session.yielded_by _ _ c.in-Some.session c.in-Some.is c.next.ensures.steps in
+    let turn = YieldsList-turn (YieldsList-from_vec c.args.sessions.items gives.0 len) c.loop-session.yielded c.loop-session.session-iterator c.loop-session.yielded_by c.next.result c.next.new.self c.in-Some.session c.in-Some.is c.next.ensures.steps in
     c.next-in-loop-session.ensures.variant.1 (omega (arith, turn.0, c.loop-session.invariant.lines_left))
 
-pub unwrap-requires-2 : goal.unwrap-requires-2
-unwrap-requires-2 g c =
+pub unwrap-hand-requires : goal.unwrap-hand-requires
+unwrap-hand-requires g c =
     let gives = c.into_iter-session-iterator.ensures.into_iter_gives in
     let len : into_iter_len c.into_iter-session-iterator.result ≡ length c.args.sessions.items = omega (arith, gives.1, c.args.sessions.ok.0) in
-    let turn = YieldsList-turn (YieldsList-from_vec c.args.sessions.items gives.0 len) c.loop-session.yielded _ c.loop-session.yielded_by _ _ c.in-Some.session c.in-Some.is c.next.ensures.steps in
+    let turn = YieldsList-turn (YieldsList-from_vec c.args.sessions.items gives.0 len) c.loop-session.yielded c.loop-session.session-iterator c.loop-session.yielded_by c.next.result c.next.new.self c.in-Some.session c.in-Some.is c.next.ensures.steps in
     c.next-in-loop-session-2.ensures.variant.1 (omega (arith, turn.0, c.loop-session.invariant.hands_left))
 
-pub unwrap-requires-3 : goal.unwrap-requires-3
-unwrap-requires-3 g c =
+pub unwrap-take-requires : goal.unwrap-take-requires
+unwrap-take-requires g c =
     let gives = c.into_iter-session-iterator.ensures.into_iter_gives in
     let len : into_iter_len c.into_iter-session-iterator.result ≡ length c.args.sessions.items = omega (arith, gives.1, c.args.sessions.ok.0) in
-    let turn = YieldsList-turn (YieldsList-from_vec c.args.sessions.items gives.0 len) c.loop-session.yielded _ c.loop-session.yielded_by _ _ c.in-Some.session c.in-Some.is c.next.ensures.steps in
+    let turn = YieldsList-turn (YieldsList-from_vec c.args.sessions.items gives.0 len) c.loop-session.yielded c.loop-session.session-iterator c.loop-session.yielded_by c.next.result c.next.new.self c.in-Some.session c.in-Some.is c.next.ensures.steps in
     c.next-in-loop-session-3.ensures.variant.1 (omega (arith, turn.0, c.loop-session.invariant.takes_left))
 
-pub unwrap-requires-4 : goal.unwrap-requires-4
-unwrap-requires-4 g c =
+pub unwrap-end-requires : goal.unwrap-end-requires
+unwrap-end-requires g c =
     let gives = c.into_iter-session-iterator.ensures.into_iter_gives in
     let len : into_iter_len c.into_iter-session-iterator.result ≡ length c.args.sessions.items = omega (arith, gives.1, c.args.sessions.ok.0) in
-    let turn = YieldsList-turn (YieldsList-from_vec c.args.sessions.items gives.0 len) c.loop-session.yielded _ c.loop-session.yielded_by _ _ c.in-Some.session c.in-Some.is c.next.ensures.steps in
+    let turn = YieldsList-turn (YieldsList-from_vec c.args.sessions.items gives.0 len) c.loop-session.yielded c.loop-session.session-iterator c.loop-session.yielded_by c.next.result c.next.new.self c.in-Some.session c.in-Some.is c.next.ensures.steps in
     c.next-in-loop-session-4.ensures.variant.1 (omega (arith, turn.0, c.loop-session.invariant.ends_left))
 
 pub loop-session-preserved : goal.loop-session-preserved
@@ -97,7 +97,7 @@ pub returns : goal.returns
 returns g c =
     let gives = c.into_iter-session-iterator.ensures.into_iter_gives in
     let len : into_iter_len c.into_iter-session-iterator.result ≡ length c.args.sessions.items = omega (arith, gives.1, c.args.sessions.ok.0) in
-    let all = YieldsList-end (YieldsList-from_vec c.args.sessions.items gives.0 len) c.loop-session.yielded _ c.loop-session.yielded_by _ _ c.in-None.is c.next.ensures.steps in
+    let all = YieldsList-end (YieldsList-from_vec c.args.sessions.items gives.0 len) c.loop-session.yielded c.loop-session.session-iterator c.loop-session.yielded_by c.next.result c.next.new.self c.in-None.is c.next.ensures.steps in
     let here = c.loop-session.invariant in
     let starts = c.loop-session.starts.items in
     let long : length starts ≡ length c.args.sessions.items = long_both (λ (s : Served). s.thread.session) (λ (s : Seen). s.state) starts c.loop-session.yielded here.states ∙ all.1 in
