@@ -36,7 +36,7 @@ use Rattle.venue_worker.specs.declared.queue.Outgoing.{Outgoing}
 use Rattle.venue_worker.specs.declared.queue.Queue.{Queue}
 use Rattle.run_venue.specs.Starting.{AreNewSessions, AreStarts, Outside, ids_at, outside}
 use Rattle.run_venue.specs.Making.{AreMade}
-use Rattle.run_venue.specs.Working.{HasWorkedAnew}
+use Rattle.run_venue.specs.Working.{HasWorked, HasWorkedAnew}
 use Rattle.run_venue.specs.Closing.{Side, IsServed, Closing, IsSide, AreCounted, HasClosed, closing}
 use Rattle.run_venue.proofs.Lists.{at_map, at_both, get_within, long_both, slice_map}
 
@@ -230,15 +230,13 @@ none_refused turns told told' ran m opened kept refused intake takes replies han
     has.worked.parts.refusals ∙ as_before ran has.worker.ledger.refused has.worked.after.ledger.refused well has.worked.run.stop ∙ has.begins.refusals
 
 -- the worker's ends that come back are those of its boards
-pub ends_left : (turns : ℕ) (told told' : List ℕ) (ran : Result Unit EventFault) (m : Market) (opened : Standing) (kept : List TrailRow) (refused : ℕ) (intake : TableId) (takes : List (TakeEnd Item)) (replies : TableId) (hands : List (HandEnd Outgoing))
-    (venue : VenueState) (written : List TrailRow) (is_clean : Bool) (refused' : ℕ) (queues : List Queue) (takes' : List (TakeEnd Item)) (hands' : List (HandEnd Outgoing)) →
-    HasWorkedAnew turns told told' ran m opened kept refused intake takes replies hands venue written is_clean refused' queues takes' hands' → AreTakes intake takes' × AreHands replies hands'
-ends_left turns told told' ran m opened kept refused intake takes replies hands venue written is_clean refused' queues takes' hands' has =
-    let worked = has.worked in
+pub ends_left : (turns : ℕ) (told told' : List ℕ) (ran : Result Unit EventFault) (w : Work) (venue : VenueState) (written : List TrailRow) (is_clean : Bool) (refused : ℕ) (queues : List Queue) (takes : List (TakeEnd Item)) (hands : List (HandEnd Outgoing)) (intake replies : TableId) →
+    w.intake ≡ intake → w.replies ≡ replies → HasWorked turns told told' ran w venue written is_clean refused queues takes hands → AreTakes intake takes × AreHands replies hands
+ends_left turns told told' ran w venue written is_clean refused queues takes hands intake replies own_intake own_replies worked =
     let account = worked.kept.account in
     let moves = worked.run.moves in (
-      subst (λ (ts : List (TakeEnd Item)). AreTakes intake ts) (sym worked.parts.takes_are) (subst (λ (b : TableId). AreTakes b worked.after.takes) (moves.intake ∙ has.begins.intake_is) account.takes),
-      subst (λ (hs : List (HandEnd Outgoing)). AreHands replies hs) (sym worked.parts.hands_are) (subst (λ (b : TableId). AreHands b worked.after.hands) (moves.replies ∙ has.begins.replies_is) account.hands),
+      subst (λ (ts : List (TakeEnd Item)). AreTakes intake ts) (sym worked.parts.takes_are) (subst (λ (b : TableId). AreTakes b worked.after.takes) (moves.intake ∙ own_intake) account.takes),
+      subst (λ (hs : List (HandEnd Outgoing)). AreHands replies hs) (sym worked.parts.hands_are) (subst (λ (b : TableId). AreHands b worked.after.hands) (moves.replies ∙ own_replies) account.hands),
     )
 
 -- the same is closed where its parts are the same

@@ -2,7 +2,7 @@
 
 ghost use Rattle.std.specs.Prelude.{◌≡◌, ◌≤◌, ◌^◌, All, IfOk, List, length, map, true};
 ghost use Rattle.gateway.specs.Served.{AreServed, IsReady};
-ghost use Rattle.intake_seats.specs.Ends.{AreHands, AreTakes, AreUnusedHands, AreUnusedTakes};
+ghost use Rattle.intake_seats.specs.Ends.{AreTakes};
 ghost use Rattle.venue_core.specs.Standing.{IsHistory};
 ghost use Rattle.venue_core.specs.State.{standing};
 ghost use Rattle.venue_rules.specs.Run.{Input, rows, run};
@@ -10,7 +10,7 @@ ghost use Rattle.venue_worker.specs.Inputs.{AreRising};
 ghost use Rattle.venue_worker.specs.Turns.{AreUnmarked};
 ghost use Rattle.run_venue.specs.Closing.{HasClosed, closing};
 ghost use Rattle.run_venue.specs.Starting.{outside};
-ghost use Rattle.run_venue.specs.Working.{HasWorked, HasWorkedAnew};
+ghost use Rattle.run_venue.specs.Working.{HasWorked};
 
 use crate::ending::ended_of;
 use crate::making::{Made, make};
@@ -19,8 +19,8 @@ use fix_dictionary::Item;
 use fix_session::laws;
 use gateway::closing::{Closed, close_venue};
 use gateway::line::{Gate, Line};
-use gateway::threads::{Finish, RunFault, run_beside};
-use intake_seats::Board;
+use gateway::threads::{Finish, RunFault, Start, run_beside};
+use intake_seats::{Board, TakeSeat};
 use std::alloc::Global;
 use std::sync::Wait;
 use std::thread::Threads;
@@ -28,17 +28,8 @@ use venue_core::Venue;
 use venue_rules::{Keep, every_run_is_lawful};
 use venue_worker::{Clock, Outgoing, Worker, behind_is_owed_much};
 
-// The boards that messages and replies went through, what the threads gave back, and what the worker left.
-#[derive(Drop)]
-struct Ran<L: Line, C: Clock, G: Gate, K: Keep + Drop> {
-    intake: Board<Item>,
-    replies: Board<Outgoing>,
-    finished: Vec<Finish<L, C, G>>,
-    worked: Worked<K>,
-}
-
 // The turns of all threads, and those of the worker beside them.
-fn run_all<
+fn run_threads<
     R: Threads + Wait + Sync,
     L: Line + Send + Drop,
     C: Clock + Send + Drop,
@@ -48,53 +39,31 @@ fn run_all<
 >(
     rt: &R,
     alloc: Global,
-    venue: Venue,
-    keeper: K,
-    made: Made<L, C, G>,
+    starts: Vec<Start<L, C, G>>,
+    worker: Worker<'_, K>,
     clock: &mut W,
+    intake: &Board<Item>,
+    replies: &Board<Outgoing>,
+    ends: &Board<()>,
+    marks: Vec<TakeSeat<()>>,
     turns: u64,
-) -> Result<Ran<L, C, G, K>, RunFault>
-    requires clean { K.is_clean keeper ≡ true }
-    requires history { (before : List Input) × (K.rows keeper ≡ rows before) × (length before ≤ 10 ^ 15) × IsHistory venue (run venue.market before).history × AreRising before }
-    requires items { venue.items ≤ length (K.rows keeper) }
-    requires starts { All (λ s. IsReady made.intake made.replies made.ends s) made.starts.items }
-    requires takes { AreTakes made.intake made.takes.items × AreUnusedTakes made.takes.items }
-    requires hands { AreHands made.replies made.hands.items × AreUnusedHands made.hands.items }
-    requires marks { AreTakes made.ends made.marks.items × AreUnmarked made.marks.items }
-    requires count { length made.takes.items ≡ length made.hands.items }
-    ensures boards { IfOk result (λ r. (r.intake ≡ made.intake) × (r.replies ≡ made.replies)) }
-    ensures served { IfOk result (λ r. AreServed turns made.starts.items r.finished.items) }
-    ensures worked { IfOk result (λ r. HasWorkedAnew turns (W.answered clock.old) (W.answered clock.new) r.worked.ran venue.market (standing venue.day) (K.rows keeper) (K.refused keeper) made.intake made.takes.items made.replies made.hands.items r.worked.parts.venue (K.rows r.worked.parts.keeper) (K.is_clean r.worked.parts.keeper) (K.refused r.worked.parts.keeper) r.worked.parts.queues.items r.worked.parts.takes.items r.worked.parts.hands.items) }
+) -> Result<(Vec<Finish<L, C, G>>, Worked<K>), RunFault>
+    requires own { All (λ s. IsReady intake.now replies.now ends.now s) starts.items }
+    requires marks { AreTakes ends.now marks.items × AreUnmarked marks.items }
+    ensures served { IfOk result (λ r. AreServed turns starts.items r.0.items) }
+    ensures worked { IfOk result (λ r. HasWorked turns (W.answered clock.old) (W.answered clock.new) r.1.ran worker.entry r.1.parts.venue (K.rows r.1.parts.keeper) (K.is_clean r.1.parts.keeper) (K.refused r.1.parts.keeper) r.1.parts.queues.items r.1.parts.takes.items r.1.parts.hands.items) }
 {
-    let Made {
-        intake,
-        takes,
-        replies,
-        hands,
-        ends,
-        marks,
-        starts,
-    } = made;
-    let Ok(worker) = Worker::new(alloc, venue, keeper, &intake, takes, &replies, hands) else {
-        return Err(RunFault::NoMemory);
-    };
-    let end_board = &ends;
     let (finished, (worked, _)) = run_beside(
         rt,
         alloc,
         starts,
-        &intake,
-        &replies,
-        end_board,
-        turns,
-        move || (work_out(worker, clock, end_board, marks, turns), clock),
-    )?;
-    Ok(Ran {
         intake,
         replies,
-        finished,
-        worked,
-    })
+        ends,
+        turns,
+        move || (work_out(worker, clock, ends, marks, turns), clock),
+    )?;
+    Ok((finished, worked))
 }
 
 /// Runs a venue and closes it. Each participant has a session in a thread of its own, with the line, the clock and the gate at its
@@ -138,12 +107,21 @@ pub fn run_venue<
     let Ok(made) = make(alloc, venue.participants(), lines) else {
         return Err(RunFault::NoMemory);
     };
-    let Ran {
+    let Made {
         intake,
+        takes,
         replies,
-        finished,
-        worked,
-    } = run_all(rt, alloc, venue, keeper, made, clock, turns)?;
+        hands,
+        ends,
+        marks,
+        starts,
+    } = made;
+    let Ok(worker) = Worker::new(alloc, venue, keeper, &intake, takes, &replies, hands) else {
+        return Err(RunFault::NoMemory);
+    };
+    let (finished, worked) = run_threads(
+        rt, alloc, starts, worker, clock, &intake, &replies, &ends, marks, turns,
+    )?;
     let Worked { ran, parts } = worked;
     if ran.is_err() {
         return Err(RunFault::TrailRefused);
