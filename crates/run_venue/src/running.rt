@@ -61,7 +61,14 @@ fn run_threads<
         replies,
         ends,
         turns,
-        move || (work_out(worker, clock, ends, marks, turns), clock),
+        move ||
+            requires marks { AreTakes ends.now marks.items × AreUnmarked marks.items }
+            ensures worked { HasWorked turns (W.answered clock.entry.now) (W.answered result.1.now) result.0.ran worker.entry result.0.parts.venue (K.rows result.0.parts.keeper) (K.is_clean result.0.parts.keeper) (K.refused result.0.parts.keeper) result.0.parts.queues.items result.0.parts.takes.items result.0.parts.hands.items }
+            ensures lent { result.1.ghost_name ≡ clock.entry.ghost_name }
+        {
+            let worked = work_out(worker, clock, ends, marks, turns);
+            (worked, clock)
+        },
     )?;
     Ok((finished, worked))
 }

@@ -1,4 +1,4 @@
-use Rattle.std.proofs.Common.{◌≡◌, Bool, ℕ, List, map, length, refl, ap, sym, ◌∙◌, subst}
+use Rattle.std.proofs.Common.{◌≡◌, Bool, ℕ, List, map, length, refl, ap, sym, ◌∙◌, subst, rules}
 use Rattle.std.specs.Prelude.{Option}
 use Rattle.std.proofs.lemmas.Simd.{map-map}
 use Rattle.atomic_table.specs.Seated.{TableId}
@@ -41,10 +41,10 @@ new-requires g c =
     }
 
 pub run_threads-requires : goal.run_threads-requires
-run_threads-requires g c = record {
-  own = made_ready _ _ _ _ _ _ _ _ _ c.in-Ok.ensures;
-  marks = c.in-Ok.ensures.end_takes;
-}
+run_threads-requires g c = (
+  record { own = made_ready _ _ _ _ _ _ _ _ _ c.in-Ok.ensures; marks = c.in-Ok.ensures.end_takes },
+  (search rules, search rules, search rules, search rules),
+)
 
 pub close_venue-requires : goal.close_venue-requires
 close_venue-requires g c =
