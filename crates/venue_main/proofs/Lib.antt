@@ -1,3 +1,3 @@
 pub mod Counts
 pub mod Outcomes
-pub mod Serving
+pub mod Closed
