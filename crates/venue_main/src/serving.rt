@@ -55,7 +55,7 @@ pub(crate) fn serve_over<
     };
     let Opened {
         sessions,
-        mut worker,
+        worker,
     } = opened;
     // Where nobody can be told the venue is served all the same.
     let _ = announce(venue.participants(), count, port, notes);
@@ -65,7 +65,7 @@ pub(crate) fn serve_over<
         venue,
         keeper,
         sessions,
-        &mut worker,
+        worker,
         service.turns(),
     ) {
         Ok(closed) => Ok(closed),
@@ -106,7 +106,7 @@ fn run_lines<R: Threads + Wait + Sync, T: Clock + Send + Drop, K: Keep + Drop>(
     venue: Venue,
     keeper: K,
     lines: Vec<Outside<T>>,
-    clock: &mut WorkerClock<T>,
+    clock: WorkerClock<T>,
     turns: u64,
 ) -> Result<Closed<TcpLine<T>, K>, RunFault>
     requires lines { length lines.items ≡ length venue.market.participants.names }
@@ -115,7 +115,8 @@ fn run_lines<R: Threads + Wait + Sync, T: Clock + Send + Drop, K: Keep + Drop>(
     requires items { venue.items ≤ length (K.rows keeper) }
     ensures { IfOk result (λ c. HasServed turns venue.market (K.rows keeper) (closing (map (λ s. s.state) c.sessions.items) (map (λ l. l.account) c.lines.items) c.left.items c.replies_left.items c.queues.items (standing c.venue.day) (K.rows c.keeper) (K.is_clean c.keeper))) }
 {
-    run_venue(rt, alloc, venue, keeper, lines, clock, turns)
+    let (closed, _) = run_venue(rt, alloc, venue, keeper, lines, clock, turns)?;
+    Ok(closed)
 }
 
 /// Gives each counterparty what still waits for it, where it takes that.
