@@ -1,4 +1,4 @@
-use Rattle.std.proofs.Common.{◌≡◌, Bool, ℕ, List, map, length, refl, ap, sym, ◌∙◌, subst, rules}
+use Rattle.std.proofs.Common.{◌≡◌, Bool, ℕ, List, map, length, refl, ap, sym, ◌∙◌, subst}
 use Rattle.std.specs.Prelude.{Option}
 use Rattle.std.proofs.lemmas.Simd.{map-map}
 use Rattle.atomic_table.specs.Seated.{TableId}
@@ -40,11 +40,11 @@ new-requires g c =
       participants = made.intake_takes.0.0 ∙ made.intake_seats ∙ sym (made.reply_hands.0.0 ∙ made.reply_seats);
     }
 
-pub run_threads-requires : goal.run_threads-requires
-run_threads-requires g c = (
-  record { own = made_ready _ _ _ _ _ _ _ _ _ c.in-Ok.ensures; marks = c.in-Ok.ensures.end_takes },
-  (search rules, search rules, search rules, search rules),
-)
+pub run_threads-requires-clause-own : goal.run_threads-requires-clause-own
+run_threads-requires-clause-own g c = made_ready _ _ _ _ _ _ _ _ _ c.in-Ok.ensures
+
+pub run_threads-requires-clause-marks : goal.run_threads-requires-clause-marks
+run_threads-requires-clause-marks g c = c.in-Ok.ensures.end_takes
 
 pub close_venue-requires : goal.close_venue-requires
 close_venue-requires g c =
