@@ -14,7 +14,7 @@ ghost use Rattle.run_venue.specs.Working.{HasWorked};
 
 use crate::ending::ended_of;
 use crate::making::{Made, make};
-use crate::working::{Worked, work_out};
+use crate::working::{Worked, work_with};
 use fix_dictionary::Item;
 use fix_session::laws;
 use gateway::closing::{Closed, close_venue};
@@ -28,32 +28,32 @@ use venue_core::Venue;
 use venue_rules::{Keep, every_run_is_lawful};
 use venue_worker::{Clock, Outgoing, Worker, behind_is_owed_much};
 
-// The turns of all threads, and those of the worker beside them.
+// The turns of all threads, and those of the worker beside them, which give its clock back.
 fn run_threads<
     R: Threads + Wait + Sync,
     L: Line + Send + Drop,
     C: Clock + Send + Drop,
     G: Gate + Send + Drop,
-    W: Clock,
+    W: Clock + Drop,
     K: Keep + Drop,
 >(
     rt: &R,
     alloc: Global,
     starts: Vec<Start<L, C, G>>,
     worker: Worker<'_, K>,
-    clock: &mut W,
+    clock: W,
     intake: &Board<Item>,
     replies: &Board<Outgoing>,
     ends: &Board<()>,
     marks: Vec<TakeSeat<()>>,
     turns: u64,
-) -> Result<(Vec<Finish<L, C, G>>, Worked<K>), RunFault>
+) -> Result<(Vec<Finish<L, C, G>>, Worked<K>, W), RunFault>
     requires own { All (λ s. IsReady intake.now replies.now ends.now s) starts.items }
     requires marks { AreTakes ends.now marks.items × AreUnmarked marks.items }
     ensures served { IfOk result (λ r. AreServed turns starts.items r.0.items) }
-    ensures worked { IfOk result (λ r. HasWorked turns (W.answered clock.old) (W.answered clock.new) r.1.ran worker.entry r.1.parts.venue (K.rows r.1.parts.keeper) (K.is_clean r.1.parts.keeper) (K.refused r.1.parts.keeper) r.1.parts.queues.items r.1.parts.takes.items r.1.parts.hands.items) }
+    ensures worked { IfOk result (λ r. HasWorked turns (W.answered clock) (W.answered r.2) r.1.ran worker.entry r.1.parts.venue (K.rows r.1.parts.keeper) (K.is_clean r.1.parts.keeper) (K.refused r.1.parts.keeper) r.1.parts.queues.items r.1.parts.takes.items r.1.parts.hands.items) }
 {
-    let (finished, (worked, _)) = run_beside(
+    let (finished, (worked, clock_after)) = run_beside(
         rt,
         alloc,
         starts,
@@ -61,20 +61,13 @@ fn run_threads<
         replies,
         ends,
         turns,
-        move ||
-            requires marks { AreTakes ends.now marks.items × AreUnmarked marks.items }
-            ensures worked { HasWorked turns (W.answered clock.entry.now) (W.answered result.1.now) result.0.ran worker.entry result.0.parts.venue (K.rows result.0.parts.keeper) (K.is_clean result.0.parts.keeper) (K.refused result.0.parts.keeper) result.0.parts.queues.items result.0.parts.takes.items result.0.parts.hands.items }
-            ensures lent { result.1.ghost_name ≡ clock.entry.ghost_name }
-        {
-            let worked = work_out(worker, clock, ends, marks, turns);
-            (worked, clock)
-        },
+        move || work_with(worker, clock, ends, marks, turns),
     )?;
-    Ok((finished, worked))
+    Ok((finished, worked, clock_after))
 }
 
 /// Runs a venue and closes it. Each participant has a session in a thread of its own, with the line, the clock and the gate at its
-/// place in `lines`; the worker runs on the caller's thread, at the moments that `clock` answers. Each thread and the worker
+/// place in `lines`; the worker runs on the caller's thread, at the moments that `clock` answers, which is given back. Each thread and the worker
 /// take `turns` turns; a session ends before where its line is over or it collected the mark, and the worker where all sessions
 /// ended and nothing is left to do.
 ///
@@ -89,7 +82,7 @@ pub fn run_venue<
     L: Line + Send + Drop,
     C: Clock + Send + Drop,
     G: Gate + Send + Drop,
-    W: Clock,
+    W: Clock + Drop,
     K: Keep + Drop,
 >(
     rt: &R,
@@ -97,16 +90,16 @@ pub fn run_venue<
     venue: Venue,
     keeper: K,
     lines: Vec<(L, C, G)>,
-    clock: &mut W,
+    clock: W,
     turns: u64,
-) -> Result<Closed<L, K>, RunFault>
+) -> Result<(Closed<L, K>, W), RunFault>
     requires lines { length lines.items ≡ length venue.market.participants.names }
     requires clean { K.is_clean keeper ≡ true }
     requires history { (before : List Input) × (K.rows keeper ≡ rows before) × (length before ≤ 10 ^ 15) × IsHistory venue (run venue.market before).history × AreRising before }
     requires items { venue.items ≤ length (K.rows keeper) }
-    ensures closed { IfOk result (λ c. HasClosed turns venue.market (K.rows keeper) (map (λ o. outside (L.said o.0) (C.answered o.1) (G.passed o.2)) lines.items) (W.answered clock.old) (W.answered clock.new) (closing (map (λ s. s.state) c.sessions.items) (map (λ l. L.said l) c.lines.items) c.left.items c.replies_left.items c.queues.items (standing c.venue.day) (K.rows c.keeper) (K.is_clean c.keeper))) }
-    ensures market { IfOk result (λ c. c.venue.market ≡ venue.market) }
-    ensures unrefused { IfOk result (λ c. K.refused c.keeper ≡ K.refused keeper) }
+    ensures closed { IfOk result (λ r. HasClosed turns venue.market (K.rows keeper) (map (λ o. outside (L.said o.0) (C.answered o.1) (G.passed o.2)) lines.items) (W.answered clock) (W.answered r.1) (closing (map (λ s. s.state) r.0.sessions.items) (map (λ l. L.said l) r.0.lines.items) r.0.left.items r.0.replies_left.items r.0.queues.items (standing r.0.venue.day) (K.rows r.0.keeper) (K.is_clean r.0.keeper))) }
+    ensures market { IfOk result (λ r. r.0.venue.market ≡ venue.market) }
+    ensures unrefused { IfOk result (λ r. K.refused r.0.keeper ≡ K.refused keeper) }
 {
     laws::one_reader();
     every_run_is_lawful();
@@ -126,7 +119,7 @@ pub fn run_venue<
     let Ok(worker) = Worker::new(alloc, venue, keeper, &intake, takes, &replies, hands) else {
         return Err(RunFault::NoMemory);
     };
-    let (finished, worked) = run_threads(
+    let (finished, worked, clock_after) = run_threads(
         rt, alloc, starts, worker, clock, &intake, &replies, &ends, marks, turns,
     )?;
     let Worked { ran, parts } = worked;
@@ -137,7 +130,7 @@ pub fn run_venue<
         return Err(RunFault::NoMemory);
     };
     match close_venue(alloc, parts, ended, intake, replies) {
-        Ok(closed) => Ok(closed),
+        Ok(closed) => Ok((closed, clock_after)),
         Err(_) => Err(RunFault::NoMemory),
     }
 }

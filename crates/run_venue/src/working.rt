@@ -32,3 +32,19 @@ pub(crate) fn work_out<W: Clock, K: Keep + Drop>(
     let parts = worker.into_parts();
     Worked { ran, parts }
 }
+
+/// The same with a clock that is given, and given back.
+pub(crate) fn work_with<W: Clock, K: Keep + Drop>(
+    worker: Worker<'_, K>,
+    clock: W,
+    ends: &Board<()>,
+    marks: Vec<TakeSeat<()>>,
+    turns: u64,
+) -> (Worked<K>, W)
+    requires marks { AreTakes ends.now marks.items × AreUnmarked marks.items }
+    ensures { HasWorked turns (W.answered clock) (W.answered result.1) result.0.ran worker.entry result.0.parts.venue (K.rows result.0.parts.keeper) (K.is_clean result.0.parts.keeper) (K.refused result.0.parts.keeper) result.0.parts.queues.items result.0.parts.takes.items result.0.parts.hands.items }
+{
+    let mut clock = clock;
+    let worked = work_out(worker, &mut clock, ends, marks, turns);
+    (worked, clock)
+}

@@ -41,10 +41,10 @@ new-requires g c =
     }
 
 pub run_threads-requires-clause-own : goal.run_threads-requires-clause-own
-run_threads-requires-clause-own g c = made_ready _ _ _ _ _ _ _ _ _ c.in-Ok.ensures
+run_threads-requires-clause-own g c κs within = made_ready _ _ _ _ _ _ _ _ _ c.in-Ok.ensures
 
 pub run_threads-requires-clause-marks : goal.run_threads-requires-clause-marks
-run_threads-requires-clause-marks g c = c.in-Ok.ensures.end_takes
+run_threads-requires-clause-marks g c κs within = c.in-Ok.ensures.end_takes
 
 pub close_venue-requires : goal.close_venue-requires
 close_venue-requires g c =
@@ -70,8 +70,8 @@ returns-in-Ok-close_venue g c =
     let m = c.args.venue.market in
     let rows = λ (k : g.row.K.Denot). g.K.Keep.rows k in
     let lines = map (λ (o : g.row.L.Denot × g.row.C.Denot × g.row.G.Denot). outside (g.L.Line.said o.0) (g.C.Clock.answered o.1) (g.G.Gate.passed o.2)) c.args.lines.items in
-    let told = g.W.Clock.answered c.args.clock.now in
-    let told' = g.W.Clock.answered c.run_threads.new.clock in
+    let told = g.W.Clock.answered c.args.clock in
+    let told' = g.W.Clock.answered c.in_ok-finished.clock_after in
     let thread = λ (e : Ended g.row.L.Denot). at_start e.session e.hand e.take (g.L.Line.said e.line) in
     let made = c.in-Ok.made in
     let ended = c.in-Ok-ended_of.ended.items in
