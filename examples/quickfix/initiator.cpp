@@ -26,6 +26,7 @@
 #include <sstream>
 #include <stdexcept>
 #include <string>
+#include <thread>
 #include <vector>
 
 namespace {
@@ -138,7 +139,12 @@ struct Player {
         std::getline(words, rest);
         if (!sessions.count(name)) throw std::runtime_error("no such line: " + line);
         FIX::Session &session = *FIX::Session::lookupSession(sessions[name]);
-        if (verb == "hears") return heard.wait(name, rest);
+        if (verb == "hears") {
+            heard.wait(name, rest);
+            // (a Logon is told before the engine acts on it)
+            while (rest.find("35=A") != std::string::npos && !session.isLoggedOn()) std::this_thread::sleep_for(std::chrono::milliseconds(1));
+            return;
+        }
         if (verb == "logon") return session.logon();
         if (verb == "logout") return session.logout();
         if (verb == "break") return session.disconnect();
