@@ -53,21 +53,10 @@ pub(crate) fn serve_over<
         Ok(opened) => opened,
         Err(error) => return Err(fault_of(error.kind())),
     };
-    let Opened {
-        sessions,
-        worker,
-    } = opened;
+    let Opened { sessions, worker } = opened;
     // Where nobody can be told the venue is served all the same.
     let _ = announce(venue.participants(), count, port, notes);
-    match run_lines(
-        rt,
-        alloc,
-        venue,
-        keeper,
-        sessions,
-        worker,
-        service.turns(),
-    ) {
+    match run_lines(rt, alloc, venue, keeper, sessions, worker, service.turns()) {
         Ok(closed) => Ok(closed),
         Err(fault) => Err(ServeFault::from(fault)),
     }
