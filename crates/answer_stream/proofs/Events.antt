@@ -14,8 +14,8 @@ use Rattle.venue_rules.specs.Messages.{message}
 use Rattle.venue_world.specs.declared.act.Act.TheVariants.{Alone, Takes}
 use Rattle.venue_world.specs.declared.act.Doing.{Doing}
 use Rattle.venue_world.specs.declared.act.Doing.TheVariants.{Pieces, Steps, Hands, Delivers, Collects, Writes}
-use Rattle.venue_world.specs.declared.outgoing.Outgoing.{Outgoing}
-use Rattle.venue_world.specs.declared.outgoing.Outgoing.TheVariants.{Message, Cut}
+use Rattle.taken_and_owed.specs.declared.outgoing.Outgoing.{Outgoing}
+use Rattle.taken_and_owed.specs.declared.outgoing.Outgoing.TheVariants.{Message, Cut}
 use Rattle.venue_world.specs.Seen.{Done, Seen, Shows}
 use Rattle.venue_world.specs.Side.{Side, collected, delivered, does, handed, wire_taken}
 use Rattle.venue_world.specs.World.{Stand, answered, at, behind, down, emptied, first_behind, is_due, message_from, posted, refusal_at, replies_after, seat_at, take_refused, takes, told, unless_behind}

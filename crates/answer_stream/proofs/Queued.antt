@@ -14,10 +14,11 @@ use Rattle.venue_world.specs.declared.act.Act.{Act}
 use Rattle.venue_world.specs.declared.act.Act.TheVariants.{Alone, Takes, VenueTicks}
 use Rattle.venue_world.specs.declared.act.Doing.{Doing}
 use Rattle.venue_world.specs.declared.act.Doing.TheVariants.{Pieces, Steps, Ticks, Breaks, Resumes, Hands, Delivers, Collects, Cuts, Writes}
-use Rattle.venue_world.specs.declared.outgoing.Outgoing.{Outgoing}
-use Rattle.venue_world.specs.declared.outgoing.Outgoing.TheVariants.{Message as Reply, Cut}
+use Rattle.taken_and_owed.specs.declared.outgoing.Outgoing.{Outgoing}
+use Rattle.taken_and_owed.specs.declared.outgoing.Outgoing.TheVariants.{Message as Reply, Cut}
 use Rattle.venue_world.specs.Headline.{calls_by, calls_from, calls_in, given_by, given_from, history_of, items_of, was_cut, wire_of}
-use Rattle.venue_world.specs.Side.{Side, outgoing, pops, sends}
+use Rattle.taken_and_owed.specs.Owed.{outgoing}
+use Rattle.venue_world.specs.Side.{Side, pops, sends}
 use Rattle.venue_world.specs.Wires.{WiresLoseNothing, in_acts, leaves, left, queued}
 use Rattle.venue_world.specs.World.{Stand, after_act, after_all, fresh_world, ids_of}
 use Rattle.answer_stream.specs.Acts.{IsAnswered, Leads, MayCome, OfFirst}

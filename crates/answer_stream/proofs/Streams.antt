@@ -13,11 +13,13 @@ use Rattle.venue_rules.specs.Run.{Input, Message, Tick, owed}
 use Rattle.venue_world.specs.declared.act.Act.{Act}
 use Rattle.venue_world.specs.declared.act.Act.TheVariants.{Alone, Takes, VenueTicks}
 use Rattle.venue_world.specs.declared.act.Doing.TheVariants.{Resumes, Cuts}
-use Rattle.venue_world.specs.declared.outgoing.Outgoing.{Outgoing}
-use Rattle.venue_world.specs.declared.outgoing.Outgoing.TheVariants.{Message as Reply, Cut}
-use Rattle.venue_world.specs.Headline.{Headline, OwedAll, TakenThenWaiting, heard_of, items_of, taken_from, was_cut}
+use Rattle.taken_and_owed.specs.declared.outgoing.Outgoing.{Outgoing}
+use Rattle.taken_and_owed.specs.declared.outgoing.Outgoing.TheVariants.{Message as Reply, Cut}
+use Rattle.taken_and_owed.specs.Taken.{items_from}
+use Rattle.venue_world.specs.Headline.{Headline, OwedAll, TakenThenWaiting, heard_of, items_of, was_cut}
 use Rattle.venue_world.specs.Seen.{Seen, Shows}
-use Rattle.venue_world.specs.Side.{Side, for_session, for_venue, outgoing}
+use Rattle.taken_and_owed.specs.Owed.{outgoing}
+use Rattle.venue_world.specs.Side.{Side, for_session, for_venue}
 use Rattle.venue_world.specs.Wires.{WiresLoseNothing}
 use Rattle.venue_world.specs.World.{Stand, after_act, after_all, answered, at, emptied, first_behind, fresh_world, is_due, message_from, replies_after, seat_at, takes, unless_behind}
 use Rattle.answer_stream.specs.Acts.{IsAnswered, IsHeardOut, Leads, MayCome, OfFirst}
@@ -33,7 +35,7 @@ use Rattle.answer_stream.proofs.Uncut.{KeepsItsWord, run-uncut}
 
 record AtMoment (t : ℕ) (w : Stand) : Type 0 where
   pub moment : w.moment ≤ t
-  pub items : w.items ≡ taken t (taken_from 0 w.items)
+  pub items : w.items ≡ taken t (items_from 0 w.items)
 
 taken-more : (t : ℕ) (items : List Item) (x : Item) → taken t (items ++ x ∷ []) ≡ taken t items ++ message_from 0 x t ∷ []
 taken-more t [] x = refl
@@ -43,14 +45,14 @@ one-more-if : (b : Bool) (y x : Item) (l l' : List Item) → l' ≡ l ++ x ∷ [
 one-more-if true y x l l' e = ap (λ (k : List Item). y ∷ k) e
 one-more-if false y x l l' e = e
 
-taken-from-more : (u : ℕ) (items : List Input) (x : Item) → taken_from 0 (items ++ message_from 0 x u ∷ []) ≡ taken_from 0 items ++ x ∷ []
+taken-from-more : (u : ℕ) (items : List Input) (x : Item) → items_from 0 (items ++ message_from 0 x u ∷ []) ≡ items_from 0 items ++ x ∷ []
 taken-from-more u [] x = refl
-taken-from-more u (Message y t ∷ items) x = one-more-if (y.from == 0) y.item x (taken_from 0 items) (taken_from 0 (items ++ message_from 0 x u ∷ [])) (taken-from-more u items x)
+taken-from-more u (Message y t ∷ items) x = one-more-if (y.from == 0) y.item x (items_from 0 items) (items_from 0 (items ++ message_from 0 x u ∷ [])) (taken-from-more u items x)
 taken-from-more u (Tick t ∷ items) x = taken-from-more u items x
 
-items-more : (t : ℕ) (w : Stand) (x : Item) → AtMoment t w → w.items ++ message_from 0 x t ∷ [] ≡ taken t (taken_from 0 (w.items ++ message_from 0 x t ∷ []))
+items-more : (t : ℕ) (w : Stand) (x : Item) → AtMoment t w → w.items ++ message_from 0 x t ∷ [] ≡ taken t (items_from 0 (w.items ++ message_from 0 x t ∷ []))
 items-more t w x h =
-    ap (λ (l : List Input). l ++ message_from 0 x t ∷ []) h.items ∙ sym (taken-more t (taken_from 0 w.items) x) ∙ ap (taken t) (sym (taken-from-more t w.items x))
+    ap (λ (l : List Input). l ++ message_from 0 x t ∷ []) h.items ∙ sym (taken-more t (items_from 0 w.items) x) ∙ ap (taken t) (sym (taken-from-more t w.items x))
 
 unless-at : (t : ℕ) (fb : Option ℕ) (w' w : Stand) → AtMoment t w' → AtMoment t w → AtMoment t (unless_behind fb w' w)
 unless-at t None w' w h' h = h'
@@ -105,10 +107,10 @@ none-for-venue s a = ap (λ (seat : Option Item). option_to_list seat ++ s.sessi
 none-for-session : (s : Side) → IsAnswered s → for_session s ≡ []
 none-for-session s a = ap (λ (reply : Option Outgoing). option_to_list reply ++ s.queue) a.no_reply ∙ a.none_queued
 
-first-taken : (r : Reader) (m : Market) (acts : List Act) (sides : List Side) → OfFirst IsAnswered sides → TakenThenWaiting sides r m acts → taken_from 0 (items_of r m acts) ≡ accepted (heard_of r m 0 acts)
+first-taken : (r : Reader) (m : Market) (acts : List Act) (sides : List Side) → OfFirst IsAnswered sides → TakenThenWaiting sides r m acts → items_from 0 (items_of r m acts) ≡ accepted (heard_of r m 0 acts)
 first-taken r m acts [] a law = absurd a
 first-taken r m acts (s ∷ sides) a law =
-    let all = taken_from 0 (items_of r m acts) in
+    let all = items_from 0 (items_of r m acts) in
     sym (append-nil all) ∙ ap (λ (l : List Item). all ++ l) (sym (none-for-venue s a)) ∙ law 0 s refl
 
 abbrev apps : List Outgoing → List App

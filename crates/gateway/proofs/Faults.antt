@@ -7,7 +7,7 @@ use Rattle.fix_session.specs.Reader.{Reader}
 use Rattle.fix_session.specs.Table.{are_numbers_spent}
 use Rattle.gateway.specs.declared.line.Accept.TheVariants as accept
 use Rattle.gateway.specs.declared.piece.Given.TheVariants as gave
-use Rattle.venue_worker.specs.declared.queue.Outgoing.TheVariants.{Message, Cut}
+use Rattle.taken_and_owed.specs.declared.outgoing.Outgoing.TheVariants.{Message, Cut}
 use Rattle.gateway.specs.Said.{Accepted, Gave, Took, Broke_off, faults_in}
 use Rattle.gateway.specs.Faults.{TookAll}
 use Rattle.gateway.specs.Thread.{Standing, Event, Accepts, Collects, Writes, Breaks_off, Reads, Keeps, Repeats, Steps, Hands, Ticks, moves, runs, hands}

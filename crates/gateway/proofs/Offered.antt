@@ -16,7 +16,7 @@ use Rattle.fix_session.specs.declared.line.TickAsk.{TickAsk}
 use Rattle.fix_session.specs.declared.line.TickAsk.TheVariants as tick_asks
 use Rattle.gateway.specs.declared.line.Accept.TheVariants as accept
 use Rattle.gateway.specs.declared.piece.Given.TheVariants as gave
-use Rattle.venue_worker.specs.declared.queue.Outgoing.TheVariants.{Message, Cut}
+use Rattle.taken_and_owed.specs.declared.outgoing.Outgoing.TheVariants.{Message, Cut}
 use Rattle.gateway.specs.Thread.{Standing, Event, Accepts, Collects, Writes, Breaks_off, Reads, Keeps, Repeats, Steps, Hands, Ticks, moves, runs, hands}
 use Rattle.gateway.specs.Offered.{Connection, Connections, AreFirstParts, AllFirstParts, IsFirstPart, closed, offers, queues, notes, noted}
 

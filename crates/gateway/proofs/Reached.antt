@@ -8,11 +8,12 @@ use Rattle.std.specs.Option.{option_to_list}
 use Rattle.fix_dictionary.specs.declared.messages.App.{App}
 use Rattle.fix_dictionary.specs.declared.messages.Item.{Item}
 use Rattle.fix_session.specs.Reader.{Reader}
-use Rattle.venue_worker.specs.declared.queue.Outgoing.{Outgoing}
-use Rattle.venue_worker.specs.declared.queue.Outgoing.TheVariants.{Cut}
+use Rattle.taken_and_owed.specs.declared.outgoing.Outgoing.{Outgoing}
+use Rattle.taken_and_owed.specs.declared.outgoing.Outgoing.TheVariants.{Cut}
 use Rattle.gateway.specs.Calls.{unmarked}
 use Rattle.gateway.specs.Closing.{Reached, IsTakenWhole}
-use Rattle.venue_worker.specs.Queued.{IsOwed, outgoing}
+use Rattle.taken_and_owed.specs.Owed.{outgoing}
+use Rattle.venue_worker.specs.Queued.{IsOwed}
 use Rattle.gateway.specs.Thread.{Thread}
 use Rattle.gateway.specs.Whole.{HasLed, IsNew}
 use Rattle.gateway.proofs.Ties.{unmarked-append}

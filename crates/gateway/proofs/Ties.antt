@@ -12,8 +12,8 @@ use Rattle.fix_session.specs.Sent.{numbered}
 use Rattle.fix_session.specs.Runs as session
 use Rattle.gateway.specs.declared.line.Accept.TheVariants as accept
 use Rattle.gateway.specs.declared.piece.Given.TheVariants as gave
-use Rattle.venue_worker.specs.declared.queue.Outgoing.{Outgoing}
-use Rattle.venue_worker.specs.declared.queue.Outgoing.TheVariants.{Message, Cut}
+use Rattle.taken_and_owed.specs.declared.outgoing.Outgoing.{Outgoing}
+use Rattle.taken_and_owed.specs.declared.outgoing.Outgoing.TheVariants.{Message, Cut}
 use Rattle.gateway.specs.Thread.{Standing, Event, Accepts, Collects, Writes, Breaks_off, Reads, Keeps, Repeats, Steps, Hands, Ticks, moves, runs, hands}
 use Rattle.gateway.specs.Calls.{calls, calls_of, heard_of, unmarked}
 

@@ -6,7 +6,7 @@ use Rattle.fix_dictionary.specs.declared.messages.Item.{Item}
 use Rattle.fix_session.specs.Chain.{accepted}
 use Rattle.fix_session.specs.Reader.{Reader}
 use Rattle.fix_session.specs.State.{State}
-use Rattle.venue_worker.specs.declared.queue.Outgoing.{Outgoing}
+use Rattle.taken_and_owed.specs.declared.outgoing.Outgoing.{Outgoing}
 use Rattle.gateway.specs.Calls.{heard_of, unmarked}
 use Rattle.gateway.specs.Thread.{Thread, Mark, events_of}
 

@@ -3,7 +3,7 @@ use Rattle.std.specs.Prelude.{◌≡◌, ℕ, List, [], ◌∷◌, ◌++◌, dro
 use Rattle.fix_session.specs.Reader.{Reader}
 use Rattle.gateway.specs.declared.line.Accept.TheVariants as accept
 use Rattle.gateway.specs.declared.piece.Given.TheVariants as gave
-use Rattle.venue_worker.specs.declared.queue.Outgoing.TheVariants.{Message, Cut}
+use Rattle.taken_and_owed.specs.declared.outgoing.Outgoing.TheVariants.{Message, Cut}
 use Rattle.gateway.specs.Thread.{Standing, Event, Accepts, Collects, Writes, Breaks_off, Reads, Keeps, Repeats, Steps, Hands, Ticks, moves}
 
 -- what was queued on a connection, and what the line was offered: all of it was taken, but for a last part of what it broke off in

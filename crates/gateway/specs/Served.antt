@@ -5,7 +5,7 @@ use Rattle.intake_seats.specs.Ends.{IsSameHander}
 use Rattle.intake_seats.specs.Given.{HandEnd, TakeEnd}
 use Rattle.fix_dictionary.specs.declared.messages.Item.{Item}
 use Rattle.fix_session.specs.State.{Seen}
-use Rattle.venue_worker.specs.declared.queue.Outgoing.{Outgoing}
+use Rattle.taken_and_owed.specs.declared.outgoing.Outgoing.{Outgoing}
 use Rattle.gateway.specs.Said.{Said}
 use Rattle.gateway.specs.Thread.{Thread, at_start}
 use Rattle.gateway.specs.Whole.{HasLed}

@@ -11,8 +11,8 @@ use Rattle.gateway.specs.declared.line.Accept.{Accept}
 use Rattle.gateway.specs.declared.line.Accept.TheVariants as accept
 use Rattle.gateway.specs.declared.piece.Given.{Given}
 use Rattle.gateway.specs.declared.piece.Given.TheVariants as gave
-use Rattle.venue_worker.specs.declared.queue.Outgoing.{Outgoing}
-use Rattle.venue_worker.specs.declared.queue.Outgoing.TheVariants.{Message, Cut}
+use Rattle.taken_and_owed.specs.declared.outgoing.Outgoing.{Outgoing}
+use Rattle.taken_and_owed.specs.declared.outgoing.Outgoing.TheVariants.{Message, Cut}
 use Rattle.gateway.specs.declared.turn.Collect.{Collect}
 use Rattle.gateway.specs.declared.turn.Collect.TheVariants as collect
 use Rattle.gateway.specs.declared.turn.Wrote.{Wrote}

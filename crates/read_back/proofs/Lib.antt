@@ -3,3 +3,4 @@ pub mod TradeNumbers
 pub mod Finding
 pub mod RoomNumbers
 pub mod RoomReads
+pub mod ByNumber

@@ -6,3 +6,6 @@ pub mod Quoted
 pub mod Numbered
 -- the rooms read off a history
 pub mod ReadOf
+-- what is kept of the rooms, by their numbers
+pub mod QuotedPast
+pub mod ByNumber

@@ -5,6 +5,7 @@
 
 mod laws;
 mod quoted;
+mod quoted_past;
 mod trades;
 
 pub use laws::{

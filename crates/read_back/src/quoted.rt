@@ -1,48 +1,65 @@
 //! The rooms of a day in which there was a quote, as they are read back.
-ghost use Rattle.std.specs.Prelude.{◌≡◌, ◌≤◌, ◌<◌, [], ◌∷◌, ◌++◌, map, option_map, IfOk, OnOk};
+ghost use Rattle.std.specs.Prelude.{◌≡◌, ◌≤◌, ◌<◌, [], ◌∷◌, ◌++◌, map, option_map, Some, IfOk, OnOk};
 ghost use Rattle.std.specs.Vec.{vec_capacity, vec_len};
 ghost use Rattle.venue_rules.specs.Readings.{shown_order};
+ghost use Rattle.read_back.specs.ByNumber.{AreRising, put, with_number};
 ghost use Rattle.read_back.specs.Quoted.{found, room_shown};
 
+use crate::quoted_past::QuotedPast;
 use std::alloc::{AllocError, Global};
 use std::marker::Model;
 use venue_rules::{PictureEntry, Recipients, Room, RoomFact, Shown, ShownOrder};
 
-/// The rooms so far in which there was a quote, in the order of their first quotes.
+/// The rooms so far in which there was a quote, by their numbers; contracts see them in the order of their first quotes.
 #[derive(Drop)]
 pub struct QuotedRooms {
+    past: QuotedPast,
     read: Vec<RoomFact>,
 }
 
 impl Model for QuotedRooms {
-    ghost use Rattle.std.specs.Prelude.{◌-◌};
-    ghost use Rattle.std.specs.Vec.{vec_capacity, vec_len};
+    ghost use Rattle.read_back.specs.ByNumber.{IsByNumber, quoted};
     ghost use Rattle.read_back.specs.Quoted.{Quoted};
 
     ghost Value = { Quoted };
 
-    ghost view = { λ q. record { rooms = q.read.items; room = vec_capacity q.read - vec_len q.read } };
+    ghost view = { quoted };
+
+    ghost invariant = { IsByNumber };
 }
 
-// The first room with this number.
-#[tactic(auto, using(crate::proofs::Finding::findings))]
+// The room, if it has this number.
+fn with_number(room: &RoomFact, number: u64) -> Option<&RoomFact>
+    ensures { option_map (λ f. f.now) result ≡ with_number number (Some room.now) }
+{
+    if room.number == number {
+        Some(room)
+    } else {
+        None
+    }
+}
+
+// The first room with this number, of those that are in the order of their numbers.
 fn find(rooms: &[RoomFact], number: u64) -> Option<&RoomFact>
+    requires { AreRising 0 rooms.now }
     ensures { option_map (λ f. f.now) result ≡ found number rooms.now }
 {
-    for room in rooms {
-        if room.number == number {
-            return Some(room);
-        }
-    }
-    None
+    let at = rooms.partition_point(|room| room.number < number);
+    let Some(room) = rooms.get(at) else {
+        return None;
+    };
+    with_number(room, number)
 }
 
-// Appends a room for which there is room.
-fn append_room(read: &mut Vec<RoomFact>, fact: RoomFact)
-    requires { vec_len read.old < vec_capacity read.old }
-    ensures { read.new.items ≡ read.old.items ++ fact ∷ [] }
+// Puts a room, for which there is room, behind those of no greater number.
+fn put(read: &mut Vec<RoomFact>, fact: RoomFact)
+    requires rising { AreRising 0 read.old.items }
+    requires room { vec_len read.old < vec_capacity read.old }
+    ensures { read.new.items ≡ put fact read.old.items }
 {
-    let _pushed = read.push(fact);
+    let number = fact.number;
+    let at = read.partition_point(|room| room.number <= number);
+    let _inserted = read.insert(at, fact);
 }
 
 impl QuotedRooms {
@@ -51,6 +68,7 @@ impl QuotedRooms {
         ensures { result.rooms ≡ [] }
     {
         QuotedRooms {
+            past: QuotedPast::new(),
             read: Vec::new(alloc),
         }
     }
@@ -75,7 +93,8 @@ impl QuotedRooms {
         requires { 1 ≤ self.old.room }
         ensures { self.new.rooms ≡ self.old.rooms ++ fact ∷ [] }
     {
-        append_room(&mut self.read, fact);
+        self.past.add(&fact);
+        put(&mut self.read, fact);
     }
 }
 

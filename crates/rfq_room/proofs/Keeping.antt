@@ -1,14 +1,10 @@
-use Rattle.std.proofs.Common.{◌≡◌, refl, sym, ap, ◌∙◌, subst, ℕ, ◌≤◌, ◌<◌, Bool, true, false, not, ◌&&◌, nat_lt, nat_le, List, [], ◌∷◌, ◌++◌, map, length, Option, Some, None, MatchOption, arith}
-use Rattle.std.specs.List.{list_all}
+use Rattle.std.proofs.Common.{◌≡◌, refl, ap, ◌∙◌, subst, ℕ, ◌≤◌, Bool, true, false, ◌&&◌, nat_lt, nat_le, List, [], ◌∷◌, ◌++◌, map, length, Option, Some, None, MatchOption, arith}
 use Rattle.std.proofs.lemmas.Bool.Decides.{nat_tests}
 use Rattle.std.proofs.lemmas.List.Folds.{list_all-append}
 use Rattle.fix_dictionary.specs.declared.messages.QuoteRequest.{QuoteRequest}
 use Rattle.venue_rules.specs.declared.facts.Fact.{Fact}
 use Rattle.venue_rules.specs.declared.facts.Room.{Room}
 use Rattle.venue_rules.specs.declared.facts.RoomQuote.{RoomQuote}
-use Rattle.venue_rules.specs.declared.facts.Place.{Place}
-use Rattle.venue_rules.specs.declared.facts.Trade.{Trade}
-use Rattle.instruments.specs.Listing.{instrument_of, is_unknown_instrument}
 use Rattle.venue_rules.specs.Market.{Market}
 use Rattle.venue_rules.specs.Requests.{recipient_room, recipients}
 use Rattle.rfq_room.specs.Causes.{request_cause, request_causes}
@@ -18,7 +14,7 @@ use Rattle.rfq_room.specs.Named.{named_quotes, quote_room}
 use Rattle.rfq_room.specs.Plan.{Plan}
 use Rattle.rfq_room.specs.declared.decision.Decision.{Decision}
 use Rattle.rfq_room.specs.declared.decision.Decision.TheVariants.{Refuse, Pass, Trade as Hits}
-use Rattle.rfq_room.specs.Plans.{IsQuotePlanned, IsResponsePlan, IsResponsePlanned, hit_plan, pass_plan, quote_made, quote_plan, request_plan, room_asked, sender, withdrawal_plan, withdrawn}
+use Rattle.rfq_room.specs.Plans.{IsQuotePlanned, IsResponsePlan, IsResponsePlanned, quote_made, quote_plan, request_plan, room_asked, sender, withdrawal_plan, withdrawn}
 use Rattle.venue_rules.specs.Responses.{hit_trade}
 use Rattle.venue_rules.specs.Rooms.{find_quote, find_room}
 use Rattle.fix_dictionary.specs.declared.messages.Quote.{Quote}

@@ -6,3 +6,8 @@ pub mod Keeping
 pub mod Known
 pub mod RoomFacts
 pub mod Telling
+pub mod Hashed
+pub mod Marking
+pub mod Clearing
+pub mod Numbering
+pub mod Adding

@@ -1,6 +1,6 @@
-use Rattle.std.proofs.Common.{◌≡◌, refl, sym, ap, ◌∙◌, ℕ, ◌+◌, ◌<◌, Bool, true, false, cond, get_or, List, [], ◌∷◌, ◌++◌, ◌&&◌, ◌||◌, ◌==◌, length, take, drop, filter, filter_map, map, is_none, Option, Some, None, arith}
-use Rattle.std.specs.List.{cons_option, list_any}
-use Rattle.std.proofs.lemmas.List.{drop_more, take_more, map-append}
+use Rattle.std.proofs.Common.{◌≡◌, refl, ap, ◌∙◌, ℕ, ◌+◌, ◌<◌, Bool, true, false, cond, get_or, List, [], ◌∷◌, ◌++◌, ◌&&◌, ◌||◌, ◌==◌, length, take, drop, filter, filter_map, map, is_none, Some, None}
+use Rattle.std.specs.List.{list_any}
+use Rattle.std.proofs.lemmas.List.{map-append}
 use Rattle.std.proofs.lemmas.List.Elements.{filter_map-append, filter-append}
 use Rattle.fix_dictionary.specs.declared.messages.Party.{Party}
 use Rattle.participants.specs.ParticipantFile.{ParticipantFile}

@@ -1,4 +1,4 @@
-use Rattle.std.proofs.Common.{◌≡◌, refl, sym, ap, ◌∙◌, ℕ, ◌+◌, Bool, true, false, not, cond, ◌&&◌, ◌||◌, ◌==◌, nat_le, List, [], ◌∷◌, filter, length, Option, Some, None}
+use Rattle.std.proofs.Common.{◌≡◌, refl, ap, ◌∙◌, ℕ, Bool, true, false, not, cond, ◌&&◌, ◌||◌, ◌==◌, nat_le, List, [], ◌∷◌, filter, Option, Some, None}
 use Rattle.std.specs.List.{list_any}
 use Rattle.fix_dictionary.specs.declared.messages.QuoteRequest.{QuoteRequest}
 use Rattle.fix_dictionary.specs.declared.messages.Quote.{Quote}
@@ -10,9 +10,9 @@ use Rattle.venue_rules.specs.declared.facts.Room.{Room}
 use Rattle.venue_rules.specs.declared.facts.RoomQuote.{RoomQuote}
 use Rattle.venue_rules.specs.declared.facts.Trade.{Trade}
 use Rattle.venue_rules.specs.Market.{Market}
-use Rattle.venue_rules.specs.Facts.{next_quote, next_room, quotes, rooms}
+use Rattle.venue_rules.specs.Facts.{quotes, rooms}
 use Rattle.venue_rules.specs.Rooms.{closes, find_quote, find_room, first_quote, is_closed, is_live, is_open, is_replaced, is_withdrawn, live_quotes, open_rooms, room_by_number, withdraws}
-use Rattle.rfq_room.specs.Causes.{before_hit, decide, decide_in, is_supported, quote_cause, quote_cause_in, quote_causes, request_cause, request_causes, withdrawal_cause, withdrawal_id}
+use Rattle.rfq_room.specs.Causes.{decide, decide_in, is_supported, quote_cause, quote_cause_in, request_cause, withdrawal_cause, withdrawal_id}
 use Rattle.rfq_room.specs.declared.decision.Decision.{Decision}
 use Rattle.rfq_room.specs.declared.decision.Decision.TheVariants.{Refuse}
 use Rattle.rfq_room.specs.declared.refusal.ResponseCause.TheVariants as response

@@ -15,7 +15,7 @@ use Rattle.venue_rules.specs.Rooms.{find_quote, find_room, room_by_number}
 use Rattle.venue_rules.specs.Requests.{answer_request, opened, request_accepted, request_refused}
 use Rattle.venue_rules.specs.Quotes.{answer_quote, answer_quote_of, quote_accepted}
 use Rattle.venue_rules.specs.Withdrawals.{answer_withdrawal, answer_withdrawal_of, not_found, withdraw_one, withdrawn_or}
-use Rattle.venue_rules.specs.Responses.{answer_hit, answer_hit_at, answer_response, answer_response_in, answer_response_to, kind_refusals, price_for, response_status, taken_side}
+use Rattle.venue_rules.specs.Responses.{answer_hit, answer_hit_at, answer_response, answer_response_in, answer_response_to, price_for, response_status, taken_side}
 use Rattle.rfq_room.specs.declared.decision.Decision.{Decision}
 use Rattle.rfq_room.specs.declared.decision.Decision.TheVariants.{Refuse}
 use Rattle.rfq_room.specs.declared.refusal.ResponseCause.TheVariants as response

@@ -1,4 +1,4 @@
-use Rattle.std.specs.Prelude.{ℕ, ℤ, Bool, true, false, not, ◌&&◌, ◌||◌, ◌==◌, nat_lt, nat_le, List, [], ◌∷◌, length, Option, Some, None, is_none, bytes_eq}
+use Rattle.std.specs.Prelude.{ℕ, ℤ, Bool, true, false, not, ◌||◌, ◌==◌, nat_lt, nat_le, List, [], ◌∷◌, length, Option, Some, None, is_none, bytes_eq}
 use Rattle.std.specs.List.{list_any}
 use Rattle.fix_dictionary.specs.declared.messages.QuoteRequest.{QuoteRequest}
 use Rattle.fix_dictionary.specs.declared.messages.Quote.{Quote}
@@ -13,7 +13,7 @@ use Rattle.venue_rules.specs.declared.refusals.RequestRefusal.TheVariants as req
 use Rattle.venue_rules.specs.declared.refusals.QuoteRefusal.{QuoteRefusal}
 use Rattle.venue_rules.specs.declared.refusals.QuoteRefusal.TheVariants as quote
 use Rattle.participants.specs.Relations.{three_unrelated}
-use Rattle.instruments.specs.Listing.{instrument_of, is_off_tick, is_unknown_instrument, least_of, symbol_of}
+use Rattle.instruments.specs.Listing.{instrument_of, is_unknown_instrument, least_of, symbol_of}
 use Rattle.venue_rules.specs.Market.{Market}
 use Rattle.venue_rules.specs.Facts.{is_quote_id_used, is_request_id_used}
 use Rattle.venue_rules.specs.Rooms.{find_quote, find_room, is_closed, is_open, is_replaced, is_withdrawn, open_rooms}

@@ -18,3 +18,11 @@ pub mod Kept
 pub mod Steps
 -- what the venue answers, by what its rooms decide
 pub mod Told
+-- what is kept of the facts
+pub mod Past
+pub mod Numbers
+pub mod Lasts
+pub mod Marked
+pub mod Numbered
+pub mod Openness
+pub mod Standing

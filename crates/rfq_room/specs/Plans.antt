@@ -1,4 +1,4 @@
-use Rattle.std.specs.Prelude.{◌≡◌, ℕ, List, [], ◌∷◌, map, MatchOption, Option, Some, None}
+use Rattle.std.specs.Prelude.{◌≡◌, ℕ, List, [], ◌∷◌, map, MatchOption, Some, None}
 use Rattle.fix_dictionary.specs.declared.messages.QuoteRequest.{QuoteRequest}
 use Rattle.fix_dictionary.specs.declared.messages.Quote.{Quote}
 use Rattle.fix_dictionary.specs.declared.messages.QuoteResponse.{QuoteResponse}

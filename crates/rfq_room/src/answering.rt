@@ -7,10 +7,9 @@ ghost use Rattle.rfq_room.specs.Plans.{IsResponsePlan, IsResponsePlanned, hit_pl
 ghost use Rattle.rfq_room.specs.Refusals.{IsResponseRefused};
 
 use crate::decision::{Decision, Hit};
+use crate::kept::Kept;
 use crate::plan::RoomPlan;
-use crate::quotes::{find_quote, is_replaced, is_withdrawn, quote_room};
 use crate::refusal::{Refusal, ResponseCause, response_refusal};
-use crate::requests::is_closed;
 use crate::withdrawing::withdrawn;
 use fix_dictionary::{Price, QuoteResponse, Side};
 use participants::Who;
@@ -70,22 +69,23 @@ fn hit_on(quote: &RoomQuote, side: Option<Side>) -> Decision
 
 // What an answer to a quote of a room comes to.
 fn decide_room(
-    facts: &[Fact],
+    kept: &Kept,
     who: Who,
     room: &Room,
     quote: &RoomQuote,
     response: &QuoteResponse,
     moment: Moment,
 ) -> Decision
-    ensures { result ≡ decide_room facts.now who room.now quote.now response.now moment }
+    ensures { result ≡ decide_room kept.now.facts who room.now quote.now response.now moment }
 {
+    let marks = kept.marks();
     if room.requester.place() != who.place() {
         return Decision::Refuse(ResponseCause::NotYours);
     }
-    if is_closed(facts, room.number) || is_replaced(facts, quote) {
+    if marks.is_closed(room.number) || marks.is_replaced(quote) {
         return Decision::Refuse(ResponseCause::Over);
     }
-    if is_withdrawn(facts, quote.number) {
+    if marks.is_withdrawn(quote.number) {
         return Decision::Refuse(ResponseCause::Withdrawn);
     }
     if quote.end.ms() < moment.ms() {
@@ -184,23 +184,23 @@ fn draft_decided(
 /// The plan of an answer to a quote, before space is made for it.
 pub(crate) fn draft_answer(
     alloc: Global,
-    facts: &[Fact],
+    kept: &Kept,
     who: Who,
     response: &QuoteResponse,
     moment: Moment,
 ) -> Result<RoomPlan, Refusal>
-    ensures planned { IfOk result (IsResponsePlanned facts.now who response.now moment (decide facts.now who response.now moment)) }
-    ensures refused { IfErr result (IsResponseRefused (refused_by (decide facts.now who response.now moment))) }
+    ensures planned { IfOk result (IsResponsePlanned kept.now.facts who response.now moment (decide kept.now.facts who response.now moment)) }
+    ensures refused { IfErr result (IsResponseRefused (refused_by (decide kept.now.facts who response.now moment))) }
 {
     if !is_supported(response) {
         return Err(response_refusal(ResponseCause::Unsupported));
     }
-    let Some(quote) = find_quote(facts, &response.quote_id) else {
+    let Some(quote) = kept.find_quote(&response.quote_id) else {
         return Err(response_refusal(ResponseCause::UnknownQuote));
     };
-    let Some(room) = quote_room(facts, &response.quote_id) else {
+    let Some(room) = kept.quote_room(&response.quote_id) else {
         return Err(response_refusal(ResponseCause::UnknownQuote));
     };
-    let decision = decide_room(facts, who, room, quote, response, moment);
+    let decision = decide_room(kept, who, room, quote, response, moment);
     draft_decided(alloc, who, room, quote, moment, decision)
 }

@@ -6,11 +6,11 @@ ghost use Rattle.instruments.specs.Listing.{is_unknown_instrument};
 ghost use Rattle.rfq_room.specs.Causes.{recipient_causes, request_cause};
 ghost use Rattle.rfq_room.specs.Plans.{request_plan, room_asked};
 
+use crate::kept::Kept;
 use crate::listing::{instrument_of, is_below_least, listed_instrument};
 use crate::plan::RoomPlan;
 use crate::recipients::{has_twice, has_unknown, is_among, recipients};
 use crate::refusal::{Refusal, request_refusal};
-use crate::requests::{count_open, is_request_id_used, next_room};
 use fix_dictionary::QuoteRequest;
 use instruments::Instruments;
 use participants::{Participants, Who};
@@ -28,14 +28,14 @@ const OPEN_ROOM: usize = 1_000;
 fn recipients_cause(
     participants: &Participants,
     instruments: &Instruments,
-    facts: &[Fact],
+    kept: &Kept,
     who: Who,
     request: &QuoteRequest,
     recipients: &[Who],
     moment: Moment,
 ) -> Option<RequestRefusal>
     requires { recipients.now ≡ recipients_of participants.now request.now.parties }
-    ensures { result ≡ first_cause (recipient_causes (record { participants = participants.now; instruments = instruments.now }) facts.now who request.now moment) }
+    ensures { result ≡ first_cause (recipient_causes (record { participants = participants.now; instruments = instruments.now }) kept.now.facts who request.now moment) }
 {
     if has_unknown(participants, request.parties.as_slice()) {
         return Some(RequestRefusal::UnknownParticipant);
@@ -55,7 +55,7 @@ fn recipients_cause(
     if !participants.three_unrelated(who, recipients) {
         return Some(RequestRefusal::RecipientsNotUnrelated);
     }
-    if OPEN_ROOM <= count_open(facts, moment) {
+    if OPEN_ROOM <= kept.count_open(moment) {
         return Some(RequestRefusal::TooManyRequests);
     }
     None
@@ -65,16 +65,16 @@ fn recipients_cause(
 fn request_cause(
     participants: &Participants,
     instruments: &Instruments,
-    facts: &[Fact],
+    kept: &Kept,
     who: Who,
     request: &QuoteRequest,
     recipients: &[Who],
     moment: Moment,
 ) -> Option<RequestRefusal>
     requires { recipients.now ≡ recipients_of participants.now request.now.parties }
-    ensures { result ≡ request_cause (record { participants = participants.now; instruments = instruments.now }) facts.now who request.now moment }
+    ensures { result ≡ request_cause (record { participants = participants.now; instruments = instruments.now }) kept.now.facts who request.now moment }
 {
-    if is_request_id_used(facts, who, &request.request_id) {
+    if kept.marks().is_request_id_used(who, &request.request_id) {
         return Some(RequestRefusal::DuplicateRequest);
     }
     let Some(instrument) = instrument_of(instruments, &request.symbol) else {
@@ -86,7 +86,7 @@ fn request_cause(
     recipients_cause(
         participants,
         instruments,
-        facts,
+        kept,
         who,
         request,
         recipients,
@@ -98,7 +98,7 @@ fn request_cause(
 fn room_asked(
     participants: &Participants,
     instruments: &Instruments,
-    facts: &[Fact],
+    kept: &Kept,
     who: Who,
     request: &QuoteRequest,
     recipients: Vec<Who>,
@@ -106,12 +106,12 @@ fn room_asked(
 ) -> Room
     requires known { is_unknown_instrument instruments.now request.now.symbol ≡ false }
     requires recipients { recipients.items ≡ recipients_of participants.now request.now.parties }
-    ensures { result ≡ room_asked (record { participants = participants.now; instruments = instruments.now }) facts.now who request.now moment }
+    ensures { result ≡ room_asked (record { participants = participants.now; instruments = instruments.now }) kept.now.facts who request.now moment }
 {
     let instrument = listed_instrument(instruments, &request.symbol);
     let life = 1_000 * instruments.get(instrument).request_life;
     Room {
-        number: next_room(facts),
+        number: kept.next_room(),
         requester: who,
         id: request.request_id,
         instrument,
@@ -127,13 +127,13 @@ pub(crate) fn draft_ask(
     alloc: Global,
     participants: &Participants,
     instruments: &Instruments,
-    facts: &[Fact],
+    kept: &Kept,
     who: Who,
     request: &QuoteRequest,
     moment: Moment,
 ) -> Result<RoomPlan, Refusal>
-    ensures planned { IfOk result (λ p. (request_cause (record { participants = participants.now; instruments = instruments.now }) facts.now who request.now moment ≡ None) × (p ≡ request_plan (room_asked (record { participants = participants.now; instruments = instruments.now }) facts.now who request.now moment))) }
-    ensures refused { IfErr result (IsRequestRefused (request_cause (record { participants = participants.now; instruments = instruments.now }) facts.now who request.now moment)) }
+    ensures planned { IfOk result (λ p. (request_cause (record { participants = participants.now; instruments = instruments.now }) kept.now.facts who request.now moment ≡ None) × (p ≡ request_plan (room_asked (record { participants = participants.now; instruments = instruments.now }) kept.now.facts who request.now moment))) }
+    ensures refused { IfErr result (IsRequestRefused (request_cause (record { participants = participants.now; instruments = instruments.now }) kept.now.facts who request.now moment)) }
 {
     let Ok(recipients) = recipients(alloc, participants, request.parties.as_slice()) else {
         return Err(Refusal::NoMemory);
@@ -141,7 +141,7 @@ pub(crate) fn draft_ask(
     if let Some(cause) = request_cause(
         participants,
         instruments,
-        facts,
+        kept,
         who,
         request,
         &recipients,
@@ -152,7 +152,7 @@ pub(crate) fn draft_ask(
     let room = room_asked(
         participants,
         instruments,
-        facts,
+        kept,
         who,
         request,
         recipients,

@@ -1,21 +1,28 @@
 //! The rooms of a venue: requests for quotes, the quotes in them, and what each request, quote, withdrawal and answer comes to
 //! (17 CFR 37.9(a)(2), (a)(3)).
 //!
-//! The rooms hold the facts of their day in order, and the definitions of `venue_rules` read everything off them.
+//! The rooms, their quotes and the identifiers that were used are kept; contracts see the facts of the day, and the definitions of
+//! `venue_rules` that read everything off them.
 #![tactic(auto)]
 
 mod answering;
 mod asking;
 mod decision;
 mod facts;
+mod kept;
+mod lasts;
 mod laws;
 mod listing;
+mod live;
+mod marks;
+mod numbered;
+mod numbers;
+mod opened;
+mod past;
 mod plan;
-mod quotes;
 mod quoting;
 mod recipients;
 mod refusal;
-mod requests;
 mod rooms;
 mod withdrawing;
 

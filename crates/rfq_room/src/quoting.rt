@@ -7,11 +7,10 @@ ghost use Rattle.rfq_room.specs.Plans.{IsQuotePlanned, quote_made, quote_plan};
 ghost use Rattle.rfq_room.specs.Refusals.{IsQuoteRefused};
 ghost use Rattle.rfq_room.specs.Views.{first_cause};
 
+use crate::kept::Kept;
 use crate::plan::RoomPlan;
-use crate::quotes::{is_quote_id_used, next_quote};
 use crate::recipients::is_among;
 use crate::refusal::{Refusal, quote_refusal};
-use crate::requests::{find_room, is_open};
 use fix_dictionary::{FixChar, Price, Quantity, Quote, Side};
 use instruments::Instruments;
 use participants::{Participants, Who};
@@ -123,19 +122,19 @@ fn terms_cause(
 fn quote_cause(
     participants: &Participants,
     instruments: &Instruments,
-    facts: &[Fact],
+    kept: &Kept,
     who: Who,
     room: &Room,
     quote: &Quote,
     moment: Moment,
 ) -> Option<QuoteRefusal>
     requires { room.now.instrument < length instruments.now }
-    ensures { result ≡ first_cause (quote_causes (record { participants = participants.now; instruments = instruments.now }) facts.now who room.now quote.now moment) }
+    ensures { result ≡ first_cause (quote_causes (record { participants = participants.now; instruments = instruments.now }) kept.now.facts who room.now quote.now moment) }
 {
     if !is_among(room.recipients.as_slice(), who) {
         return Some(QuoteRefusal::NotAsked);
     }
-    if !is_open(facts, moment, room) {
+    if !kept.is_open(moment, room) {
         return Some(QuoteRefusal::RoomOver);
     }
     if !instruments
@@ -145,7 +144,7 @@ fn quote_cause(
     {
         return Some(QuoteRefusal::UnknownInstrument);
     }
-    if is_quote_id_used(facts, who, &quote.quote_id) {
+    if kept.marks().is_quote_id_used(who, &quote.quote_id) {
         return Some(QuoteRefusal::DuplicateQuote);
     }
     terms_cause(participants, instruments, room, quote, moment)
@@ -168,11 +167,11 @@ fn quote_end(room: &Room, quote: &Quote) -> Moment
 }
 
 /// The quote that a message makes in a room.
-fn quote_made(facts: &[Fact], who: Who, room: &Room, quote: &Quote) -> RoomQuote
-    ensures { result ≡ quote_made facts.now who room.now quote.now }
+fn quote_made(kept: &Kept, who: Who, room: &Room, quote: &Quote) -> RoomQuote
+    ensures { result ≡ quote_made kept.now.facts who room.now quote.now }
 {
     RoomQuote {
-        number: next_quote(facts),
+        number: kept.next_quote(),
         room: room.number,
         maker: who,
         id: quote.quote_id,
@@ -185,14 +184,14 @@ fn quote_made(facts: &[Fact], who: Who, room: &Room, quote: &Quote) -> RoomQuote
 /// The plan of a quote in a room, before space is made for it.
 fn draft_in(
     alloc: Global,
-    facts: &[Fact],
+    kept: &Kept,
     who: Who,
     room: &Room,
     quote: &Quote,
 ) -> Result<RoomPlan, AllocError>
-    ensures { IfOk result (λ p. p ≡ quote_plan (quote_made facts.now who room.now quote.now)) }
+    ensures { IfOk result (λ p. p ≡ quote_plan (quote_made kept.now.facts who room.now quote.now)) }
 {
-    let quote = quote_made(facts, who, room, quote);
+    let quote = quote_made(kept, who, room, quote);
     let facts = vec![in alloc; Fact::Quoted(quote)]?;
     Ok(RoomPlan::of(facts, Vec::new(alloc), None))
 }
@@ -202,22 +201,22 @@ pub(crate) fn draft_quote(
     alloc: Global,
     participants: &Participants,
     instruments: &Instruments,
-    facts: &[Fact],
+    kept: &Kept,
     who: Who,
     quote: &Quote,
     moment: Moment,
 ) -> Result<RoomPlan, Refusal>
-    requires { are_listed (length instruments.now) facts.now ≡ true }
-    ensures planned { IfOk result (λ p. (quote_cause (record { participants = participants.now; instruments = instruments.now }) facts.now who quote.now moment ≡ None) × IsQuotePlanned facts.now who quote.now p) }
-    ensures refused { IfErr result (IsQuoteRefused (quote_cause (record { participants = participants.now; instruments = instruments.now }) facts.now who quote.now moment)) }
+    requires { are_listed (length instruments.now) kept.now.facts ≡ true }
+    ensures planned { IfOk result (λ p. (quote_cause (record { participants = participants.now; instruments = instruments.now }) kept.now.facts who quote.now moment ≡ None) × IsQuotePlanned kept.now.facts who quote.now p) }
+    ensures refused { IfErr result (IsQuoteRefused (quote_cause (record { participants = participants.now; instruments = instruments.now }) kept.now.facts who quote.now moment)) }
 {
-    let Some(room) = find_room(facts, &quote.request_id) else {
+    let Some(room) = kept.find_room(&quote.request_id) else {
         return Err(quote_refusal(QuoteRefusal::UnknownRequest));
     };
-    if let Some(cause) = quote_cause(participants, instruments, facts, who, room, quote, moment) {
+    if let Some(cause) = quote_cause(participants, instruments, kept, who, room, quote, moment) {
         return Err(quote_refusal(cause));
     }
-    let Ok(plan) = draft_in(alloc, facts, who, room, quote) else {
+    let Ok(plan) = draft_in(alloc, kept, who, room, quote) else {
         return Err(Refusal::NoMemory);
     };
     Ok(plan)

@@ -5,8 +5,8 @@ ghost use Rattle.rfq_room.specs.Named.{named_quotes};
 ghost use Rattle.rfq_room.specs.Plans.{withdrawal_plan, withdrawn};
 ghost use Rattle.rfq_room.specs.Refusals.{IsWithdrawalRefused};
 
+use crate::kept::Kept;
 use crate::plan::RoomPlan;
-use crate::quotes::named_quotes;
 use crate::refusal::{Refusal, WithdrawalRefusal, withdrawal_refusal};
 use fix_dictionary::{Identifier, QuoteCancel};
 use participants::Who;
@@ -75,18 +75,18 @@ fn all_withdrawn(alloc: Global, quotes: &[RoomQuote]) -> Result<Vec<Fact>, Alloc
 /// The plan of a withdrawal, before space is made for it.
 pub(crate) fn draft_withdraw(
     alloc: Global,
-    facts: &[Fact],
+    kept: &Kept,
     who: Who,
     request: &QuoteCancel,
     moment: Moment,
 ) -> Result<RoomPlan, Refusal>
-    ensures planned { IfOk result (λ p. (withdrawal_cause facts.now who request.now moment ≡ None) × (p ≡ withdrawal_plan (named_quotes facts.now who moment (withdrawal_id request.now)))) }
-    ensures refused { IfErr result (IsWithdrawalRefused (withdrawal_cause facts.now who request.now moment)) }
+    ensures planned { IfOk result (λ p. (withdrawal_cause kept.now.facts who request.now moment ≡ None) × (p ≡ withdrawal_plan (named_quotes kept.now.facts who moment (withdrawal_id request.now)))) }
+    ensures refused { IfErr result (IsWithdrawalRefused (withdrawal_cause kept.now.facts who request.now moment)) }
 {
     if let Some(cause) = form_cause(request) {
         return Err(withdrawal_refusal(cause));
     }
-    let Ok(quotes) = named_quotes(alloc, facts, who, moment, withdrawal_id(request)) else {
+    let Ok(quotes) = kept.named_quotes(who, moment, withdrawal_id(request)) else {
         return Err(Refusal::NoMemory);
     };
     if let Some(cause) = none_found(&quotes) {

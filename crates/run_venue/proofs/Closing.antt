@@ -28,12 +28,13 @@ use Rattle.venue_rules.specs.Run.{Input, rows, run, is_timely_from}
 use Rattle.venue_rules.specs.declared.trail.EventFault.{EventFault}
 use Rattle.venue_rules.specs.declared.trail.TrailRow.{TrailRow}
 use Rattle.venue_worker.specs.Account.{IsAccount, owed_to}
-use Rattle.venue_worker.specs.Inputs.{Each, IsSeated, items_from}
+use Rattle.taken_and_owed.specs.Taken.{items_from}
+use Rattle.venue_worker.specs.Inputs.{Each, IsSeated}
 use Rattle.venue_worker.specs.Queued.{IsOwed, AreEmptyQueues}
 use Rattle.venue_worker.specs.Turns.{GoesOn, BehindIsOwedMuch, IsMomentOf, IsStop}
 use Rattle.venue_worker.specs.Work.{Work}
-use Rattle.venue_worker.specs.declared.queue.Outgoing.{Outgoing}
-use Rattle.venue_worker.specs.declared.queue.Queue.{Queue}
+use Rattle.taken_and_owed.specs.declared.outgoing.Outgoing.{Outgoing}
+use Rattle.taken_and_owed.specs.declared.queue.Queue.{Queue}
 use Rattle.run_venue.specs.Starting.{AreNewSessions, AreStarts, Outside, ids_at, outside}
 use Rattle.run_venue.specs.Making.{AreMade}
 use Rattle.run_venue.specs.Working.{HasWorked, HasWorkedAnew}

@@ -10,8 +10,8 @@ use Rattle.venue_rules.specs.Market.{Market}
 use Rattle.venue_rules.specs.Run.{Input, rows}
 use Rattle.venue_rules.specs.declared.trail.EventFault.{EventFault}
 use Rattle.venue_rules.specs.declared.trail.TrailRow.{TrailRow}
-use Rattle.venue_worker.specs.declared.queue.Outgoing.{Outgoing}
-use Rattle.venue_worker.specs.declared.queue.Queue.{Queue}
+use Rattle.taken_and_owed.specs.declared.outgoing.Outgoing.{Outgoing}
+use Rattle.taken_and_owed.specs.declared.queue.Queue.{Queue}
 use Rattle.venue_worker.specs.Account.{IsAccount, IsKept}
 use Rattle.venue_worker.specs.Queued.{AreEmptyQueues}
 use Rattle.venue_worker.specs.Turns.{HasRun}

@@ -5,7 +5,8 @@ BEGIN;
 CREATE TABLE head (id INTEGER PRIMARY KEY, version INTEGER NOT NULL, participants BLOB NOT NULL, instruments BLOB NOT NULL);
 CREATE TABLE item (n INTEGER PRIMARY KEY, who INTEGER NOT NULL, number INTEGER NOT NULL, moment INTEGER NOT NULL, text BLOB NOT NULL);
 CREATE TABLE delay (x INTEGER PRIMARY KEY, ms INTEGER NOT NULL);
-INSERT INTO head (id, version, participants, instruments) VALUES (1, 2,
+CREATE TABLE later_era (n INTEGER PRIMARY KEY, era INTEGER NOT NULL);
+INSERT INTO head (id, version, participants, instruments) VALUES (1, 3,
 CAST('venue = "SEF"
 [[participant]]
 name = "ALPHA"
@@ -50,9 +51,10 @@ INSERT INTO item (n, who, number, moment, text) VALUES
 (9, 1, 6, 1741012220000, '35=s|548=c1|549=4|550=1|552=2|54=1|11=x1|38=10|54=2|11=x2|38=10|55=IRS5Y|40=2|44=2.4|'),
 (10, 0, 0, 1741012235000, ''),
 -- BETA's sell is linked to GAMMA's buy, since they are related: a second after it they trade, by the adjusted delay, and a
--- millisecond earlier they do not.
+-- millisecond earlier they do not. BETA has its numbers begin anew before its last order, which is the first of its second era.
 (11, 3, 3, 1741012240000, '35=D|11=g2|55=BASIS1Y|54=1|38=5|40=2|44=-1|'),
 (12, 2, 3, 1741012240999, '35=D|11=b2|55=BASIS1Y|54=2|38=5|40=2|44=-1|'),
-(13, 2, 4, 1741012241000, '35=D|11=b3|55=BASIS1Y|54=2|38=5|40=2|44=-1|');
+(13, 2, 2, 1741012241000, '35=D|11=b3|55=BASIS1Y|54=2|38=5|40=2|44=-1|');
+INSERT INTO later_era (n, era) VALUES (13, 2);
 UPDATE item SET text = CAST(replace(text, '|', char(1)) AS BLOB);
 COMMIT;

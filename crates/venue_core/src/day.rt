@@ -111,7 +111,7 @@ fn add_of_rooms(day: &mut Day, answer: RoomAnswer, read: Option<RoomFact>)
     day.traded.add(plan.facts());
     add_read(&mut day.quoted, read);
     day.rooms.apply(plan);
-    let _rooms = day.rooms.facts();
+    let _rooms = day.rooms.facts_are_own();
 }
 
 /// Adds what a plan says, for which there is room.

@@ -18,10 +18,12 @@ use Rattle.venue_world.specs.declared.act.Act.{Act}
 use Rattle.venue_world.specs.declared.act.Act.TheVariants.{Alone, Takes, VenueTicks}
 use Rattle.venue_world.specs.declared.act.Doing.{Doing}
 use Rattle.venue_world.specs.declared.act.Doing.TheVariants.{Pieces, Steps, Ticks, Breaks, Resumes, Hands, Delivers, Collects, Cuts, Writes}
-use Rattle.venue_world.specs.declared.outgoing.Outgoing.{Outgoing}
-use Rattle.venue_world.specs.declared.outgoing.Outgoing.TheVariants as outgoing_is
+use Rattle.venue_rules.specs.MoreInputs.{said_to}
+use Rattle.taken_and_owed.specs.Owed.{added, most_queued}
+use Rattle.taken_and_owed.specs.declared.outgoing.Outgoing.{Outgoing}
+use Rattle.taken_and_owed.specs.declared.outgoing.Outgoing.TheVariants as outgoing_is
 use Rattle.venue_world.specs.Side.{Side, collected, delivered, does, fresh_side, handed}
-use Rattle.venue_world.specs.World.{Stand, added, after_act, after_all, answered, at, emptied, first_behind, fresh_world, ids_of, is_behind, is_due, message_from, most_queued, posted, replies_after, said, seat_at, takes, ticks, unless_behind}
+use Rattle.venue_world.specs.World.{Stand, after_act, after_all, answered, at, emptied, first_behind, fresh_world, ids_of, is_behind, is_due, message_from, posted, replies_after, seat_at, takes, ticks, unless_behind}
 use Rattle.venue_world.specs.Headline.{AreFrom, QueuesAreFew}
 use Rattle.venue_world.proofs.Behind.{emptied_behind}
 use Rattle.venue_world.proofs.Lists.{IsAt, here, there, heard_by, side_at, side_posted}
@@ -82,9 +84,9 @@ none_behind replies (z ∷ sides) k j s none e = by (is_behind k replies z) refl
 count : ℕ → List Reply → ℕ
 count who replies = length (replies_to who replies)
 
-length-said : (who : ℕ) (replies : List Reply) → length (said who replies) ≡ count who replies
-unfolding said count
-length-said who replies = length-map (replies_to who replies) (λ (r : Reply). message r.what)
+length-said_to : (who : ℕ) (replies : List Reply) → length (said_to who replies) ≡ count who replies
+unfolding count
+length-said_to who replies = length-map (replies_to who replies) (λ (r : Reply). message r.what)
 
 length-added : (b : Bool) (apps : List App) → length (added b apps) ≡ (if b then 0 else length apps)
 length-added true apps = refl
@@ -104,9 +106,9 @@ still_few false n queued not_behind few = grind (arith, nat_tests)
 
 heard_few : (who : ℕ) (replies : List Reply) (s : Side) → is_behind who replies s ≡ false → IsFew s → IsFew (heard_by who replies s)
 heard_few who replies s not_behind few =
-    let long : length (s.queue ++ added s.is_cut (said who replies)) ≡ length s.queue + (if s.is_cut then 0 else count who replies) =
-    length-append s.queue (added s.is_cut (said who replies))
-    ∙ ap (λ (n : ℕ). length s.queue + n) (length-added s.is_cut (said who replies) ∙ ap (λ (n : ℕ). if s.is_cut then 0 else n) (length-said who replies)) in
+    let long : length (s.queue ++ added s.is_cut (said_to who replies)) ≡ length s.queue + (if s.is_cut then 0 else count who replies) =
+    length-append s.queue (added s.is_cut (said_to who replies))
+    ∙ ap (λ (n : ℕ). length s.queue + n) (length-added s.is_cut (said_to who replies) ∙ ap (λ (n : ℕ). if s.is_cut then 0 else n) (length-said_to who replies)) in
     subst (λ (n : ℕ). n ≤ most_queued) (sym long) (still_few s.is_cut (count who replies) (length s.queue) (sym (is_test who replies s) ∙ not_behind) few)
 
 posted_few : (replies : List Reply) (sides : List Side) → first_behind 0 replies sides ≡ None → QueuesAreFew sides → QueuesAreFew (posted replies sides)

@@ -14,8 +14,8 @@ use Rattle.participants.specs.ParticipantFile.{ParticipantFile}
 use Rattle.venue_core.specs.State.{State as VenueState, Standing, standing}
 use Rattle.venue_rules.specs.Market.{Market}
 use Rattle.venue_rules.specs.declared.trail.TrailRow.{TrailRow}
-use Rattle.venue_worker.specs.declared.queue.Outgoing.{Outgoing}
-use Rattle.venue_worker.specs.declared.queue.Queue.{Queue}
+use Rattle.taken_and_owed.specs.declared.outgoing.Outgoing.{Outgoing}
+use Rattle.taken_and_owed.specs.declared.queue.Queue.{Queue}
 use Rattle.run_venue.specs.Closing.{Closing, closing}
 use Rattle.run_venue.specs.Making.{AreMade}
 use Rattle.run_venue.specs.Starting.{Outside, outside}

@@ -18,7 +18,7 @@ returns-clause-after c =
     let grown : c.apply.new.self.facts ≡ old.rooms.facts ++ answer.facts = c.apply.ensures ∙ ap (λ fs. old.rooms.facts ++ fs) c.into_plan-plan.ensures in
     let traded : c.add.new.self.trades ≡ trades_with old.traded.trades answer.facts = c.add.ensures ∙ ap (λ fs. trades_with old.traded.trades fs) (c.facts.ensures ∙ c.into_plan-plan.ensures) in
     let next : AreNumbered (old.rooms.facts ++ answer.facts) = c.numbers_go_on.ensures.more old.rooms answer.facts c.requires.numbered c.requires.room.0 in
-    let own : list_all is_room_fact answer.facts ≡ true = rest-all is_room_fact old.rooms.facts answer.facts (ap (λ fs. list_all is_room_fact fs) (sym grown) ∙ c.facts-rooms.ensures.own) in
+    let own : list_all is_room_fact answer.facts ≡ true = rest-all is_room_fact old.rooms.facts answer.facts (ap (λ fs. list_all is_room_fact fs) (sym grown) ∙ c.facts_are_own-rooms.ensures.own) in
     λ h s. subst (λ (p : Standing). IsStanding p (after h (answer_of (OfRooms answer c.args.read)))) (sym (same-standing _ _ _ _ _ _ _ _ _ _ _ _ refl grown refl (ap (λ n. old.reports + n) c.reports.ensures.value) traded c.add_read.ensures)) (rooms-after c.trades_are_read.ensures.more c.later_quotes_are_read.ensures.more c.first_quote_is_read.ensures (standing old) h answer c.args.read c.requires.numbered next (c.requires.room.2.right h s) own s)
 
 pub returns-clause-trades : goal.returns-clause-trades

@@ -1,0 +1,109 @@
+use Rattle.std.proofs.Common.{◌≡◌, refl, sym, ap, ◌∙◌, ℕ, zero, suc, ◌+◌, ◌-◌, ◌≤◌, ◌<◌, ◌^◌, Bool, true, false, cond, ◌==◌, List, [], ◌∷◌, length, map, find, Option, Some, None, Result, Ok, Err, Bor, option_map, eq-eqb, bytes_eq, decimal, arith}
+use Rattle.std.specs.List.{IsFirstAndRest, slice_get}
+use Rattle.std.proofs.lemmas.Bool.{eqb-true}
+use Rattle.std.specs.Slice.{IsItemAt}
+use Rattle.std.proofs.lemmas.Fmt.{decimal_injective}
+use Rattle.std.proofs.lemmas.Option.{slice_get_past, slice_get_read}
+use Rattle.std.proofs.lemmas.Slice.Eq.{bytes_eq-Decides}
+use Rattle.venue_rules.specs.Rooms.{printed}
+use Rattle.rfq_room.specs.Numbered.{AreFrom}
+
+-- numbers that are not the same
+
+apart : (a b : ℕ) → (a ≡ b → ⊥) → a == b ≡ false
+apart a b h = by (a == b) refl
+  where
+    by : (c : Bool) → a == b ≡ c → a == b ≡ false
+    by true e = absurd (h (eqb-true a b e))
+    by false e = e
+
+-- one of numbers that follow each other stands at its place
+
+pub at-place : {X : Type 0} (num : X → ℕ) (xs : List X) (k i : ℕ) → AreFrom k (map num xs) → find (λ x. num x == k + i) xs ≡ slice_get xs i
+at-place num [] k i from = refl
+at-place num (x ∷ xs) k zero from = rw (eq-eqb (num x) (k + 0) (from.0 ∙ omega arith)) refl
+at-place num (x ∷ xs) k (suc i) from =
+    let e : num x ≡ k = from.0 in
+    let other : num x == k + suc i ≡ false = apart (num x) (k + suc i) (λ h. absurd (omega (arith, h, e))) in
+    let next : k + suc i ≡ suc k + i = omega arith in
+    rw other (ap (λ n. find (λ y. num y == n) xs) next ∙ at-place num xs (suc k) i from.1)
+
+pub placed : {X : Type 0} (num : X → ℕ) (xs : List X) (n : ℕ) → AreFrom 1 (map num xs) → 0 < n → find (λ x. num x == n) xs ≡ slice_get xs (n - 1)
+placed num xs n from h =
+    let same : n ≡ 1 + (n - 1) = omega (arith, h) in
+    ap (λ m. find (λ x. num x == m) xs) same ∙ at-place num xs 1 (n - 1) from
+
+pub none-below : {X : Type 0} (num : X → ℕ) (xs : List X) (k : ℕ) → AreFrom (suc k) (map num xs) → find (λ x. num x == 0) xs ≡ None
+none-below num [] k from = refl
+none-below num (x ∷ xs) k from =
+    let e : num x ≡ suc k = from.0 in
+    rw (apart (num x) 0 (λ h. absurd (omega (arith, h, e)))) (none-below num xs (suc k) from.1)
+
+-- what is printed for one number is printed for no other
+
+tail-same : (letter : ℕ) (ds es : List ℕ) → letter ∷ ds ≡ letter ∷ es → ds ≡ es
+tail-same letter ds es h = cc
+
+printed-once : (letter m n : ℕ) (id : List ℕ) → m < 2 ^ 64 → n < 2 ^ 64 → bytes_eq (printed letter m) id ≡ true → bytes_eq (printed letter n) id ≡ true → m ≡ n
+printed-once letter m n id h k e f = decimal_injective m n h k (tail-same letter (decimal m) (decimal n) ((bytes_eq-Decides (printed letter m) id).0 e ∙ sym ((bytes_eq-Decides (printed letter n) id).0 f)))
+
+-- so what is printed for a number finds what has the number
+
+pub printed-found : {X : Type 0} (num : X → ℕ) (letter n : ℕ) (id : List ℕ) (xs : List X) (k : ℕ) → n < 2 ^ 64 → bytes_eq (printed letter n) id ≡ true → AreFrom k (map num xs) → k + length xs ≤ 2 ^ 64 → find (λ x. bytes_eq (printed letter (num x)) id) xs ≡ find (λ x. num x == n) xs
+printed-found num letter n id [] k h e from few = refl
+printed-found {X} num letter n id (x ∷ xs) k h e from few = by (bytes_eq (printed letter (num x)) id) (num x == n) refl refl (printed-found num letter n id xs (suc k) h e from.1 (omega (arith, few)))
+  where
+    small : num x < 2 ^ 64
+    small = let first : num x ≡ k = from.0 in omega (arith, first, few)
+
+    by : (b c : Bool) → bytes_eq (printed letter (num x)) id ≡ b → num x == n ≡ c → find (λ y. bytes_eq (printed letter (num y)) id) xs ≡ find (λ y. num y == n) xs → cond b (Some x) (find (λ y. bytes_eq (printed letter (num y)) id) xs) ≡ cond c (Some x) (find (λ y. num y == n) xs)
+    by true true f g ih = refl
+    by true false f g ih = let never : true ≡ false = sym (eq-eqb (num x) n (printed-once letter (num x) n id small h f e)) ∙ g in cc
+    by false true f g ih = let never : true ≡ false = sym e ∙ ap (λ m. bytes_eq (printed letter m) id) (sym (eqb-true (num x) n g)) ∙ f in cc
+    by false false f g ih = ih
+
+pub printed-none : {X : Type 0} (num : X → ℕ) (letter : ℕ) (id : List ℕ) (xs : List X) (k : ℕ) → ((n : ℕ) → n < 2 ^ 64 → bytes_eq (printed letter n) id ≡ false) → AreFrom k (map num xs) → k + length xs ≤ 2 ^ 64 → find (λ x. bytes_eq (printed letter (num x)) id) xs ≡ None
+printed-none num letter id [] k none from few = refl
+printed-none num letter id (x ∷ xs) k none from few =
+    let first : num x ≡ k = from.0 in
+    rw (none (num x) (omega (arith, first, few))) (printed-none num letter id xs (suc k) none from.1 (omega (arith, few)))
+
+-- an identifier that is printed
+
+pub digits-of : (letter n : ℕ) (id : List ℕ) → bytes_eq (printed letter n) id ≡ true → printed letter n ≡ id
+digits-of letter n id e = (bytes_eq-Decides (printed letter n) id).0 e
+
+pub not-true : (b : Bool) → (b ≡ true → ⊥) → b ≡ false
+not-true true h = absurd (h refl)
+not-true false h = refl
+
+-- what is lent of a list at a place
+
+pub got : {X : Type 0} (xs : List X) (i : ℕ) (r : Option (Bor X)) → IsItemAt xs i r → option_map (λ (x : Bor X). x.now) r ≡ slice_get xs i
+got xs i None h = sym (slice_get_past xs i h.3)
+got xs i (Some x) h = sym (slice_get_read xs (length xs) i x.now refl h.3.0 h.1)
+
+-- what is the same, and what is not
+
+pub some-same : (m n : ℕ) → Some m ≡ Some n → m ≡ n
+some-same m n h = cc
+
+pub true-false : true ≡ false → ⊥
+true-false h = cc
+
+pub ok-err : {X E : Type 0} (r : Result X E) (x : X) (e : E) → r ≡ Ok x → r ≡ Err e → ⊥
+ok-err (Ok y) x e h k = cc
+ok-err (Err y) x e h k = cc
+
+pub ok-same : {E : Type 0} (r : Result ℕ E) (m n : ℕ) → r ≡ Ok m → r ≡ Ok n → m ≡ n
+ok-same (Ok y) m n h k = cc
+ok-same (Err y) m n h k = cc
+
+pub no-length : (id : List ℕ) (letter : ℕ) (ds : List ℕ) → id ≡ letter ∷ ds → length id ≡ 0 → ⊥
+no-length id letter ds e h = let more : length id ≡ suc (length ds) = ap length e in absurd (omega (arith, more, h))
+
+pub first-rest : (xs : List ℕ) (x : ℕ) (rest : List ℕ) (letter : ℕ) (ds : List ℕ) → IsFirstAndRest xs x rest → xs ≡ letter ∷ ds → rest ≡ ds
+first-rest xs x rest letter ds h e = tail-same-of x letter rest ds (sym h.0 ∙ e)
+  where
+    tail-same-of : (x letter : ℕ) (rest ds : List ℕ) → x ∷ rest ≡ letter ∷ ds → rest ≡ ds
+    tail-same-of x letter rest ds h = cc

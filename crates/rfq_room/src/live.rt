@@ -1,0 +1,81 @@
+//! The quotes that may be hit, of those that are not known to be over.
+ghost use Rattle.std.specs.Prelude.{◌≡◌, ◌≤◌, filter, length, option_map, IfOk, ◌+◌, ◌++◌};
+ghost use Rattle.std.specs.Vec.{vec_capacity, vec_len};
+ghost use Rattle.venue_rules.specs.Facts.{quotes};
+ghost use Rattle.venue_rules.specs.Rooms.{is_live};
+ghost use Rattle.rfq_room.specs.Views.{is_named, is_taken};
+
+use crate::facts::quote_in;
+use crate::marks::Marks;
+use fix_dictionary::Identifier;
+use participants::Who;
+use sef_moment::Moment;
+use std::alloc::{AllocError, Global};
+use venue_rules::{Fact, RoomQuote};
+
+// Whether an identifier is the one that is named, if one is.
+fn is_named(id: &Identifier, named: Option<&Identifier>) -> bool
+    ensures { result ≡ is_named id.now (option_map (λ n. n.now) named.entry) }
+{
+    match named {
+        Some(named) => id.is(named),
+        None => true,
+    }
+}
+
+// Whether a withdrawal takes the quote away.
+fn is_taken(
+    marks: &Marks,
+    maker: Who,
+    moment: Moment,
+    named: Option<&Identifier>,
+    quote: &RoomQuote,
+) -> bool
+    ensures { result ≡ is_taken marks.now.facts maker moment (option_map (λ n. n.now) named.entry) quote.now }
+{
+    (quote.maker.place() == maker.place() && marks.is_live(moment, quote))
+        && is_named(&quote.id, named)
+}
+
+/// Of these quotes, a maker's live ones; where one is named, those with this identifier.
+#[tactic(auto, using(crate::proofs::Taking::takings))]
+pub(crate) fn taken_quotes(
+    alloc: Global,
+    marks: &Marks,
+    maker: Who,
+    moment: Moment,
+    named: Option<&Identifier>,
+    quotes: &[RoomQuote],
+) -> Result<Vec<RoomQuote>, AllocError>
+    ensures { IfOk result (λ v. v.items ≡ filter (is_taken marks.now.facts maker moment (option_map (λ n. n.now) named.entry)) quotes.now) }
+{
+    let mut taken = Vec::new(alloc);
+    for quote in quotes {
+        if is_taken(marks, maker, moment, named, quote) {
+            taken.push(*quote)?;
+        }
+    }
+    Ok(taken)
+}
+
+/// Leaves out those that are over at a moment.
+pub(crate) fn clear_live(marks: &Marks, moment: Moment, live: &mut Vec<RoomQuote>)
+    ensures items { live.new.items ≡ filter (is_live marks.now.facts moment) live.old.items }
+    ensures len { vec_len live.new ≤ vec_len live.old }
+    ensures capacity { vec_capacity live.new ≡ vec_capacity live.old }
+{
+    live.retain(|quote| marks.is_live(moment, quote));
+}
+
+/// The quotes that facts more are, for which there is room.
+#[tactic(auto, using(crate::proofs::Adding::quotes_on))]
+pub(crate) fn add_quotes(kept: &mut Vec<RoomQuote>, facts: &[Fact])
+    requires { vec_len kept.old + length facts.now ≤ vec_capacity kept.old }
+    ensures { kept.new.items ≡ kept.old.items ++ quotes facts.now }
+{
+    for fact in facts {
+        if let Some(quote) = quote_in(fact) {
+            kept.push_reserved(*quote);
+        }
+    }
+}

@@ -1,0 +1,237 @@
+//! What has become of rooms and quotes, and the identifiers that were used.
+ghost use Rattle.std.specs.Prelude.{◌≡◌, ℕ, ◌+◌, ◌≤◌, ◌||◌, ◌++◌, [], length, is_some, option_map, IfOk, OnErr, List};
+ghost use Rattle.std.specs.List.{list_any};
+ghost use Rattle.std.specs.Option.{option_or};
+ghost use Rattle.sorted_names.specs.Names.{is_of};
+ghost use Rattle.venue_rules.specs.Facts.{is_quote_id_used, is_request_id_used};
+ghost use Rattle.venue_rules.specs.Rooms.{first_quote, is_closed, is_live, is_replaced, is_withdrawn};
+ghost use Rattle.rfq_room.specs.Lasts.{last_in};
+ghost use Rattle.rfq_room.specs.Marked.{last_number, name_in, names_in, number_in, numbers_in, still_open};
+ghost use Rattle.rfq_room.specs.Numbers.{has};
+
+use crate::facts::quote_in;
+use crate::lasts::Lasts;
+use crate::numbers::Numbers;
+use crate::past::Past;
+use fix_dictionary::Identifier;
+use participants::Who;
+use sef_moment::Moment;
+use sorted_names::{Name, UsedNames};
+use std::alloc::{AllocError, Global};
+use std::marker::Model;
+use venue_rules::{Fact, RoomQuote};
+
+// What a number is kept for: a room that has traded, a quote that was withdrawn or passed, a room in which there was a quote.
+#[derive(Clone, Copy)]
+enum Mark {
+    Traded,
+    Withdrawn,
+    Quoted,
+}
+
+// Whose identifiers are kept.
+#[derive(Clone, Copy)]
+enum Named {
+    Requests,
+    Quotes,
+}
+
+/// What has become of rooms and quotes, and the identifiers that were used, each found by its hash; contracts see the facts of the day.
+#[derive(Drop)]
+pub(crate) struct Marks {
+    past: Past,
+    traded: Numbers,
+    withdrawn: Numbers,
+    quoted: Numbers,
+    lasts: Lasts,
+    requests: UsedNames,
+    quotes: UsedNames,
+    room: usize,
+}
+
+impl Model for Marks {
+    ghost use Rattle.rfq_room.specs.Contents.{Contents};
+    ghost use Rattle.rfq_room.specs.Marked.{AreMarked, contents};
+
+    ghost Value = { Contents };
+
+    ghost view = { contents };
+
+    ghost invariant = { AreMarked };
+}
+
+// The number that a fact marks.
+fn number_in(mark: Mark, fact: &Fact) -> Option<u64>
+    ensures { result ≡ number_in mark fact.now }
+{
+    match (mark, fact) {
+        (Mark::Traded, Fact::Closed(closing)) => Some(closing.room),
+        (Mark::Withdrawn, Fact::Withdrawn(withdrawal)) => Some(withdrawal.quote),
+        (Mark::Quoted, Fact::Quoted(quote)) => Some(quote.room),
+        _ => None,
+    }
+}
+
+// The numbers that facts more mark, for which there is room.
+fn add_numbers(numbers: &mut Numbers, mark: Mark, facts: &[Fact])
+    requires { length facts.now ≤ numbers.old.room }
+    ensures { (n : ℕ) → has numbers.new.numbers n ≡ (has (numbers_in mark facts.now) n || has numbers.old.numbers n) }
+{
+    for fact in facts {
+        if let Some(number) = number_in(mark, fact) {
+            numbers.add(number);
+        }
+    }
+}
+
+// The identifier that a fact uses.
+fn name_in(named: Named, fact: &Fact) -> Option<Name>
+    ensures { result ≡ name_in named fact.now }
+{
+    match (named, fact) {
+        (Named::Requests, Fact::Asked(room)) => Some(Name {
+            who: room.requester,
+            id: room.id,
+        }),
+        (Named::Quotes, Fact::Quoted(quote)) => Some(Name {
+            who: quote.maker,
+            id: quote.id,
+        }),
+        _ => None,
+    }
+}
+
+// The identifiers that facts more use, for which there is room.
+fn add_names(used: &mut UsedNames, named: Named, facts: &[Fact])
+    requires { length facts.now ≤ used.old.room }
+    ensures { (who : ℕ) (id : List ℕ) → list_any (is_of who id) used.new.names ≡ (list_any (is_of who id) (names_in named facts.now) || list_any (is_of who id) used.old.names) }
+{
+    for fact in facts {
+        if let Some(name) = name_in(named, fact) {
+            used.add(name);
+        }
+    }
+}
+
+// The last quotes after facts more, for which there is room.
+fn add_lasts(lasts: &mut Lasts, facts: &[Fact])
+    requires { length facts.now ≤ lasts.old.room }
+    ensures { (room maker : ℕ) → last_in lasts.new.entries room maker ≡ option_or (last_number facts.now room maker) (last_in lasts.old.entries room maker) }
+{
+    for fact in facts {
+        if let Some(quote) = quote_in(fact) {
+            lasts.set(quote.room, quote.maker, quote.number);
+        }
+    }
+}
+
+impl Marks {
+    pub(crate) fn new(alloc: Global) -> Marks
+        ensures facts { result.facts ≡ [] }
+        ensures room { result.spare.room ≡ 0 }
+    {
+        Marks {
+            past: Past::new(),
+            traded: Numbers::new(alloc),
+            withdrawn: Numbers::new(alloc),
+            quoted: Numbers::new(alloc),
+            lasts: Lasts::new(alloc),
+            requests: UsedNames::new(alloc),
+            quotes: UsedNames::new(alloc),
+            room: 0,
+        }
+    }
+
+    /// Makes room for so many facts.
+    pub(crate) fn reserve(&mut self, count: usize) -> Result<(), AllocError>
+        ensures kept { self.new.facts ≡ self.old.facts }
+        ensures room { IfOk result (λ _. self.new.spare.room ≡ count) }
+        ensures refused { OnErr result (self.new.spare.room ≡ self.old.spare.room) }
+    {
+        self.traded.reserve(count)?;
+        self.withdrawn.reserve(count)?;
+        self.quoted.reserve(count)?;
+        self.lasts.reserve(count)?;
+        self.requests.reserve(count)?;
+        self.quotes.reserve(count)?;
+        self.room = count;
+        Ok(())
+    }
+
+    /// Whether the participant has used the identifier for a request.
+    pub(crate) fn is_request_id_used(&self, who: Who, id: &Identifier) -> bool
+        ensures { result ≡ is_request_id_used self.now.facts who id.now }
+    {
+        self.requests.has(who, id)
+    }
+
+    /// Whether the participant has used the identifier for a quote.
+    pub(crate) fn is_quote_id_used(&self, who: Who, id: &Identifier) -> bool
+        ensures { result ≡ is_quote_id_used self.now.facts who id.now }
+    {
+        self.quotes.has(who, id)
+    }
+
+    /// Whether there was a quote in the room.
+    pub(crate) fn has_quote(&self, room: u64) -> bool
+        ensures { result ≡ is_some (first_quote self.now.facts room) }
+    {
+        self.quoted.has(room)
+    }
+
+    /// Whether the room has traded.
+    pub(crate) fn is_closed(&self, room: u64) -> bool
+        ensures { result ≡ is_closed self.now.facts room }
+    {
+        self.traded.has(room)
+    }
+
+    /// Whether the quote was withdrawn or passed.
+    pub(crate) fn is_withdrawn(&self, quote: u64) -> bool
+        ensures { result ≡ is_withdrawn self.now.facts quote }
+    {
+        self.withdrawn.has(quote)
+    }
+
+    /// Whether the maker quoted again in the room.
+    pub(crate) fn is_replaced(&self, quote: &RoomQuote) -> bool
+        ensures { result ≡ is_replaced self.now.facts quote.now }
+    {
+        let Some(last) = self.lasts.get(quote.room, quote.maker) else {
+            return true;
+        };
+        last != quote.number
+    }
+
+    /// Whether the quote may be hit at a moment.
+    pub(crate) fn is_live(&self, moment: Moment, quote: &RoomQuote) -> bool
+        ensures { result ≡ is_live self.now.facts moment quote.now }
+    {
+        !self.is_replaced(quote)
+            && (!self.is_withdrawn(quote.number)
+                && (!self.is_closed(quote.room) && moment.ms() <= quote.end.ms()))
+    }
+
+    /// Whether a room of this number and this end is open at a moment.
+    pub(crate) fn is_open(&self, moment: Moment, room: u64, end: Moment) -> bool
+        ensures { result ≡ still_open self.now.facts moment room end }
+    {
+        !self.is_closed(room) && moment.ms() <= end.ms()
+    }
+
+    /// Facts more, for which there is room.
+    pub(crate) fn add(&mut self, facts: &Vec<Fact>)
+        requires { length facts.now.items ≤ self.old.spare.room }
+        ensures facts { self.new.facts ≡ self.old.facts ++ facts.now.items }
+        ensures room { self.new.spare.room ≡ 0 }
+    {
+        add_numbers(&mut self.traded, Mark::Traded, facts);
+        add_numbers(&mut self.withdrawn, Mark::Withdrawn, facts);
+        add_numbers(&mut self.quoted, Mark::Quoted, facts);
+        add_lasts(&mut self.lasts, facts);
+        add_names(&mut self.requests, Named::Requests, facts);
+        add_names(&mut self.quotes, Named::Quotes, facts);
+        self.room = 0;
+        self.past.add(facts);
+    }
+}
