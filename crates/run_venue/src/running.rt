@@ -22,6 +22,7 @@ use gateway::line::{Gate, Line};
 use gateway::threads::{Finish, RunFault, Start, run_beside};
 use intake_seats::{Board, TakeSeat};
 use std::alloc::Global;
+use std::mem::drop;
 use std::sync::Wait;
 use std::thread::Threads;
 use venue_core::Venue;
@@ -61,7 +62,10 @@ fn run_threads<
         replies,
         ends,
         turns,
-        move || work_with(worker, clock, ends, marks, turns),
+        move || -> (Worked<K>, W)
+            requires marks { AreTakes ends.now marks.items × AreUnmarked marks.items }
+            ensures worked { HasWorked turns (W.answered clock) (W.answered result.1) result.0.ran worker.entry result.0.parts.venue (K.rows result.0.parts.keeper) (K.is_clean result.0.parts.keeper) (K.refused result.0.parts.keeper) result.0.parts.queues.items result.0.parts.takes.items result.0.parts.hands.items }
+        { work_with(worker, clock, ends, marks, turns) },
     )?;
     Ok((finished, worked, clock_after))
 }
@@ -104,7 +108,9 @@ pub fn run_venue<
     laws::one_reader();
     every_run_is_lawful();
     behind_is_owed_much();
+    // (Here and below a venue is given up by a call: a proof tells all that its drop does at each place where it is dropped otherwise.)
     let Ok(made) = make(alloc, venue.participants(), lines) else {
+        drop(venue);
         return Err(RunFault::NoMemory);
     };
     let Made {
@@ -124,9 +130,11 @@ pub fn run_venue<
     )?;
     let Worked { ran, parts } = worked;
     if ran.is_err() {
+        drop(parts);
         return Err(RunFault::TrailRefused);
     }
     let Ok(ended) = ended_of(alloc, finished) else {
+        drop(parts);
         return Err(RunFault::NoMemory);
     };
     match close_venue(alloc, parts, ended, intake, replies) {
