@@ -16,7 +16,6 @@ use std::io::Write;
 use trade_lines::{PrintFault, print_trades};
 
 /// Writes the lines of the trades of the day that a trail keeps.
-#[tactic(auto, using(crate::proofs::Kept::day_told))]
 fn print_kept<S: Alter, W: Write>(
     alloc: Global,
     trail: &mut Trail<S>,
@@ -38,7 +37,7 @@ fn print_kept<S: Alter, W: Write>(
 /// Writes a line for each trade of the day that a database keeps as a trail, in their order, read back from its rows alone: these are
 /// replayed over the files and with the delays that it keeps. Nothing is written into the database, nor, where it is refused, to the
 /// writer. The connection comes back.
-#[tactic(auto, using(crate::proofs::Kept::kept_day, crate::proofs::Kept::survives_both, crate::proofs::Ends::fault_told, crate::proofs::Ends::refused_unwritten))]
+#[tactic(auto, using(crate::proofs::Kept::survives_both, crate::proofs::Ends::fault_told, crate::proofs::Ends::refused_unwritten))]
 pub fn print_day<S: Alter, W: Write>(
     alloc: Global,
     conn: Connection<S>,
