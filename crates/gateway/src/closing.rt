@@ -99,16 +99,24 @@ pub fn close_venue<L: Line + Drop, K: Drop>(
         takes,
         hands,
     } = parts;
-    let Apart {
-        sessions,
-        lines,
-        hands: session_hands,
-        takes: session_takes,
-    } = take_apart(alloc, ended)?;
+    let Ok(
+        Apart {
+            sessions,
+            lines,
+            hands: session_hands,
+            takes: session_takes,
+        },
+    ) = take_apart(alloc, ended)
+    else {
+        drop(venue);
+        return Err(AllocError);
+    };
     let Ok(left) = intake.close(alloc, session_hands, takes) else {
+        drop(venue);
         return Err(AllocError);
     };
     let Ok(replies_left) = replies.close(alloc, hands, session_takes) else {
+        drop(venue);
         return Err(AllocError);
     };
     Ok(Closed {
