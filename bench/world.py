@@ -9,7 +9,9 @@ SENT = "52=20250303-14:30:00|"
 LOGON = ("A", "98=0|108=30|1137=9|")
 # how many participants there are, and how many of them send
 CROWDS = ((2, 2), (5, 5), (32, 32), (32, 2))
-GONE = (1_000, 10_000, 100_000)
+# a request asks three others
+ROOM_CROWDS = ((5, 5), (32, 32))
+GONE = (10, 1_000, 100_000)
 # the messages that are timed: eleven batches of 100
 TIMED = 1_100
 TURNS = 3
@@ -37,7 +39,24 @@ def traded(number, senders):
     return number % senders, order(number, "IRS5Y", 1 + number % 2)
 
 
-KINDS = (("refused", refused), ("come and gone", come_and_gone), ("traded", traded))
+def quoted_and_hit(number, senders):
+    """A request to the next three participants, a quote of the first of them, or the hit that ends the room."""
+    room, step = divmod(number, 3)
+    who = room % senders
+    if step == 0:
+        asked = "".join(f"448={name((who + k) % senders)}|447=D|452=35|" for k in (1, 2, 3))
+        return who, ("R", f"131=n{number}|146=1|55=IRS5Y|54=1|38=100|453=3|{asked}")
+    if step == 1:
+        return (who + 1) % senders, ("S", f"117=n{number}|131=R{room + 1}|55=IRS5Y|133=2.5|")
+    return who, ("AJ", f"693=n{number}|117=Q{room + 1}|694=1|")
+
+
+KINDS = (
+    ("refused", refused, CROWDS),
+    ("come and gone", come_and_gone, CROWDS),
+    ("traded", traded, CROWDS),
+    ("a request, its quote or its hit", quoted_and_hit, ROOM_CROWDS),
+)
 
 
 def name(place):
@@ -76,10 +95,10 @@ def best(told):
     return {part: min(it[part] for it in told) for part in told[0]}
 
 
-def measure(kind, gone, place):
+def measure(kind, crowds, gone, place):
     """For each crowd, what a message takes once so many came before, the crowds in turn."""
-    paths = [os.path.join(place, f"world_bench_{n}_{senders}.in") for n, senders in CROWDS]
-    for path, crowd in zip(paths, CROWDS):
+    paths = [os.path.join(place, f"world_bench_{n}_{senders}.in") for n, senders in crowds]
+    for path, crowd in zip(paths, crowds):
         with open(path, "wb") as file:
             file.write(stream(*crowd, gone + TIMED, kind))
     told = [[times(path) for path in paths] for _ in range(TURNS)]
@@ -93,15 +112,15 @@ def main():
     # builds it where it is not built, and plays the gate's few frames
     with open("crates/world_bench/stdin", "rb") as file:
         subprocess.run(["rt", "run"], cwd="crates/world_bench", check=True, stdin=file, capture_output=True)
-    for name, kind in KINDS:
+    for what, kind, crowds in KINDS:
         for gone in (gone for gone in GONE if gone <= most):
-            print(f"{name}, {gone} before:")
-            told = measure(kind, gone, place)
-            for (n, senders), it in zip(CROWDS, told):
+            print(f"{what}, {gone} before:")
+            told = measure(kind, crowds, gone, place)
+            for (n, senders), it in zip(crowds, told):
                 rest = it["world"] - it["sessions"] - it["venue"]
                 print(
                     f"  {n} participants, {senders} send: {it['world']} ns (sessions {it['sessions']}, venue {it['venue']}, "
-                    f"the world's own {rest}), beside 2 participants {it['world'] / told[0]['world']:.2f}",
+                    f"the world's own {rest}), beside {crowds[0][0]} participants {it['world'] / told[0]['world']:.2f}",
                     flush=True,
                 )
 

@@ -47,7 +47,10 @@ fn new_world(alloc: Global, participants: Participants) -> Result<Together, Allo
 // A world of these participants, with each line up.
 fn together_of(alloc: Global, file: &str, t: Moment) -> Result<Together> {
     let mut world = new_world(alloc, participants_of(alloc, file)?)?;
-    resume_all(&mut world, t)?;
+    if let Err(fault) = resume_all(&mut world, t) {
+        drop(world);
+        return Err(fault);
+    }
     Ok(world)
 }
 
@@ -67,9 +70,17 @@ fn stage_of(alloc: Global, file: &str) -> Result<Stage> {
     let Some(moment) = Moment::of_ms(START) else {
         return Err(anyhow!("no moment"));
     };
+    let together = together_of(alloc, file, moment)?;
+    let apart = match apart_of(alloc, file, moment) {
+        Ok(apart) => apart,
+        Err(fault) => {
+            drop(together);
+            return Err(fault);
+        }
+    };
     Ok(Stage {
-        together: together_of(alloc, file, moment)?,
-        apart: apart_of(alloc, file, moment)?,
+        together,
+        apart,
         moment,
         played: Played {
             frames: 0,
@@ -97,6 +108,16 @@ fn tell_times(rt: &HostRuntime, times: &Times) -> Result<()> {
     Ok(())
 }
 
+// Plays these lines, and says what came of it.
+fn play(rt: &HostRuntime, stage: &mut Stage, lines: &str, is_timed: bool) -> Result<()> {
+    play_all(rt, stage, lines)?;
+    tell(rt, stage.played)?;
+    if is_timed {
+        tell_times(rt, &stage.times)?;
+    }
+    Ok(())
+}
+
 fn main(rt: HostRuntime) -> Result<()> {
     let is_timed = env::args(&rt)?.skip(1).next().is_some();
     let input = io::read_to_string(rt.alloc(), rt.stdin())?;
@@ -104,10 +125,7 @@ fn main(rt: HostRuntime) -> Result<()> {
         return Err(anyhow!("no empty line after the participant file"));
     };
     let mut stage = stage_of(rt.alloc(), file)?;
-    play_all(&rt, &mut stage, lines)?;
-    tell(&rt, stage.played)?;
-    if is_timed {
-        tell_times(&rt, &stage.times)?;
-    }
-    Ok(())
+    let played = play(&rt, &mut stage, lines, is_timed);
+    drop(stage);
+    played
 }
