@@ -9,8 +9,8 @@ use std::{env, io};
 /// What the words of the command line ask for.
 #[derive(Drop)]
 pub enum Task {
-    /// `TRAIL`
-    Print { path: String },
+    /// `TRAIL`, with `--migrate` where a trail of an older version is first made into one of version 3.
+    Print { path: String, migrates: bool },
     /// `--help`: the text was printed.
     Help,
 }
@@ -45,9 +45,14 @@ fn program<'a>(alloc: Global) -> Result<Command<'a>, AllocError> {
         .help("The file that keeps the trail")
         .required(true)
         .action(ArgAction::Set);
+    let migrate = Arg::new(alloc, "migrate")
+        .long("migrate")
+        .help("First makes a trail of version 1 or 2 into one of version 3, in the file itself")
+        .action(ArgAction::SetTrue);
     Command::new(alloc, "sef_replay")
         .about("Prints the trades of the day that a trail keeps, one line each")
-        .arg(trail)
+        .arg(trail)?
+        .arg(migrate)
 }
 
 /// What these words ask for, if they ask for anything.
@@ -57,7 +62,10 @@ fn task_in(alloc: Global, words: &[String]) -> Result<Option<Task>, Error> {
         return Ok(None);
     };
     let path = String::from_str(alloc, path)?;
-    Ok(Some(Task::Print { path }))
+    Ok(Some(Task::Print {
+        path,
+        migrates: matches.get_flag("migrate"),
+    }))
 }
 
 /// Help is printed where it was asked for; other words are refused.

@@ -1,0 +1,28 @@
+use Rattle.sqlite.specs.Held.{state}
+use Rattle.sef_replay.proofs.Older.{clean_before, either_told, failure_at_last, leaves_still, of_err, of_ok, survives_printing}
+use Rattle.sef_replay.proofs.migrating.print_migrated.Goals as goal
+
+pub returns-in-Ok-clause-told : goal.returns-in-Ok-clause-told
+returns-in-Ok-clause-told g c =
+    of_ok c.print_day.result _ _ _ c.print_day.ensures.told c.print_day.ensures.crash
+    (λ back told s clean. either_told (state g.S.Store c.args.conn) (state g.S.Store c.in-Ok.conn) _ _ (c.in-Ok.ensures.third (clean_before _ _ _ s clean)) (told clean))
+
+pub returns-in-Ok-clause-fault : goal.returns-in-Ok-clause-fault
+returns-in-Ok-clause-fault g c =
+    of_err c.print_day.result _ _ _ c.print_day.ensures.fault c.print_day.ensures.crash_err
+    (λ e why s clean. failure_at_last (state g.S.Store c.args.conn) (state g.S.Store c.in-Ok.conn) e.0 (c.in-Ok.ensures.third (clean_before _ _ _ s clean)) (why clean))
+
+pub returns-in-Ok-clause-crash : goal.returns-in-Ok-clause-crash
+returns-in-Ok-clause-crash g c =
+    of_ok c.print_day.result _ _ _ c.print_day.ensures.crash c.print_day.ensures.crash
+    (λ back s _. survives_printing (state g.S.Store c.args.conn) (state g.S.Store c.in-Ok.conn) (state g.S.Store back) c.in-Ok.ensures.crash s)
+
+pub returns-in-Ok-clause-durable : goal.returns-in-Ok-clause-durable
+returns-in-Ok-clause-durable g c =
+    of_ok c.print_day.result _ _ _ c.print_day.ensures.crash c.print_day.ensures.crash
+    (λ back s _ clean. leaves_still (state g.S.Store c.args.conn) (state g.S.Store c.in-Ok.conn) (state g.S.Store back) clean (c.in-Ok.ensures.durable (clean_before _ _ _ s clean)) s)
+
+pub returns-in-Ok-clause-crash_err : goal.returns-in-Ok-clause-crash_err
+returns-in-Ok-clause-crash_err g c =
+    of_err c.print_day.result _ _ _ c.print_day.ensures.crash_err c.print_day.ensures.crash_err
+    (λ e s _. survives_printing (state g.S.Store c.args.conn) (state g.S.Store c.in-Ok.conn) (state g.S.Store e.1) c.in-Ok.ensures.crash s)
