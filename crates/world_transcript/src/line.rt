@@ -6,6 +6,7 @@ use crate::reading::call_in;
 use crate::telling::tell;
 use anyhow::{Result, anyhow};
 use std::alloc::{AllocError, Global};
+use std::mem;
 
 // The call of a line, read once more where a growth was refused.
 fn read(alloc: Global, line: &str) -> Result<Call> {
@@ -53,17 +54,24 @@ fn open(alloc: Global, refuses: Option<u64>) -> Result<Played, AllocError> {
     }
 }
 
+// A new world in the place of this one.
+fn begin(alloc: Global, world: &mut Played, refuses: Option<u64>) -> Result<(), AllocError> {
+    let begun = open(alloc, refuses)?;
+    drop(mem::replace(world, begun));
+    Ok(())
+}
+
 // What the world answers to a line.
 fn answer_to(alloc: Global, world: &mut Played, line: &str) -> Result<Answer> {
     if line.is_empty() {
         return Ok(Answer::Nothing);
     }
     if line.starts_with('#') {
-        *world = open(alloc, None)?;
+        begin(alloc, world, None)?;
         return Ok(Answer::Nothing);
     }
     if let Some(number) = line.strip_prefix("refuses ") {
-        *world = open(alloc, number.parse::<u64>().ok())?;
+        begin(alloc, world, number.parse::<u64>().ok())?;
         return Ok(Answer::Nothing);
     }
     let call = read(alloc, line)?;
@@ -96,6 +104,8 @@ fn play_lines(
 pub fn told_anew(alloc: Global, transcript: &str) -> Result<Vec<u8>> {
     let mut world = open(alloc, None)?;
     let mut told = Vec::new(alloc);
-    play_lines(alloc, &mut world, transcript, &mut told)?;
+    let played = play_lines(alloc, &mut world, transcript, &mut told);
+    drop(world);
+    played?;
     Ok(told)
 }
