@@ -6,6 +6,7 @@ use crate::reading::{tell_room, tell_trades};
 use crate::stage::Stage;
 use sef_moment::Moment;
 use std::alloc::{AllocError, Global};
+use std::mem;
 
 /// Why a line is not answered.
 #[derive(Drop, Clone, Copy, PartialEq)]
@@ -29,6 +30,15 @@ struct Play {
     market: Market,
     stage: Stage,
     again: bool,
+}
+
+impl Play {
+    // A new venue, on the market that is told.
+    fn open(&mut self, alloc: Global) -> Result<(), Trouble> {
+        let stage = Stage::open(alloc, &self.market)?;
+        drop(mem::replace(&mut self.stage, stage));
+        Ok(())
+    }
 }
 
 // Who sends what, as `ALPHA 35=..`.
@@ -125,7 +135,7 @@ fn call(alloc: Global, play: &mut Play, line: &str, told: &mut Vec<u8>) -> Resul
         "participants" => play.market.add_participants(alloc, rest)?,
         "related" => play.market.add_related(alloc, rest)?,
         "instrument" => play.market.add_instrument(alloc, rest)?,
-        "open" => play.stage = Stage::open(alloc, &play.market)?,
+        "open" => play.open(alloc)?,
         "number" => play.stage.number_from(rest)?,
         "due" => tell_due(play, rest, told)?,
         "trades" => tell_trades(alloc, play.stage.venue(), told)?,
@@ -196,6 +206,18 @@ fn play_line(
     }
 }
 
+fn play_lines(
+    alloc: Global,
+    play: &mut Play,
+    transcript: &str,
+    told: &mut Vec<u8>,
+) -> Result<(), AllocError> {
+    for line in transcript.lines() {
+        play_line(alloc, play, line, told)?;
+    }
+    Ok(())
+}
+
 /// The transcript with what the venue answers.
 pub fn told_anew(alloc: Global, transcript: &str) -> Result<Vec<u8>, AllocError> {
     let mut play = Play {
@@ -204,8 +226,8 @@ pub fn told_anew(alloc: Global, transcript: &str) -> Result<Vec<u8>, AllocError>
         again: false,
     };
     let mut told = Vec::new(alloc);
-    for line in transcript.lines() {
-        play_line(alloc, &mut play, line, &mut told)?;
-    }
+    let played = play_lines(alloc, &mut play, transcript, &mut told);
+    drop(play);
+    played?;
     Ok(told)
 }
