@@ -1,5 +1,5 @@
 -- Why the program ends as it does, and what stands where nothing was printed.
-use Rattle.std.proofs.Common.{◌≡◌, None, refl}
+use Rattle.std.proofs.Common.{None, refl}
 use Rattle.sqlite.specs.Effect.{Database}
 use Rattle.venue_rules.specs.declared.trail.TrailFault.{TrailFault}
 use Rattle.venue_rules.specs.declared.trail.TrailFault.TheVariants.{Refused, OtherFiles, BadRow, BadDelay, OtherVersion, NoMemory}

@@ -1,3 +1,4 @@
 pub mod Failures
 pub mod Day
 pub mod Older
+pub mod Trade

@@ -9,8 +9,12 @@ use std::{env, io};
 /// What the words of the command line ask for.
 #[derive(Drop)]
 pub enum Task {
-    /// `TRAIL`, with `--migrate` where a trail of an older version is first made into one of version 3.
-    Print { path: String, migrates: bool },
+    /// `TRAIL`
+    Print { path: String },
+    /// `--migrate TRAIL`: a trail of an older version is first made into one of version 3.
+    Migrate { path: String },
+    /// `TRAIL --trade WORD`
+    Trade { path: String, word: String },
     /// `--help`: the text was printed.
     Help,
 }
@@ -49,10 +53,18 @@ fn program<'a>(alloc: Global) -> Result<Command<'a>, AllocError> {
         .long("migrate")
         .help("First makes a trail of version 1 or 2 into one of version 3, in the file itself")
         .action(ArgAction::SetTrue);
+    let trade = Arg::new(alloc, "trade")
+        .long("trade")
+        .value_name("TRADE")
+        .help("Prints the evidence for this trade alone, as T1")
+        .action(ArgAction::Set);
     Command::new(alloc, "sef_replay")
-        .about("Prints the trades of the day that a trail keeps, one line each")
+        .about(
+            "Prints the trades of the day that a trail keeps, one line each, or the evidence for one",
+        )
         .arg(trail)?
-        .arg(migrate)
+        .arg(migrate)?
+        .arg(trade)
 }
 
 /// What these words ask for, if they ask for anything.
@@ -62,10 +74,19 @@ fn task_in(alloc: Global, words: &[String]) -> Result<Option<Task>, Error> {
         return Ok(None);
     };
     let path = String::from_str(alloc, path)?;
-    Ok(Some(Task::Print {
-        path,
-        migrates: matches.get_flag("migrate"),
-    }))
+    let migrates = matches.get_flag("migrate");
+    let Some(word) = matches.get_str("trade") else {
+        return Ok(Some(if migrates {
+            Task::Migrate { path }
+        } else {
+            Task::Print { path }
+        }));
+    };
+    if migrates {
+        return Ok(None);
+    }
+    let word = String::from_str(alloc, word)?;
+    Ok(Some(Task::Trade { path, word }))
 }
 
 /// Help is printed where it was asked for; other words are refused.

@@ -38,6 +38,9 @@ pub enum Failure {
     /// Status 3: the number of the trail's fault.
     #[error("trail refused {0}")]
     Trail(u8),
+    /// Status 3: the day has no such trade, or the word is no number of a trade.
+    #[error("trade refused")]
+    Trade,
 }
 
 impl Failure {
@@ -49,6 +52,7 @@ impl Failure {
             Failure::Stopped(_) => 1,
             Failure::CommandLine => 2,
             Failure::Trail(_) => 3,
+            Failure::Trade => 3,
         }
     }
 }

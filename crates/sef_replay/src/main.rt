@@ -9,6 +9,7 @@ mod migrating;
 mod printing;
 mod replaying;
 mod rows;
+mod trade;
 
 use command_line::{Task, task_given};
 pub use failure::{Failure, Stop};
@@ -16,19 +17,29 @@ pub use migrating::print_migrated;
 pub use printing::print_day;
 use sqlite::Connection;
 use std::process::ExitCode;
+pub use trade::{print_trade, trade_number};
 
-/// Prints the day of the trail at a path, and first makes one of an older version into version 3 where that is asked for. The file is
-/// looked at before, so that none is made where there is none, and none that is no database is touched.
-fn print_trail(rt: &HostRuntime, path: &str, migrates: bool) -> Result<(), Failure> {
+/// What is printed of a trail: its trades, and perhaps after one of an older version was made into version 3; or the evidence for the
+/// trade with a number.
+#[derive(Clone, Copy)]
+enum Wanted {
+    Day,
+    MigratedDay,
+    Trade(u64),
+}
+
+/// Prints what is wanted of the trail at a path. The file is looked at before, so that none is made where there is none, and none that is
+/// no database is touched.
+fn print_trail(rt: &HostRuntime, path: &str, wanted: Wanted) -> Result<(), Failure> {
     file::look_at(rt, path)?;
     let conn = match Connection::open(rt, path) {
         Ok(conn) => conn,
         Err(error) => return Err(Failure::from(error)),
     };
-    let printed = if migrates {
-        print_migrated(rt.alloc(), conn, &mut rt.stdout())
-    } else {
-        print_day(rt.alloc(), conn, &mut rt.stdout())
+    let printed = match wanted {
+        Wanted::Day => print_day(rt.alloc(), conn, &mut rt.stdout()),
+        Wanted::MigratedDay => print_migrated(rt.alloc(), conn, &mut rt.stdout()),
+        Wanted::Trade(number) => print_trade(rt.alloc(), conn, number, &mut rt.stdout()),
     };
     match printed {
         Ok(_) => Ok(()),
@@ -38,7 +49,12 @@ fn print_trail(rt: &HostRuntime, path: &str, migrates: bool) -> Result<(), Failu
 
 fn run(rt: &HostRuntime) -> Result<(), Failure> {
     match task_given(rt)? {
-        Task::Print { path, migrates } => print_trail(rt, &path, migrates),
+        Task::Print { path } => print_trail(rt, &path, Wanted::Day),
+        Task::Migrate { path } => print_trail(rt, &path, Wanted::MigratedDay),
+        Task::Trade { path, word } => match trade_number(&word) {
+            Some(number) => print_trail(rt, &path, Wanted::Trade(number)),
+            None => Err(Failure::Trade),
+        },
         Task::Help => Ok(()),
     }
 }

@@ -4,4 +4,5 @@
 mod line;
 mod printing;
 
+pub use line::{append, append_deal, append_number, append_price, name_at};
 pub use printing::{PrintFault, print_trades};

@@ -1,0 +1,99 @@
+//! The evidence for one trade of the day that a database keeps as a trail, printed.
+
+ghost use Rattle.std.specs.Prelude.{◌≡◌, ◌++◌, IfOk, IfErr, IfSome, OnOk, codes, decimal};
+ghost use Rattle.std.specs.Io.KnownBytes.{Keeps};
+ghost use Rattle.sqlite.specs.State.{HasCleanDisk, Survives};
+ghost use Rattle.sqlite.specs.Held.{state};
+ghost use Rattle.audit_trail.specs.Trail.{kept_rows, store};
+ghost use Rattle.sef_replay.specs.Trade.{IsRefusalOf, IsTradeFailureOf, TellsTradeKept, TellsTradeOf, UnlessTold};
+
+use crate::failure::{Failure, Stop};
+use crate::market::market_kept;
+use crate::replaying::rows_of;
+use crate::rows::check_rows;
+use audit_trail::Trail;
+use itoa::Buffer;
+use sqlite::{Alter, Connection};
+use std::alloc::Global;
+use std::io::Write;
+use trade_evidence::{EvidenceFault, print_evidence};
+
+/// The number of a trade that a word gives as the venue prints it: `T` and its digits.
+pub fn trade_number(word: &str) -> Option<u64>
+    ensures { IfSome result (λ number. word.now ≡ codes "T" ++ decimal number) }
+{
+    let digits = match word.strip_prefix("T") {
+        Some(digits) => digits,
+        None => return None,
+    };
+    let number = match digits.parse::<u64>() {
+        Ok(number) => number,
+        Err(_) => return None,
+    };
+    let mut buffer = Buffer::new();
+    if buffer.format(number) == digits {
+        Some(number)
+    } else {
+        None
+    }
+}
+
+/// Writes the evidence for a trade of the day that a trail keeps.
+#[tactic(auto, using(crate::proofs::Trades::told_kept, crate::proofs::Trades::none_kept, crate::proofs::Trades::stop_untold))]
+fn print_kept<S: Alter, W: Write>(
+    alloc: Global,
+    trail: &mut Trail<S>,
+    number: u64,
+    writer: &mut W,
+) -> Result<(), Failure>
+    ensures told { HasCleanDisk (store S.Store trail.new) → OnOk result
+        (TellsTradeKept trail.old.files trail.old.delays (kept_rows S.Store trail.old) number (W.contents writer.old) (W.contents writer.new)) }
+    ensures refused { HasCleanDisk (store S.Store trail.new) → IfErr result (IsRefusalOf trail.old.files trail.old.delays (kept_rows S.Store trail.old) number) }
+    ensures unwritten { IfErr result (λ failure. UnlessTold failure (Keeps (W.contents writer.old) (W.contents writer.new))) }
+    ensures crash { Survives (store S.Store trail.old) (store S.Store trail.new) (λ _. ⊥) }
+{
+    let (participants, instruments) = market_kept(alloc, trail.files(), trail.delays())?;
+    let rows = rows_of(trail)?;
+    check_rows(alloc, rows.as_slice())?;
+    match print_evidence(
+        alloc,
+        participants,
+        instruments,
+        rows.as_slice(),
+        number,
+        writer,
+    ) {
+        Ok(()) => Ok(()),
+        Err(EvidenceFault::Memory) => Err(Failure::Stopped(Stop::Memory)),
+        Err(EvidenceFault::Output) => Err(Failure::Stopped(Stop::Output)),
+        Err(EvidenceFault::NoTrade) => Err(Failure::Trade),
+    }
+}
+
+/// Writes the evidence for the trade with this number of the day that a database keeps as a trail, read back from its rows alone:
+/// these are replayed over the files and with the delays that it keeps. `Trade` where the day has no such trade. Nothing is written
+/// into the database, nor, where it or the number is refused, to the writer. The connection comes back.
+#[tactic(auto, using(crate::proofs::Trades::kept_trade, crate::proofs::Trades::refusal_kept, crate::proofs::Trades::fault_kept, crate::proofs::Trades::fault_untold, crate::proofs::Kept::survives_both))]
+pub fn print_trade<S: Alter, W: Write>(
+    alloc: Global,
+    conn: Connection<S>,
+    number: u64,
+    writer: &mut W,
+) -> Result<Connection<S>, (Failure, Connection<S>)>
+    ensures told { IfOk result (λ back. HasCleanDisk (state S.Store back) → TellsTradeOf (state S.Store conn).now number (W.contents writer.old) (W.contents writer.new)) }
+    ensures fault { IfErr result (λ e. HasCleanDisk (state S.Store e.1) → IsTradeFailureOf (state S.Store conn).now number e.0) }
+    ensures unwritten { IfErr result (λ e. UnlessTold e.0 (Keeps (W.contents writer.old) (W.contents writer.new))) }
+
+    // Nothing is committed: a crash leaves what it could leave before.
+    ensures crash { IfOk result (λ back. Survives (state S.Store conn) (state S.Store back) (λ _. ⊥)) }
+    ensures crash_err { IfErr result (λ e. Survives (state S.Store conn) (state S.Store e.1) (λ _. ⊥)) }
+{
+    let mut trail = match Trail::open(alloc, conn, None) {
+        Ok(trail) => trail,
+        Err((fault, conn)) => return Err((Failure::from(fault), conn)),
+    };
+    match print_kept(alloc, &mut trail, number, writer) {
+        Ok(()) => Ok(trail.into_connection()),
+        Err(failure) => Err((failure, trail.into_connection())),
+    }
+}

@@ -1,0 +1,81 @@
+-- What is told of a trade.
+use Rattle.std.proofs.Common.{◌≡◌, ℕ, List, Option, Some, None, Result, Ok, Err, refl, sym, subst, ◌∙◌}
+use Rattle.std.specs.Bool.{⊤}
+use Rattle.std.specs.Result.{IfErr, IsErrAnd}
+use Rattle.std.specs.Io.KnownBytes.{Appends, Keeps}
+use Rattle.venue_rules.specs.declared.trail.TradeFact.{TradeFact}
+use Rattle.venue_rules.specs.declared.trail.TrailRow.{TrailRow}
+use Rattle.venue_rules.specs.Facts.{History}
+use Rattle.venue_rules.specs.Market.{Market}
+use Rattle.venue_rules.specs.Run.{Input, run}
+use Rattle.venue_core.specs.Replay.{AreTold}
+use Rattle.venue_core.specs.Standing.{IsHistory}
+use Rattle.venue_core.specs.State.{State}
+use Rattle.trade_evidence.specs.declared.evidence.EvidenceFault.{EvidenceFault}
+use Rattle.trade_evidence.specs.declared.evidence.EvidenceFault.TheVariants.{Memory, NoTrade, Output}
+use Rattle.trade_evidence.specs.declared.word.Word.{Word}
+use Rattle.trade_evidence.specs.Lines.{evidence}
+use Rattle.trade_evidence.specs.Told.{AreOf, HasNoTrade, IsEvidence, IsHeard, TellsTrade, UnlessWriting, trade_numbered}
+use Rattle.trade_evidence.proofs.Rows.{PrintedIsRead, told_rows}
+
+are_of : PrintedIsRead → (rs : List TrailRow) (items : List Input) → AreTold rs items → AreOf rs items
+are_of law rs items told = record { told = told; of_run = λ is same fits. told_rows law rs is items same fits told }
+
+pub trade_told : PrintedIsRead → (m : Market) (rs : List TrailRow) (s : State) (words : List Word) (number : ℕ) (trade : TradeFact) (text : List ℕ) → IsHeard m number rs s words
+    → ((h : History) → IsHistory s h → Some trade ≡ trade_numbered h number) → text ≡ evidence s.market words trade → IsEvidence m rs number text
+trade_told law m rs s words number trade text heard numbered is = record {
+  items = heard.items;
+  told = are_of law rs heard.items heard.told;
+  trade = trade;
+  numbered = sym (numbered (run m heard.items).history heard.stands.history);
+  is = is ∙ (λ k. evidence (heard.stands.market k) (heard.said k) trade);
+}
+
+pub no_trade : PrintedIsRead → (m : Market) (rs : List TrailRow) (s : State) (words : List Word) (number : ℕ) → IsHeard m number rs s words
+    → ((h : History) → IsHistory s h → None ≡ trade_numbered h number) → HasNoTrade m rs number
+no_trade law m rs s words number heard numbered = record {
+  items = heard.items;
+  told = are_of law rs heard.items heard.told;
+  none = sym (numbered (run m heard.items).history heard.stands.history);
+}
+
+-- the text was written
+pub told_written : (m m' : Market) (rs : List TrailRow) (number : ℕ) (items text : List ℕ) (before after : Option (List ℕ)) → m ≡ m' → text ≡ items → IsEvidence m rs number items
+    → Appends before after text → TellsTrade m' rs number before after
+told_written m m' rs number items text before after same is found written = record {
+  text = text;
+  evidence = subst (λ (n : Market). IsEvidence n rs number text) same (subst (IsEvidence m rs number) (sym is) found);
+  written = written;
+}
+
+pub keeps_own : (held : Option (List ℕ)) → Keeps held held
+keeps_own None = tt
+keeps_own (Some bytes) = refl
+
+-- where nothing was being written the writer is as before
+pub not_writing : (fault : EvidenceFault) (P : Type 0) → P → UnlessWriting fault P
+not_writing Output P p = tt
+not_writing Memory P p = p
+not_writing NoTrade P p = p
+
+abbrev IsNoTrade : EvidenceFault → Type 0
+IsNoTrade Output = ⊥
+IsNoTrade Memory = ⊥
+IsNoTrade NoTrade = ⊤
+
+-- a want of memory, or a write that failed, refuses no trade
+pub memory_alone : {A : Type 0} (r : Result A EvidenceFault) (P : Type 0) → IsErrAnd r (λ fault. fault ≡ Memory) → IfErr r (λ fault. fault ≡ NoTrade → P)
+memory_alone (Ok x) P h = tt
+memory_alone (Err fault) P h = λ e. absurd (subst IsNoTrade (sym e ∙ h) tt)
+
+pub output_alone : {A : Type 0} (r : Result A EvidenceFault) (P : Type 0) → IfErr r (λ fault. fault ≡ Output) → IfErr r (λ fault. fault ≡ NoTrade → P)
+output_alone (Ok x) P h = tt
+output_alone (Err fault) P h = λ e. absurd (subst IsNoTrade (sym e ∙ h) tt)
+
+pub unwritten_alone : {A : Type 0} (r : Result A EvidenceFault) (P : Type 0) → IsErrAnd r (λ fault. fault ≡ Memory) → P → IfErr r (λ fault. UnlessWriting fault P)
+unwritten_alone (Ok x) P h p = tt
+unwritten_alone (Err fault) P h p = not_writing fault P p
+
+pub output_writing : {A : Type 0} (r : Result A EvidenceFault) (P : Type 0) → IfErr r (λ fault. fault ≡ Output) → IfErr r (λ fault. UnlessWriting fault P)
+output_writing (Ok x) P h = tt
+output_writing (Err fault) P h = subst (λ (f : EvidenceFault). UnlessWriting f P) (sym h) tt

@@ -1,0 +1,8 @@
+-- what is said of requests, quotes, orders and trades
+pub mod Said
+-- what rested before an order that was traded with
+pub mod Standing
+-- on a day, row by row
+pub mod Told
+-- the lines of the evidence for a trade
+pub mod Lines

@@ -1,0 +1,376 @@
+-- The evidence for a trade, as lines: plain words with units, a fact each, which ends in the row on which it rests.
+--
+--   In a room (17 CFR 37.9(a)(2), (a)(3)): the request; each recipient, and what it is to the requester and to the others who were
+--   asked; the resting orders shown with the first response; each quote; the hit; the trade.
+--   In the book (17 CFR 37.9(b)(1)): the order that rested and the one that entered, what their participants are to each other, whether
+--   the two are linked, how long apart they entered; what rested before the one that rested, as the other entered; the trade.
+use Rattle.std.specs.Prelude.{ℕ, ℤ, ◌+◌, ◌-◌, min, Bool, true, false, not, ◌&&◌, ◌||◌, ◌==◌, nat_lt, List, [], ◌++◌, find, Option, Some, None, codes, decimal, bytes_eq, if◌then◌else◌}
+use Rattle.std.specs.List.{flat_map}
+use Rattle.sef_moment.specs.Utc.{greatest}
+use Rattle.sef_moment.specs.Utc.{utc_text}
+use Rattle.fix_dictionary.specs.declared.values.Side.{Side}
+use Rattle.fix_dictionary.specs.declared.values.Side.TheVariants.{Buy, Sell}
+use Rattle.fix_fields.specs.Forms.{price_text}
+use Rattle.participants.specs.ParticipantFile.{ParticipantFile}
+use Rattle.participants.specs.Relations.{name_of, related}
+use Rattle.venue_rules.specs.Book.{is_same_link}
+use Rattle.venue_rules.specs.Market.{Market}
+use Rattle.venue_rules.specs.declared.trail.TradeFact.{TradeFact}
+use Rattle.trade_lines.specs.Line.{deal}
+use Rattle.trade_evidence.specs.declared.finding.Sought.{Sought}
+use Rattle.trade_evidence.specs.declared.finding.Sought.TheVariants.{Request, Order, Fill, OtherFill, Hit, HeldSide, Entry}
+use Rattle.trade_evidence.specs.declared.word.Word.{Word}
+use Rattle.trade_evidence.specs.declared.word.Said.{Said}
+use Rattle.trade_evidence.specs.declared.word.Said.TheVariants as said
+use Rattle.trade_evidence.specs.declared.word.Asked.{Asked}
+use Rattle.trade_evidence.specs.declared.word.Pictured.{Pictured}
+use Rattle.trade_evidence.specs.declared.word.Shown.{Shown}
+use Rattle.trade_evidence.specs.declared.word.Quoted.{Quoted}
+use Rattle.trade_evidence.specs.declared.word.Hit.{Hit as HitSaid}
+use Rattle.trade_evidence.specs.declared.word.Entered.{Entered}
+use Rattle.trade_evidence.specs.declared.word.Stood.{Stood}
+use Rattle.trade_evidence.specs.declared.word.Counted.{Counted}
+
+-- What a word says.
+
+abbrev pub is_asked_said : ℕ → Said → Bool
+is_asked_said room (said.Asked a) = a.room == room
+is_asked_said room _ = false
+
+-- somebody was asked in this room
+abbrev pub is_asked : ℕ → Word → Bool
+is_asked room w = is_asked_said room w.said
+
+abbrev pub enters_said : ℕ → Said → Bool
+enters_said order (said.Entered e) = e.order == order
+enters_said order _ = false
+
+-- this order entered
+abbrev pub enters : ℕ → Word → Bool
+enters order w = enters_said order w.said
+
+abbrev pub fills_said : ℕ → Said → Bool
+fills_said trade (said.Filled f) = f.trade == trade
+fills_said trade _ = false
+
+-- this trade filled an order
+abbrev pub fills : ℕ → Word → Bool
+fills trade w = fills_said trade w.said
+
+abbrev pub fills_other_said : ℕ → ℕ → Said → Bool
+fills_other_said trade order (said.Filled f) = f.trade == trade && not (f.order == order)
+fills_other_said trade order _ = false
+
+-- this trade filled another order than this
+abbrev pub fills_other : ℕ → ℕ → Word → Bool
+fills_other trade order w = fills_other_said trade order w.said
+
+abbrev pub hits_said : ℕ → Said → Bool
+hits_said trade (said.Hit x) = x.trade == trade
+hits_said trade _ = false
+
+-- this trade was made by a hit
+abbrev pub hits : ℕ → Word → Bool
+hits trade w = hits_said trade w.said
+
+abbrev pub holds_said : ℕ → List ℕ → ℕ → Said → Bool
+holds_said who id to (said.Held x) = to == who && bytes_eq x.id id
+holds_said who id to _ = false
+
+-- this participant's order of this identifier is held
+abbrev pub holds : ℕ → List ℕ → Word → Bool
+holds who id w = holds_said who id w.to w.said
+
+abbrev pub is_entry_said : ℕ → List ℕ → ℕ → Said → Bool
+is_entry_said who id to (said.Entered e) = to == who && bytes_eq e.id id
+is_entry_said who id to _ = false
+
+-- this participant's order of this identifier entered
+abbrev pub is_entry : ℕ → List ℕ → Word → Bool
+is_entry who id w = is_entry_said who id w.to w.said
+
+abbrev pub is_sought : Sought → Word → Bool
+is_sought (Request room) w = is_asked room w
+is_sought (Order order) w = enters order w
+is_sought (Fill trade) w = fills trade w
+is_sought (OtherFill trade order) w = fills_other trade order w
+is_sought (Hit trade) w = hits trade w
+is_sought (HeldSide who id) w = holds who id w
+is_sought (Entry who id) w = is_entry who id w
+
+abbrev pub order_said : Said → Option ℕ
+order_said (said.Filled f) = Some f.order
+order_said _ = None
+
+abbrev pub order_in : Word → Option ℕ
+order_in w = order_said w.said
+
+-- the order that is filled
+abbrev pub order_of : Option Word → Option ℕ
+order_of None = None
+order_of (Some w) = order_in w
+
+abbrev pub link_said : Said → Option (List ℕ)
+link_said (said.Entered e) = e.link
+link_said _ = None
+
+abbrev pub link_in : Word → Option (List ℕ)
+link_in w = link_said w.said
+
+-- the link of the order that entered
+abbrev pub link_of : Option Word → Option (List ℕ)
+link_of None = None
+link_of (Some w) = link_in w
+
+abbrev pub row_of : Option Word → ℕ
+row_of None = 0
+row_of (Some w) = w.row
+
+-- Parts of lines.
+
+-- the row on which a line rests, and its end
+abbrev pub row_text : ℕ → List ℕ
+row_text row = codes " row " ++ (decimal row ++ codes "\n")
+
+abbrev pub at_text : ℕ → List ℕ
+at_text t = codes " at " ++ utc_text t
+
+-- what two participants are to each other, by the participant file
+abbrev pub relation : ParticipantFile → ℕ → ℕ → List ℕ
+relation file one other = if one == other then codes " are one participant" else if related file one other then codes " are related" else codes " are not related"
+
+abbrev pub pair_line : ParticipantFile → ℕ → ℕ → ℕ → List ℕ
+pair_line file one other row = name_of file one ++ (codes " and " ++ (name_of file other ++ (relation file one other ++ row_text row)))
+
+-- In a room.
+
+abbrev pub asked_side : Option Side → List ℕ
+asked_side None = codes " for both sides of "
+asked_side (Some Buy) = codes " to buy "
+asked_side (Some Sell) = codes " to sell "
+
+abbrev pub request_line : ParticipantFile → Word → Asked → List ℕ
+request_line file w a = codes "request in room R" ++ (decimal a.room ++ (codes " of " ++ (name_of file a.requester ++ (asked_side a.side ++ (decimal a.quantity ++ (codes " " ++ (a.symbol ++ (at_text w.moment ++ row_text w.row))))))))
+
+-- what one who was asked in a room is to another who was, and who stands before it in the file
+abbrev pub other_line : ParticipantFile → ℕ → ℕ → ℕ → Word → List ℕ
+other_line file room who row other = if is_asked room other && nat_lt other.to who then pair_line file who other.to row else []
+
+abbrev pub others : ParticipantFile → List Word → ℕ → ℕ → ℕ → List ℕ
+others file words room who row = flat_map (other_line file room who row) words
+
+abbrev pub asked_lines : ParticipantFile → List Word → Word → Asked → List ℕ
+asked_lines file words w a = codes "asked " ++ (name_of file w.to ++ (row_text w.row ++ (pair_line file w.to a.requester w.row ++ others file words a.room w.to w.row)))
+
+abbrev pub pictured_line : Word → Pictured → List ℕ
+pictured_line w p = codes "resting orders shown with the first response: " ++ (decimal p.count ++ row_text w.row)
+
+abbrev pub shown_side : Side → List ℕ
+shown_side Buy = codes " bid "
+shown_side Sell = codes " offer "
+
+abbrev pub shown_line : Word → Shown → List ℕ
+shown_line w s = codes "shown O" ++ (decimal s.order ++ (shown_side s.side ++ (decimal s.left ++ (codes " @ " ++ (price_text s.price ++ row_text w.row)))))
+
+abbrev pub price_or_none : Option ℤ → List ℕ
+price_or_none None = codes "none"
+price_or_none (Some price) = price_text price
+
+abbrev pub quote_line : Word → Quoted → List ℕ
+quote_line w q = codes "quote Q" ++ (decimal q.quote ++ (codes " of " ++ (q.maker ++ (codes " bid " ++ (price_or_none q.bid ++ (codes " offer " ++ (price_or_none q.offer
+    ++ (codes " until " ++ (utc_text q.end ++ (at_text w.moment ++ row_text w.row))))))))))
+
+abbrev pub hit_line : Word → HitSaid → List ℕ
+hit_line w x = codes "hit of quote " ++ (x.quote ++ (at_text w.moment ++ row_text w.row))
+
+-- to the requester, on its request
+abbrev pub is_to : Asked → ℕ → List ℕ → Bool
+is_to a to request = to == a.requester && bytes_eq request a.request
+
+-- what a word tells of the room of a request
+abbrev pub room_said : ParticipantFile → List Word → Asked → Word → Said → List ℕ
+room_said file words a w (said.Asked b) = if b.room == a.room then asked_lines file words w b else []
+room_said file words a w (said.Pictured p) = if is_to a w.to p.request then pictured_line w p else []
+room_said file words a w (said.Shown s) = if is_to a w.to s.request then shown_line w s else []
+room_said file words a w (said.Quoted q) = if is_to a w.to q.request then quote_line w q else []
+room_said file words a w (said.Hit x) = if x.room == a.room && w.to == a.requester then hit_line w x else []
+room_said file words a w (said.Entered e) = []
+room_said file words a w (said.Held x) = []
+room_said file words a w (said.Filled f) = []
+room_said file words a w (said.Stood x) = []
+room_said file words a w (said.Counted x) = []
+
+unfoldable pub room_word : ParticipantFile → List Word → Asked → Word → List ℕ
+room_word file words a w = room_said file words a w w.said
+
+abbrev pub room_found_said : ParticipantFile → List Word → Word → Said → List ℕ
+room_found_said file words w (said.Asked a) = request_line file w a ++ flat_map (room_word file words a) words
+room_found_said file words w _ = []
+
+abbrev pub room_found : ParticipantFile → List Word → Word → List ℕ
+room_found file words w = room_found_said file words w w.said
+
+abbrev pub room_of : ParticipantFile → List Word → Option Word → List ℕ
+room_of file words None = []
+room_of file words (Some w) = room_found file words w
+
+-- the request, and then row by row who was asked, what was shown and quoted, and the hit
+abbrev pub room_lines : ParticipantFile → List Word → ℕ → List ℕ
+room_lines file words room = room_of file words (find (is_sought (Request room)) words)
+
+-- In the book.
+
+abbrev pub side_text : Side → List ℕ
+side_text Buy = codes " to buy "
+side_text Sell = codes " to sell "
+
+abbrev pub price_if : Option ℤ → List ℕ
+price_if None = []
+price_if (Some price) = codes " @ " ++ price_text price
+
+abbrev pub order_line : ParticipantFile → Word → Entered → List ℕ
+order_line file w e = codes "order O" ++ (decimal e.order ++ (codes " of " ++ (name_of file w.to ++ (side_text e.side ++ (decimal e.quantity ++ (codes " " ++ (e.symbol ++ (price_if e.price ++ (at_text w.moment ++ row_text w.row)))))))))
+
+abbrev pub link_line : ℕ → Option (List ℕ) → ℕ → List ℕ
+link_line order None row = []
+link_line order (Some link) row = codes "O" ++ (decimal order ++ (codes " carries the link " ++ (link ++ row_text row)))
+
+abbrev pub original_line : ℕ → Option (List ℕ) → ℕ → List ℕ
+original_line order None row = []
+original_line order (Some original) row = codes "O" ++ (decimal order ++ (codes " takes the place of the order with the identifier " ++ (original ++ row_text row)))
+
+abbrev pub held_said : ℕ → Word → Said → List ℕ
+held_said order w (said.Held x) = codes "O" ++ (decimal order ++ (codes " was held as the second side of a cross for " ++ (decimal x.delay ++ (codes " ms from " ++ (utc_text w.moment ++ row_text w.row)))))
+held_said order w _ = []
+
+abbrev pub held_line : ℕ → Word → List ℕ
+held_line order w = held_said order w w.said
+
+abbrev pub hold_of : ℕ → Option Word → List ℕ
+hold_of order None = []
+hold_of order (Some hold) = held_line order hold
+
+-- what enters at a tick was held before
+abbrev pub hold_lines : List Word → Word → Entered → List ℕ
+hold_lines words w e = if e.at_tick then hold_of e.order (find (is_sought (HeldSide w.to e.id)) words) else []
+
+unfoldable pub entry_lines : ParticipantFile → List Word → Word → Entered → List ℕ
+entry_lines file words w e = order_line file w e ++ (link_line e.order e.link w.row ++ (original_line e.order e.original w.row ++ hold_lines words w e))
+
+abbrev pub held_until_said : Word → Said → ℕ
+held_until_said w (said.Held x) = min (w.moment + x.delay) greatest
+held_until_said w _ = w.moment
+
+-- where the delay of a held side is over
+abbrev pub held_until : Word → ℕ
+held_until w = held_until_said w w.said
+
+abbrev pub moment_of : ℕ → Option Word → ℕ
+moment_of t None = t
+moment_of t (Some hold) = held_until hold
+
+-- when an order entered: a held side where its delay was over, which may be before the tick
+abbrev pub entry_moment : List Word → Word → Entered → ℕ
+entry_moment words w e = if e.at_tick then moment_of w.moment (find (is_sought (HeldSide w.to e.id)) words) else w.moment
+
+abbrev pub apart_line : ℕ → ℕ → ℕ → List ℕ
+apart_line earlier later row = codes "entered " ++ (decimal (later - earlier) ++ (codes " ms apart" ++ row_text row))
+
+-- two orders of one participant, of related ones, or with one link (17 CFR 37.9(b)(1))
+abbrev pub are_linked : ParticipantFile → ℕ → Option (List ℕ) → ℕ → Option (List ℕ) → Bool
+are_linked file one link other other_link = one == other || (related file one other || is_same_link link other_link)
+
+abbrev pub linked_text : Bool → List ℕ
+linked_text true = codes " are linked"
+linked_text false = codes " are not linked"
+
+abbrev pub linked_line : ParticipantFile → Word → Entered → Word → Entered → ℕ → List ℕ
+linked_line file old resting new entering row =
+    codes "O" ++ (decimal resting.order ++ (codes " and O" ++ (decimal entering.order ++ (linked_text (are_linked file old.to resting.link new.to entering.link) ++ row_text row))))
+
+abbrev pub stood_side : Side → List ℕ
+stood_side Buy = codes " with a bid of "
+stood_side Sell = codes " with an offer of "
+
+abbrev pub stood_line : Word → Stood → List ℕ
+stood_line w x = codes "O" ++ (decimal x.order ++ (codes " rested before O" ++ (decimal x.resting ++ (stood_side x.side ++ (decimal x.left ++ (codes " @ " ++ (price_text x.price ++ row_text w.row)))))))
+
+abbrev pub counted_line : Word → Counted → List ℕ
+counted_line w x = codes "orders that rested on its side before O" ++ (decimal x.resting ++ (codes ": " ++ (decimal x.count ++ row_text w.row)))
+
+abbrev pub standing_said : Word → Said → List ℕ
+standing_said w (said.Stood x) = stood_line w x
+standing_said w (said.Counted x) = counted_line w x
+standing_said w _ = []
+
+-- what a word tells of what rested before the order that was traded with
+abbrev pub standing_line : Word → List ℕ
+standing_line w = standing_said w w.said
+
+-- what rested before it, best first, and then how many
+abbrev pub standing_lines : List Word → List ℕ
+standing_lines words = flat_map standing_line words
+
+-- of both orders together
+unfoldable pub together_lines : ParticipantFile → List Word → Word → Entered → Word → Entered → ℕ → List ℕ
+together_lines file words old resting new entering row = pair_line file old.to new.to row ++ (linked_line file old resting new entering row
+    ++ (apart_line (entry_moment words old resting) (entry_moment words new entering) row ++ standing_lines words))
+
+-- the order that rested and the one that entered
+abbrev pub both_lines : ParticipantFile → List Word → Word → Entered → Word → Entered → ℕ → List ℕ
+both_lines file words old resting new entering row = entry_lines file words old resting ++ (entry_lines file words new entering ++ together_lines file words old resting new entering row)
+
+abbrev pub entered_with : ParticipantFile → List Word → Word → Entered → Word → Said → ℕ → List ℕ
+entered_with file words old resting new (said.Entered entering) row = both_lines file words old resting new entering row
+entered_with file words old resting new _ row = []
+
+abbrev pub entered_both : ParticipantFile → List Word → Word → Said → Word → ℕ → List ℕ
+entered_both file words old (said.Entered resting) new row = entered_with file words old resting new new.said row
+entered_both file words old _ new row = []
+
+abbrev pub entries_lines : ParticipantFile → List Word → Word → Word → ℕ → List ℕ
+entries_lines file words old new row = entered_both file words old old.said new row
+
+abbrev pub two_orders : ParticipantFile → List Word → Option Word → Option Word → ℕ → List ℕ
+two_orders file words None new row = []
+two_orders file words (Some old) None row = []
+two_orders file words (Some old) (Some new) row = entries_lines file words old new row
+
+unfoldable pub orders_lines : ParticipantFile → List Word → ℕ → ℕ → ℕ → List ℕ
+orders_lines file words resting entering row = two_orders file words (find (is_sought (Order resting)) words) (find (is_sought (Order entering)) words) row
+
+abbrev pub other_of : ParticipantFile → List Word → ℕ → Option ℕ → ℕ → List ℕ
+other_of file words entering None row = []
+other_of file words entering (Some resting) row = orders_lines file words resting entering row
+
+abbrev pub filled_of : ParticipantFile → List Word → ℕ → Option ℕ → ℕ → List ℕ
+filled_of file words trade None row = []
+filled_of file words trade (Some entering) row = other_of file words entering (order_of (find (is_sought (OtherFill trade entering)) words)) row
+
+-- of a fill the entering order's report comes first
+abbrev pub book_lines : ParticipantFile → List Word → ℕ → ℕ → List ℕ
+book_lines file words trade row = filled_of file words trade (order_of (find (is_sought (Fill trade)) words)) row
+
+-- The whole.
+
+abbrev pub row_in : List Word → ℕ → Option ℕ → ℕ
+row_in words trade None = row_of (find (is_sought (Fill trade)) words)
+row_in words trade (Some room) = row_of (find (is_sought (Hit trade)) words)
+
+-- the row at which a trade was made
+abbrev pub trade_row : List Word → TradeFact → ℕ
+trade_row words t = row_in words t.number t.room
+
+abbrev pub lines_in : ParticipantFile → List Word → ℕ → Option ℕ → ℕ → List ℕ
+lines_in file words trade None row = book_lines file words trade row
+lines_in file words trade (Some room) row = room_lines file words room
+
+abbrev pub place_lines : ParticipantFile → List Word → TradeFact → ℕ → List ℕ
+place_lines file words t row = lines_in file words t.number t.room row
+
+abbrev pub trade_line : Market → TradeFact → ℕ → List ℕ
+trade_line m t row = codes "trade T" ++ (decimal t.number ++ (codes " " ++ (deal m t ++ row_text row)))
+
+-- what a trade rests on, and then the trade
+unfoldable pub evidence : Market → List Word → TradeFact → List ℕ
+evidence m words t = place_lines m.participants words t (trade_row words t) ++ trade_line m t (trade_row words t)

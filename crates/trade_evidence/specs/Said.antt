@@ -1,0 +1,149 @@
+-- What is said on the venue of requests, quotes, orders and trades, read off the messages and the replies to them.
+use Rattle.std.specs.Prelude.{ℕ, ℤ, Bool, true, false, List, [], ◌∷◌, ◌++◌, find, length, map, Option, Some, None, bytes_eq, if◌then◌else◌}
+use Rattle.std.specs.List.{flat_map}
+use Rattle.fix_dictionary.specs.declared.messages.App.{App}
+use Rattle.fix_dictionary.specs.declared.messages.App.TheVariants.{QuoteRequest, Quote, QuoteCancel, QuoteResponse, QuoteStatusReport, QuoteRequestReject, NewOrderSingle, OrderCancelRequest, OrderCancelReplaceRequest, NewOrderCross, ExecutionReport, OrderCancelReject, MarketDataRequest, MarketDataSnapshot, MarketDataRequestReject, BusinessMessageReject, Unsupported}
+use Rattle.instruments.specs.declared.instruments.Instrument.{Instrument}
+use Rattle.instruments.specs.Listing.{delay_of, instrument_of}
+use Rattle.venue_rules.specs.declared.replies.FilledReport.{FilledReport}
+use Rattle.venue_rules.specs.declared.replies.OrderReport.{OrderReport}
+use Rattle.venue_rules.specs.declared.replies.PictureEntry.{PictureEntry}
+use Rattle.venue_rules.specs.declared.replies.Prices.{Prices}
+use Rattle.venue_rules.specs.declared.replies.Reply.{Reply}
+use Rattle.venue_rules.specs.declared.replies.RequestSent.{RequestSent}
+use Rattle.venue_rules.specs.declared.replies.RoomReport.{RoomReport}
+use Rattle.venue_rules.specs.declared.replies.What.{What}
+use Rattle.venue_rules.specs.declared.replies.What.TheVariants as what
+use Rattle.trade_evidence.specs.declared.came.Came.{Came}
+use Rattle.trade_evidence.specs.declared.came.Came.TheVariants as came
+use Rattle.trade_evidence.specs.declared.came.Crossed.{Crossed}
+use Rattle.trade_evidence.specs.declared.word.Said.{Said}
+use Rattle.trade_evidence.specs.declared.word.Said.TheVariants as said
+use Rattle.trade_evidence.specs.declared.word.Word.{Word}
+use Rattle.trade_evidence.specs.declared.finding.Sought.TheVariants.{Entry}
+use Rattle.trade_evidence.specs.Lines.{is_sought, link_of}
+
+-- the link of the order that a participant has entered under an identifier
+abbrev pub link_known : List Word → ℕ → List ℕ → Option (List ℕ)
+link_known words who id = link_of (find (is_sought (Entry who id)) words)
+
+-- What of a participant's message tells of the replies to it, after what was said before; what takes an order's place has its link.
+unfoldable pub came_in : List Instrument → List Word → ℕ → App → Came
+came_in xs words who (QuoteRequest d) = came.Request (record { requester = who; request = d.request_id })
+came_in xs words who (Quote d) = came.Quote
+came_in xs words who (QuoteResponse d) = came.Response d.quote_id
+came_in xs words who (NewOrderSingle d) = came.Order (record { price = d.price; link = d.link_id })
+came_in xs words who (OrderCancelReplaceRequest d) = came.Order (record { price = d.price; link = link_known words who d.original_id })
+came_in xs words who (NewOrderCross d) = came.Cross (record { first = d.first.order_id; second = d.second.order_id; price = d.price; delay = delay_of xs (instrument_of xs d.symbol) })
+came_in xs words who (QuoteCancel d) = came.Other
+came_in xs words who (QuoteStatusReport d) = came.Other
+came_in xs words who (QuoteRequestReject d) = came.Other
+came_in xs words who (OrderCancelRequest d) = came.Other
+came_in xs words who (ExecutionReport d) = came.Other
+came_in xs words who (OrderCancelReject d) = came.Other
+came_in xs words who (MarketDataRequest d) = came.Other
+came_in xs words who (MarketDataSnapshot d) = came.Other
+came_in xs words who (MarketDataRequestReject d) = came.Other
+came_in xs words who (BusinessMessageReject d) = came.Other
+came_in xs words who (Unsupported kind) = came.Other
+
+-- the price that a message gives its orders, and the link that its order carries (583)
+
+abbrev pub price_in : Came → Option ℤ
+price_in (came.Order o) = o.price
+price_in (came.Cross x) = x.price
+price_in _ = None
+
+abbrev pub link_in : Came → Option (List ℕ)
+link_in (came.Order o) = o.link
+link_in _ = None
+
+abbrev pub is_tick : Came → Bool
+is_tick came.Tick = true
+is_tick _ = false
+
+-- What a reply says.
+
+-- a recipient of a request is asked
+abbrev pub asked_in : Came → RequestSent → Option Said
+asked_in (came.Request q) r = Some (said.Asked (record { requester = q.requester; request = q.request; room = r.room; symbol = r.symbol; side = r.side; quantity = r.quantity }))
+asked_in _ r = None
+
+-- a requester is shown so many resting orders, with the first response
+abbrev pub pictured_in : Came → Prices → Option Said
+pictured_in came.Quote p = Some (said.Pictured (record { request = p.request_id; count = length p.entries }))
+pictured_in _ p = None
+
+-- a quote was hit
+abbrev pub hit_in : Came → RoomReport → Option Said
+hit_in (came.Response quote) r = Some (said.Hit (record { room = r.room; trade = r.trade; quote = quote }))
+hit_in _ r = None
+
+-- an order was filled by a trade
+abbrev pub filled_of : FilledReport → Option ℕ → Option Said
+filled_of f None = None
+filled_of f (Some order) = Some (said.Filled (record { order = order; trade = f.trade }))
+
+abbrev pub filled_in : FilledReport → Option Said
+filled_in f = filled_of f f.order.order
+
+-- an order entered, perhaps in the place of another
+abbrev pub entered_of : Came → Option (List ℕ) → OrderReport → Option ℕ → Option Said
+entered_of c original r None = None
+entered_of c original r (Some order) = Some (said.Entered (record { order = order; id = r.id; symbol = r.symbol; side = r.side; quantity = r.left; price = price_in c; link = link_in c; original = original; at_tick = is_tick c }))
+
+abbrev pub entered_in : Came → Option (List ℕ) → OrderReport → Option Said
+entered_in c original r = entered_of c original r r.order
+
+abbrev pub said_in : Came → What → Option Said
+said_in c (what.RequestSent r) = asked_in c r
+said_in c (what.Prices p) = pictured_in c p
+said_in c (what.QuoteSent q) = Some (said.Quoted (record { request = q.request_id; quote = q.quote; maker = q.maker; bid = q.bid; offer = q.offer; end = q.end }))
+said_in c (what.OrderEntered r) = entered_in c None r
+said_in c (what.OrderReplaced r) = entered_in c (Some r.original_id) r.order
+said_in c (what.OrderFilled f) = filled_in f
+said_in c (what.RoomTraded r) = hit_in c r
+said_in c _ = None
+
+-- with the first side of a cross, its other side is held
+abbrev pub held_of : Crossed → OrderReport → Said
+held_of x r = said.Held (record { id = if bytes_eq r.id x.first then x.second else x.first; delay = x.delay })
+
+abbrev pub held_by : Came → OrderReport → Option Said
+held_by (came.Cross x) r = Some (held_of x r)
+held_by _ r = None
+
+abbrev pub held_in : Came → What → Option Said
+held_in c (what.OrderEntered r) = held_by c r
+held_in c _ = None
+
+-- at a row and its moment, to somebody
+abbrev pub word : ℕ → ℕ → ℕ → Said → Word
+word row moment to s = record { row = row; moment = moment; to = to; said = s }
+
+abbrev pub said_by : ℕ → ℕ → ℕ → Option Said → List Word
+said_by row moment to None = []
+said_by row moment to (Some s) = word row moment to s ∷ []
+
+-- the resting orders that a requester is shown with the first response
+abbrev pub shown_word : ℕ → ℕ → ℕ → List ℕ → PictureEntry → Word
+shown_word row moment to request e = word row moment to (said.Shown (record { request = request; side = e.side; price = e.price; left = e.left; order = e.order }))
+
+abbrev pub prices_words : ℕ → ℕ → ℕ → Came → Prices → List Word
+prices_words row moment to came.Quote p = map (shown_word row moment to p.request_id) p.entries
+prices_words row moment to _ p = []
+
+abbrev pub picture_of : ℕ → ℕ → ℕ → Came → What → List Word
+picture_of row moment to c (what.Prices p) = prices_words row moment to c p
+picture_of row moment to c _ = []
+
+abbrev pub picture_in : ℕ → ℕ → Came → Reply → List Word
+picture_in row moment c r = picture_of row moment r.to c r.what
+
+-- what a reply says, at its row
+unfoldable pub words_in : ℕ → ℕ → Came → Reply → List Word
+words_in row moment c r = said_by row moment r.to (said_in c r.what) ++ (said_by row moment r.to (held_in c r.what) ++ picture_in row moment c r)
+
+-- and what all replies say
+abbrev pub words_of : ℕ → ℕ → Came → List Reply → List Word
+words_of row moment c replies = flat_map (words_in row moment c) replies

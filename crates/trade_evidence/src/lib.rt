@@ -1,0 +1,15 @@
+//! The evidence for one trade of a day, read back from the rows of its trail: what was asked, shown, quoted and entered, each with its row.
+#![tactic(auto)]
+
+mod book;
+mod came;
+mod evidence;
+mod finding;
+mod gathering;
+mod rested;
+mod room;
+mod said;
+mod standing;
+mod word;
+
+pub use evidence::{EvidenceFault, print_evidence};
