@@ -1,6 +1,6 @@
 //! The evidence for one trade of the day that a database keeps as a trail, printed.
 
-ghost use Rattle.std.specs.Prelude.{◌≡◌, ◌++◌, IfOk, IfErr, IfSome, OnOk, codes, decimal};
+ghost use Rattle.std.specs.Prelude.{◌≡◌, ◌++◌, ℕ, ◌<◌, ◌^◌, Some, IfOk, IfErr, IfSome, OnOk, codes, decimal};
 ghost use Rattle.std.specs.Io.KnownBytes.{Keeps};
 ghost use Rattle.sqlite.specs.State.{HasCleanDisk, Survives};
 ghost use Rattle.sqlite.specs.Held.{state};
@@ -20,7 +20,8 @@ use trade_evidence::{EvidenceFault, print_evidence};
 
 /// The number of a trade that a word gives as the venue prints it: `T` and its digits.
 pub fn trade_number(word: &str) -> Option<u64>
-    ensures { IfSome result (λ number. word.now ≡ codes "T" ++ decimal number) }
+    ensures printed { IfSome result (λ number. word.now ≡ codes "T" ++ decimal number) }
+    ensures each { (number : ℕ) → number < 2 ^ 64 → word.now ≡ codes "T" ++ decimal number → result ≡ Some number }
 {
     let digits = match word.strip_prefix("T") {
         Some(digits) => digits,
