@@ -46,13 +46,14 @@ class Desk:
         self.line = socket.create_connection(("127.0.0.1", port), timeout=LONGEST)
         self.line.setsockopt(socket.IPPROTO_TCP, socket.TCP_NODELAY, 1)
 
-    def send(self, kind, fields):
-        """Sends a message of this type; the header is put before its fields."""
+    def send(self, kind, fields, quietly=False):
+        """Sends a message of this type; the header is put before its fields. Prints it, unless quietly."""
         self.number += 1
         now = time.strftime("%Y%m%d-%H:%M:%S", time.gmtime())
         header = f"35={kind}|49={self.name}|56=SEF|34={self.number}|52={now}|"
         message = frame((header + fields).replace("|", "\x01").encode("ascii"))
-        print(f"{self.name:5} > {shown(message)}", flush=True)
+        if not quietly:
+            print(f"{self.name:5} > {shown(message)}", flush=True)
         self.line.sendall(message)
 
     def next_message(self):

@@ -9,10 +9,16 @@ use Rattle.venue_main.specs.declared.check.CheckFault.TheVariants as check
 use Rattle.venue_main.specs.declared.market.FilesFault.{FilesFault}
 use Rattle.venue_main.specs.declared.market.FilesFault.TheVariants as files
 use Rattle.venue_main.specs.declared.failure.Failure.{Failure}
-use Rattle.venue_main.specs.declared.failure.Failure.TheVariants.{Stopped, Served, CommandLine, Participants, Instruments}
+use Rattle.venue_main.specs.declared.failure.Failure.TheVariants.{Stopped, Served, CommandLine, Participants, Instruments, Trail as TrailRefused}
 use Rattle.answer_stream.specs.declared.fault.OnceFault.TheVariants.{Memory, Output}
 use Rattle.gateway.specs.declared.threads.RunFault.{RunFault}
 use Rattle.gateway.specs.declared.threads.RunFault.TheVariants as run
+use Rattle.sqlite.specs.declared.error.Error.{Error}
+use Rattle.sqlite.specs.declared.error.Error.TheVariants.{SqliteFailure}
+use Rattle.sqlite.specs.declared.error.ErrorCode.{ErrorCode}
+use Rattle.sqlite.specs.declared.error.ErrorCode.TheVariants as code
+use Rattle.venue_rules.specs.declared.trail.TrailFault.{TrailFault}
+use Rattle.venue_rules.specs.declared.trail.TrailFault.TheVariants as trail
 use Rattle.venue_main.specs.declared.serve.ServeFault.{ServeFault}
 use Rattle.venue_main.specs.declared.serve.ServeFault.TheVariants as serve
 
@@ -23,6 +29,7 @@ status_of (Served fault) = 1
 status_of CommandLine = 2
 status_of (Participants number) = 3
 status_of (Instruments number) = 3
+status_of (TrailRefused number) = 3
 
 -- the end of the program where the participant file has this fault
 abbrev pub participants_failure : ParticipantsFault → Failure
@@ -58,3 +65,25 @@ abbrev pub run_fault : RunFault → ServeFault
 run_fault run.NoMemory = serve.Memory
 run_fault run.NoThread = serve.Thread
 run_fault run.TrailRefused = serve.Trail
+
+-- the end of the program where a trail has this fault
+abbrev pub trail_failure : TrailFault → Failure
+trail_failure trail.Refused = TrailRefused 1
+trail_failure trail.OtherFiles = TrailRefused 2
+trail_failure (trail.BadRow n) = TrailRefused 3
+trail_failure trail.OtherVersion = TrailRefused 4
+trail_failure (trail.BadDelay x) = TrailRefused 5
+trail_failure trail.NoMemory = Stopped Memory
+
+-- and where its file is not opened: somebody else has it, or the disk failed; else it is no database
+abbrev pub code_failure : ErrorCode → Failure
+code_failure code.OutOfMemory = Stopped Memory
+code_failure code.DatabaseBusy = Served serve.Trail
+code_failure code.SystemIoFailure = Served serve.Trail
+code_failure code.DiskFull = Served serve.Trail
+code_failure code.Closed = Served serve.Trail
+code_failure _ = TrailRefused 1
+
+abbrev pub open_failure : Error → Failure
+open_failure (SqliteFailure c) = code_failure c
+open_failure _ = TrailRefused 1

@@ -4,3 +4,7 @@ pub mod Failures
 pub mod Check
 -- what is told as a served venue closes
 pub mod Serve
+-- the same of one with a trail
+pub mod Recorded
+-- how the file of a trail begins
+pub mod TrailFile

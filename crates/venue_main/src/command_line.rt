@@ -14,11 +14,20 @@ use std::{env, io};
 #[derive(Drop)]
 pub enum Task {
     /// `once --participants FILE --instruments FILE --at TIME`
-    Once { paths: Paths, at: Moment },
-    /// `serve --participants FILE --instruments FILE --port P --turns N`
-    Serve { paths: Paths, service: Service },
+    Once {
+        paths: Paths,
+        at: Moment,
+    },
+    /// `serve --participants FILE --instruments FILE --port P --turns N`, and perhaps `--trail FILE`
+    Serve {
+        paths: Paths,
+        service: Service,
+        trail: Option<String>,
+    },
     /// `check --participants FILE --instruments FILE`
-    Check { paths: Paths },
+    Check {
+        paths: Paths,
+    },
     /// `--help`: the text was printed.
     Help,
 }
@@ -85,12 +94,17 @@ fn command_of_serve<'a>(alloc: Global) -> Result<Command<'a>, AllocError> {
         "N",
         "How many turns each thread makes, from 1 to 1000000000",
     );
+    let trail = Arg::new(alloc, "trail")
+        .long("trail")
+        .value_name("FILE")
+        .help("The file that keeps the rows, where they are to be kept")
+        .action(ArgAction::Set);
     let serve = command_on_files(
         alloc,
         "serve",
         "Serves each participant over TCP, at 127.0.0.1",
     )?;
-    serve.arg(port)?.arg(turns)
+    serve.arg(port)?.arg(turns)?.arg(trail)
 }
 
 /// The program's own command, with `once`, `serve` and `check`.
@@ -146,7 +160,19 @@ fn serve_in(alloc: Global, given: &ArgMatches<'_>) -> Result<Option<Task>, Error
     let Some(paths) = paths_in(alloc, given)? else {
         return Ok(None);
     };
-    Ok(Some(Task::Serve { paths, service }))
+    let trail = trail_in(alloc, given)?;
+    Ok(Some(Task::Serve {
+        paths,
+        service,
+        trail,
+    }))
+}
+
+fn trail_in(alloc: Global, given: &ArgMatches<'_>) -> Result<Option<String>, AllocError> {
+    match given.get_str("trail") {
+        Some(path) => Ok(Some(String::from_str(alloc, path)?)),
+        None => Ok(None),
+    }
 }
 
 fn service_in(given: &ArgMatches<'_>) -> Option<Service> {

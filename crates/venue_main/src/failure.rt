@@ -1,14 +1,16 @@
 //! How the program ends where it does not end well.
 
 ghost use Rattle.std.specs.Prelude.{◌≡◌};
-ghost use Rattle.venue_main.specs.Failures.{check_failure, files_failure, instruments_failure, participants_failure, status_of};
+ghost use Rattle.venue_main.specs.Failures.{check_failure, code_failure, files_failure, instruments_failure, open_failure, participants_failure, status_of, trail_failure};
 ghost use Rattle.venue_main.specs.declared.failure.Failure.TheVariants.{Served as ServesNot, Stopped as Stops};
 
 use crate::check::CheckFault;
 use crate::market::FilesFault;
 use crate::once::OnceFault;
 use crate::serve::ServeFault;
+use sqlite::{Error as StoreError, ErrorCode};
 use thiserror::Error;
+use venue_rules::TrailFault;
 
 /// Why the program ends with a status other than 0. Its text goes to standard error.
 #[derive(Debug, Drop, Error)]
@@ -28,6 +30,9 @@ pub enum Failure {
     /// Status 3: the number of the instrument file's fault.
     #[error("instruments refused {0}")]
     Instruments(u8),
+    /// Status 3: the number of the trail's fault.
+    #[error("trail refused {0}")]
+    Trail(u8),
 }
 
 impl Failure {
@@ -41,6 +46,7 @@ impl Failure {
             Failure::CommandLine => 2,
             Failure::Participants(_) => 3,
             Failure::Instruments(_) => 3,
+            Failure::Trail(_) => 3,
         }
     }
 }
@@ -115,6 +121,47 @@ impl From<CheckFault> for Failure {
             CheckFault::Participants(fault) => Failure::from(fault),
             CheckFault::Instruments(fault) => Failure::from(fault),
             CheckFault::Output => Failure::Stopped(OnceFault::Output),
+        }
+    }
+}
+
+impl From<TrailFault> for Failure {
+    ghost from_gives = { λ fault failure. failure ≡ trail_failure fault };
+
+    fn from(fault: TrailFault) -> Failure {
+        match fault {
+            TrailFault::Refused => Failure::Trail(1),
+            TrailFault::OtherFiles => Failure::Trail(2),
+            TrailFault::BadRow(_) => Failure::Trail(3),
+            TrailFault::OtherVersion => Failure::Trail(4),
+            TrailFault::BadDelay(_) => Failure::Trail(5),
+            TrailFault::NoMemory => Failure::Stopped(OnceFault::Memory),
+        }
+    }
+}
+
+impl From<StoreError> for Failure {
+    ghost from_gives = { λ error failure. failure ≡ open_failure error };
+
+    fn from(error: StoreError) -> Failure {
+        match error {
+            StoreError::SqliteFailure(code) => Failure::from(code),
+            _ => Failure::Trail(1),
+        }
+    }
+}
+
+impl From<ErrorCode> for Failure {
+    ghost from_gives = { λ code failure. failure ≡ code_failure code };
+
+    fn from(code: ErrorCode) -> Failure {
+        match code {
+            ErrorCode::OutOfMemory => Failure::Stopped(OnceFault::Memory),
+            ErrorCode::DatabaseBusy => Failure::Served(ServeFault::Trail),
+            ErrorCode::SystemIoFailure => Failure::Served(ServeFault::Trail),
+            ErrorCode::DiskFull => Failure::Served(ServeFault::Trail),
+            ErrorCode::Closed => Failure::Served(ServeFault::Trail),
+            _ => Failure::Trail(1),
         }
     }
 }

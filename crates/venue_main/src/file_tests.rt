@@ -6,8 +6,10 @@ use crate::files::text_of;
 use crate::market::{FilesFault, Market};
 use crate::once::OnceFault;
 use crate::tests::Full;
+use sqlite::ErrorCode;
 use std::alloc::{AllocError, Global};
 use std::test::Fail;
+use venue_rules::TrailFault;
 
 const FIVE: &str = "venue = \"SEF\"
 participant = [{ name = \"ALPHA\" }, { name = \"BETA\" }, { name = \"GAMMA\" }, { name = \"DELTA\" }, { name = \"EPSILON\" }]
@@ -182,6 +184,9 @@ fn the_program_ends_by_its_failure(rt: HostRuntime) -> Result<(), Fail> {
         (Failure::from(memory), 1, "stopped: memory"),
         (Failure::from(CheckFault::Output), 1, "stopped: output"),
         (Failure::from(OnceFault::Input), 1, "stopped: input"),
+        (Failure::from(TrailFault::BadRow(2)), 3, "trail refused 3"),
+        (Failure::from(TrailFault::NoMemory), 1, "stopped: memory"),
+        (Failure::from(ErrorCode::DatabaseBusy), 1, "stopped: trail"),
         (Failure::CommandLine, 2, "command line refused"),
     ];
     for (failure, status, line) in failures {

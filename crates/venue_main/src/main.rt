@@ -1,26 +1,31 @@
 //! The program of the venue.
 #![tactic(auto)]
 
+mod asked;
 mod check;
 mod command_line;
 mod failure;
 mod files;
 mod market;
 mod once;
+mod recording;
 mod serve;
 mod service;
 mod serving;
+mod trail_file;
 
+use asked::{Asked, Kept, asked_for};
 pub use check::{CheckFault, check};
 use command_line::{Task, task_given};
-use failure::Failure;
+pub use failure::Failure;
 use files::{Texts, texts_at};
 pub use market::{FilesFault, Market};
 pub use once::{OnceFault, once};
+pub use recording::serve_recorded;
 use sef_moment::Moment;
 pub use serve::{ServeFault, serve, tell_closed};
-use service::Service;
 use std::process::ExitCode;
+use trail_file::close_trail;
 
 fn run_once(rt: &HostRuntime, texts: &Texts, at: Moment) -> Result<(), Failure> {
     let market = Market::read(rt.alloc(), &texts.participants, &texts.instruments)?;
@@ -45,25 +50,18 @@ fn run_check(rt: &HostRuntime, texts: &Texts) -> Result<(), Failure> {
     Ok(())
 }
 
-/// A market, and where it is to be served.
-#[derive(Drop)]
-struct Asked {
-    market: Market,
-    service: Service,
-}
-
-fn asked_for(rt: &HostRuntime, texts: &Texts, service: Service) -> Result<Asked, Failure> {
-    let market = Market::read(rt.alloc(), &texts.participants, &texts.instruments)?;
-    Ok(Asked { market, service })
-}
-
 /// Does what the command line asks for. What is to be served is handed back, since `main` alone may start threads.
 fn run(rt: &HostRuntime) -> Result<Option<Asked>, Failure> {
     match task_given(rt)? {
         Task::Once { paths, at } => run_once(rt, &texts_at(rt, &paths)?, at)?,
         Task::Check { paths } => run_check(rt, &texts_at(rt, &paths)?)?,
-        Task::Serve { paths, service } => {
-            return Ok(Some(asked_for(rt, &texts_at(rt, &paths)?, service)?));
+        Task::Serve {
+            paths,
+            service,
+            trail,
+        } => {
+            let asked = asked_for(rt, texts_at(rt, &paths)?, service, trail)?;
+            return Ok(Some(asked));
         }
         Task::Help => {}
     }
@@ -72,15 +70,36 @@ fn run(rt: &HostRuntime) -> Result<Option<Asked>, Failure> {
 
 fn main(rt: HostRuntime) -> ExitCode {
     let ended = match run(&rt) {
-        Ok(Some(asked)) => serve(
-            &rt,
-            rt.alloc(),
-            asked.market,
-            asked.service,
-            &mut rt.stderr(),
-            &mut rt.stdout(),
-        )
-        .map_err(Failure::from),
+        Ok(
+            Some(
+                Asked {
+                    market,
+                    service,
+                    kept,
+                },
+            ),
+        ) => match kept {
+            Some(Kept { conn, files }) => serve_recorded(
+                &rt,
+                rt.alloc(),
+                conn,
+                &files,
+                market,
+                service,
+                &mut rt.stderr(),
+                &mut rt.stdout(),
+            )
+            .and_then(close_trail),
+            None => serve(
+                &rt,
+                rt.alloc(),
+                market,
+                service,
+                &mut rt.stderr(),
+                &mut rt.stdout(),
+            )
+            .map_err(Failure::from),
+        },
         Ok(None) => Ok(()),
         Err(failure) => Err(failure),
     };

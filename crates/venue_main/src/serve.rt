@@ -11,11 +11,12 @@ ghost use Rattle.venue_main.specs.declared.serve.ServeFault.TheVariants.{Memory,
 
 use crate::market::Market;
 use crate::service::Service;
-use crate::serving::{close_lines, serve_over};
+use crate::serving::{keeper_of, serve_over};
 use gateway::closing::Closed;
 use gateway::threads::RunFault;
 use std::alloc::{AllocError, Global};
 use std::io::{self, Write};
+use std::mem::drop;
 use std::net::{Net, TcpListener, TcpStream};
 use std::sync::Wait;
 use std::thread::Threads;
@@ -94,7 +95,7 @@ pub fn serve<
 {
     let closed = serve_in_memory(rt, alloc, *rt, market, service, notes)?;
     let told = tell_closed(&closed, output);
-    close_lines(closed.lines);
+    drop(keeper_of(closed));
     match told {
         Ok(()) => Ok(()),
         Err(_) => Err(ServeFault::Output),
@@ -134,14 +135,18 @@ pub fn tell_closed<L: Drop, W: Write>(
 }
 
 /// How many of these rows are messages; the others are ticks.
-fn messages_in(rows: &[TrailRow]) -> usize
+pub(crate) fn messages_in(rows: &[TrailRow]) -> usize
     ensures { result ≡ count_by is_message rows.now }
 {
     rows.iter().filter(|row| row.who != 0).count()
 }
 
 /// Writes these counts as one line.
-fn write_counts<W: Write>(sessions: usize, taken: usize, output: &mut W) -> io::Result<()>
+pub(crate) fn write_counts<W: Write>(
+    sessions: usize,
+    taken: usize,
+    output: &mut W,
+) -> io::Result<()>
     ensures { OnOk result (Appends (W.contents output.old) (W.contents output.new) (counted sessions taken)) }
 {
     writeln!(output, "closed sessions {sessions} taken {taken}")?;

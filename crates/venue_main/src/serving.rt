@@ -17,6 +17,7 @@ use participants::{Participants, Who};
 use run_venue::run_venue;
 use std::alloc::Global;
 use std::io::{self, ErrorKind, Write};
+use std::mem::drop;
 use std::net::{Net, TcpListener, TcpStream};
 use std::sync::Wait;
 use std::thread::Threads;
@@ -51,7 +52,11 @@ pub(crate) fn serve_over<
     let port = service.port();
     let opened = match open_lines(rt, alloc, clock, port, count) {
         Ok(opened) => opened,
-        Err(error) => return Err(fault_of(error.kind())),
+        Err(error) => {
+            // (A venue is given up by a call here and below: a proof tells all that its drop does at each place where it is dropped otherwise.)
+            drop(venue);
+            return Err(fault_of(error.kind()));
+        }
     };
     let Opened { sessions, worker } = opened;
     // Where nobody can be told the venue is served all the same.
@@ -108,8 +113,26 @@ fn run_lines<R: Threads + Wait + Sync, T: Clock + Send + Drop, K: Keep + Drop>(
     Ok(closed)
 }
 
+/// Gives each counterparty what still waits for it, and of what is closed keeps the keeper of the rows alone.
+pub(crate) fn keeper_of<T: Clock + Drop, K: Keep + Drop>(closed: Closed<TcpLine<T>, K>) -> K
+    ensures { result ≡ closed.keeper }
+{
+    let Closed {
+        sessions: _,
+        lines,
+        left: _,
+        replies_left: _,
+        queues: _,
+        venue,
+        keeper,
+    } = closed;
+    close_lines(lines);
+    drop(venue);
+    keeper
+}
+
 /// Gives each counterparty what still waits for it, where it takes that.
-pub(crate) fn close_lines<T: Clock + Drop>(lines: Vec<TcpLine<T>>) {
+fn close_lines<T: Clock + Drop>(lines: Vec<TcpLine<T>>) {
     for mut line in lines {
         let _ = line.close();
     }

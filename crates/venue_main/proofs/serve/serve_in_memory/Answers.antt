@@ -1,5 +1,4 @@
-use Rattle.std.proofs.Common.{ap, [], List, ℕ, ◌≤◌, length, arith}
-use Rattle.venue_rules.specs.declared.trail.TrailRow.{TrailRow}
+use Rattle.std.proofs.Common.{ap, [], arith}
 use Rattle.venue_world.specs.ListRows.{ListedRows}
 use Rattle.venue_main.proofs.serve.serve_in_memory.Goals as goal
 

@@ -1,0 +1,52 @@
+-- What a venue with a trail leaves, and what it tells as it closes.
+use Rattle.std.specs.Prelude.{◌≡◌, ◌⊎◌, ℕ, List, length, Option, IsTrue, ⊤}
+use Rattle.std.specs.Io.KnownBytes.{Appends}
+use Rattle.sqlite_trees.specs.declared.store.Store.{Ghosts}
+use Rattle.sqlite.specs.State.{State, HasCleanDisk}
+use Rattle.audit_trail.specs.Trail.{shown_rows}
+use Rattle.audit_trail.specs.declared.files.Files.{Files}
+use Rattle.trail_keeper.specs.Journal.{Began, Recording}
+use Rattle.run_venue.specs.Closing.{Closing}
+use Rattle.venue_rules.specs.Market.{Market}
+use Rattle.venue_rules.specs.declared.trail.TrailFault.{TrailFault}
+use Rattle.venue_rules.specs.declared.trail.TrailFault.TheVariants.{Refused}
+use Rattle.venue_main.specs.Failures.{trail_failure}
+use Rattle.venue_main.specs.Serve.{HasServed, UnlessWriting, closing_line}
+use Rattle.venue_main.specs.declared.failure.Failure.{Failure}
+use Rattle.venue_main.specs.declared.failure.Failure.TheVariants.{Stopped, Served, CommandLine, Participants, Instruments, Trail as TrailRefused}
+use Rattle.venue_main.specs.declared.serve.ServeFault.TheVariants.{Trail}
+
+-- A journal began with what was found in the database as a trail of these files; a venue of this market ran from its rows, and was
+-- closed, with a session for each participant. Where the disk returned what was written, the database shows the rows of what was closed,
+-- and what was written is the one line that tells how many sessions it had and how many of these rows are messages.
+pub record HasRecorded {S : Type 0} (g : Ghosts S) (turns : ℕ) (m : Market) (files : Files) (old new : State) (before after : Option (List ℕ)) : Type 0 where
+  pub start : Recording S
+  pub began : Began g files old start
+  pub closed : Closing
+  pub served : HasServed turns m start.rows closed
+  pub sessions : length closed.sessions ≡ length m.participants.names
+  pub is_open : HasCleanDisk new → IsTrue new.is_open
+  pub shows : HasCleanDisk new → shown_rows new ≡ closed.rows
+  pub written : HasCleanDisk new → Appends before after (closing_line (length m.participants.names) closed.rows)
+
+-- the fact, unless the closing line was not written
+abbrev pub UnlessTelling : Failure → Type 0 → Type 0
+UnlessTelling (Stopped fault) fact = fact
+UnlessTelling (Served fault) fact = UnlessWriting fault fact
+UnlessTelling CommandLine fact = fact
+UnlessTelling (Participants number) fact = fact
+UnlessTelling (Instruments number) fact = fact
+UnlessTelling (TrailRefused number) fact = fact
+
+-- A trail with this fault ends the program so: as its number says, or, where the store refused it, as a trail whose disk failed.
+abbrev pub IsRefusalOf : TrailFault → Failure → Type 0
+IsRefusalOf fault failure = (failure ≡ trail_failure fault) ⊎ ((fault ≡ Refused) × (failure ≡ Served Trail))
+
+-- the number of a refusal is that of a fault of a trail, and no word and no file is at fault
+abbrev pub IsRecordingFailure : Failure → Type 0
+IsRecordingFailure (Stopped fault) = ⊤
+IsRecordingFailure (Served fault) = ⊤
+IsRecordingFailure CommandLine = ⊥
+IsRecordingFailure (Participants number) = ⊥
+IsRecordingFailure (Instruments number) = ⊥
+IsRecordingFailure (TrailRefused number) = (fault : TrailFault) × (trail_failure fault ≡ TrailRefused number)

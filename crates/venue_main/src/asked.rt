@@ -1,0 +1,61 @@
+//! What is to be served.
+
+ghost use Rattle.std.specs.Prelude.{◌≡◌, IfOk, IfSome};
+ghost use Rattle.venue_main.specs.Check.{AreRead};
+
+use crate::failure::Failure;
+use crate::files::Texts;
+use crate::market::Market;
+use crate::service::Service;
+use crate::trail_file::open_trail;
+use audit_trail::{FileText, Files};
+use sqlite::{Connection, File, FileStore};
+
+/// A market that is to be served.
+#[derive(Drop)]
+pub struct Asked {
+    pub market: Market,
+    pub service: Service,
+    pub kept: Option<Kept>,
+}
+
+/// Where the rows of a venue are to be kept, and the files that are kept beside them.
+#[derive(Drop)]
+pub struct Kept {
+    pub conn: Connection<FileStore<File>>,
+    pub files: Files,
+}
+
+/// The market that two files describe, and, where its rows are to be kept at a path, the database there with these files.
+pub fn asked_for(
+    rt: &HostRuntime,
+    texts: Texts,
+    service: Service,
+    trail: Option<String>,
+) -> Result<Asked, Failure>
+    ensures read { IfOk result (λ asked. AreRead texts.participants.items texts.instruments.items asked.market.participants asked.market.instruments) }
+    ensures files { IfOk result (λ asked. IfSome asked.kept (λ kept. kept.files ≡ record { participants = texts.participants.items; instruments = texts.instruments.items })) }
+    ensures service { IfOk result (λ asked. asked.service ≡ service) }
+{
+    let market = Market::read(rt.alloc(), &texts.participants, &texts.instruments)?;
+    let kept = match trail {
+        Some(path) => Some(kept_at(rt, &path, texts)?),
+        None => None,
+    };
+    Ok(Asked {
+        market,
+        service,
+        kept,
+    })
+}
+
+fn kept_at(rt: &HostRuntime, path: &str, texts: Texts) -> Result<Kept, Failure>
+    ensures { IfOk result (λ kept. kept.files ≡ record { participants = texts.participants.items; instruments = texts.instruments.items }) }
+{
+    let conn = open_trail(rt, path)?;
+    let files = Files {
+        participants: FileText::from_vec(texts.participants),
+        instruments: FileText::from_vec(texts.instruments),
+    };
+    Ok(Kept { conn, files })
+}

@@ -1,0 +1,158 @@
+//! A venue that is served over TCP, with its rows in a trail.
+
+ghost use Rattle.std.specs.Prelude.{◌≡◌, ◌≢◌, IfErr, IfOk, OnOk, map, true};
+ghost use Rattle.std.specs.Io.KnownBytes.{Appends, Keeps};
+ghost use Rattle.sqlite.specs.Held.{state};
+ghost use Rattle.sqlite.specs.State.{HasCleanDisk};
+ghost use Rattle.trail_keeper.specs.Journal.{Began, ShowsAll, disk};
+ghost use Rattle.trail_keeper.specs.Written.{LeadsTo};
+ghost use Rattle.run_venue.specs.Closing.{closing};
+ghost use Rattle.venue_core.specs.State.{standing};
+ghost use Rattle.venue_main.specs.Recorded.{HasRecorded, IsRecordingFailure, IsRefusalOf, UnlessTelling};
+ghost use Rattle.venue_main.specs.Serve.{HasServed, UnlessWriting, closing_line};
+ghost use Rattle.venue_main.specs.declared.failure.Failure.TheVariants.{Served};
+ghost use Rattle.venue_main.specs.declared.serve.ServeFault.TheVariants.{Output};
+
+use crate::failure::Failure;
+use crate::market::Market;
+use crate::serve::{ServeFault, messages_in, write_counts};
+use crate::service::Service;
+use crate::serving::{keeper_of, serve_over};
+use audit_trail::Files;
+use gateway::closing::Closed;
+use sqlite::{Alter, Connection};
+use sqlite_trees::store::Store;
+use std::alloc::Global;
+use std::io::Write;
+use std::mem::drop;
+use std::net::{Net, TcpListener, TcpStream};
+use std::sync::Wait;
+use std::thread::Threads;
+use std::time::Clock;
+use tcp_line::TcpLine;
+use trail_keeper::{Journal, start_trail};
+use venue_core::Venue;
+use venue_rules::TrailFault;
+
+/// As `serve`, with the rows in a trail: it begins where the rows lead that the database keeps as a trail of these files, or makes an
+/// empty trail where it lists nothing. Each row is committed before the venue acts on it. As the venue closes the rows are read back,
+/// and the closing line tells of all of them. The connection comes back. What the files tell, the market, is the caller's matter.
+pub fn serve_recorded<
+    R: Net<Listener = TcpListener, Stream = TcpStream>
+        + Threads
+        + Wait
+        + Send
+        + Sync
+        + Clock
+        + Copy
+        + Drop,
+    S: Alter + Drop,
+    N: Write,
+    W: Write,
+>(
+    rt: &R,
+    alloc: Global,
+    conn: Connection<S>,
+    files: &Files,
+    market: Market,
+    service: Service,
+    notes: &mut N,
+    output: &mut W,
+) -> Result<Connection<S>, Failure>
+    ensures told { IfOk result (λ back. HasRecorded S.Store service.turns (record { participants = market.participants; instruments = market.instruments }) files.now (state S.Store conn) (state S.Store back) (W.contents output.old) (W.contents output.new)) }
+    ensures silent { IfErr result (λ failure. UnlessTelling failure (Keeps (W.contents output.old) (W.contents output.new))) }
+    ensures fault { IfErr result IsRecordingFailure }
+{
+    let (journal, venue) = begin(alloc, conn, files, market)?;
+    let closed = match serve_journal(rt, alloc, *rt, journal, venue, service, notes) {
+        Ok(closed) => closed,
+        Err(fault) => return Err(Failure::Served(fault)),
+    };
+    let sessions = closed.sessions.len();
+    let mut journal = keeper_of(closed);
+    match tell_read(sessions, &mut journal, output) {
+        Ok(()) => Ok(journal.into_connection()),
+        Err(fault) => {
+            drop(journal);
+            Err(Failure::Served(fault))
+        }
+    }
+}
+
+/// The journal of the trail that a database keeps, and the venue where its rows lead.
+fn begin<S: Alter + Drop>(
+    alloc: Global,
+    conn: Connection<S>,
+    files: &Files,
+    market: Market,
+) -> Result<(Journal<S>, Venue), Failure>
+    ensures market { IfOk result (λ r. r.1.market ≡ record { participants = market.participants; instruments = market.instruments }) }
+    ensures leads { IfOk result (λ r. LeadsTo r.0.rows r.1) }
+    ensures began { IfOk result (λ r. Began S.Store files.now (state S.Store conn) r.0) }
+    ensures fault { IfErr result IsRecordingFailure }
+    ensures silent { IfErr result (λ failure. failure ≢ Served Output) }
+{
+    match start_trail(alloc, conn, files, market.participants, market.instruments) {
+        Ok(begun) => Ok(begun),
+        Err((fault, conn)) => Err(refusal_of(fault, conn)),
+    }
+}
+
+/// What a trail's fault comes to. Where its store refused, this is closed if the disk failed; else it is for what the database has.
+fn refusal_of<S: Alter + Drop>(fault: TrailFault, conn: Connection<S>) -> Failure
+    ensures { IsRefusalOf fault result }
+{
+    match fault {
+        TrailFault::Refused => {
+            if conn.into_store().is_broken() {
+                return Failure::Served(ServeFault::Trail);
+            }
+            Failure::from(TrailFault::Refused)
+        }
+        fault => Failure::from(fault),
+    }
+}
+
+/// Serves a venue that stands where the rows of a journal lead.
+fn serve_journal<
+    R: Net<Listener = TcpListener, Stream = TcpStream> + Threads + Wait + Sync,
+    T: Clock + Copy + Send + Drop,
+    S: Alter + Drop,
+    N: Write,
+>(
+    rt: &R,
+    alloc: Global,
+    clock: T,
+    journal: Journal<S>,
+    venue: Venue,
+    service: Service,
+    notes: &mut N,
+) -> Result<Closed<TcpLine<T>, Journal<S>>, ServeFault>
+    requires leads { LeadsTo journal.rows venue }
+    ensures served { IfOk result (λ c. HasServed service.turns venue.market journal.rows (closing (map (λ s. s.state) c.sessions.items) (map (λ l. l.account) c.lines.items) c.left.items c.replies_left.items c.queues.items (standing c.venue.day) c.keeper.rows true)) }
+    ensures fault { IfErr result (λ fault. fault ≢ Output) }
+{
+    serve_over(rt, alloc, clock, venue, journal, service, notes)
+}
+
+/// Reads the rows back, and tells how many sessions were served and how many of the rows are messages.
+fn tell_read<S: Alter + Drop, W: Write>(
+    sessions: usize,
+    journal: &mut Journal<S>,
+    output: &mut W,
+) -> Result<(), ServeFault>
+    ensures told { HasCleanDisk (disk S.Store journal.new) → OnOk result (Appends (W.contents output.old) (W.contents output.new) (closing_line sessions journal.old.rows)) }
+    ensures shown { HasCleanDisk (disk S.Store journal.new) → OnOk result (ShowsAll S.Store journal.new) }
+    ensures same { journal.new.rows ≡ journal.old.rows }
+    ensures silent { IfErr result (λ fault. UnlessWriting fault (Keeps (W.contents output.old) (W.contents output.new))) }
+{
+    let rows = match journal.rows() {
+        Ok(rows) => rows,
+        Err(TrailFault::NoMemory) => return Err(ServeFault::Memory),
+        Err(_) => return Err(ServeFault::Trail),
+    };
+    match write_counts(sessions, messages_in(rows.as_slice()), output) {
+        Ok(()) => Ok(()),
+        Err(_) => Err(ServeFault::Output),
+    }
+}

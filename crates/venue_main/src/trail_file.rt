@@ -1,0 +1,89 @@
+//! The file of a trail.
+
+ghost use Rattle.std.specs.Prelude.{◌≡◌, ◌⊎◌, IfErr, IfOk, IfSome, IsTrue, take};
+ghost use Rattle.answer_stream.specs.declared.fault.OnceFault.TheVariants.{Memory};
+ghost use Rattle.venue_main.specs.TrailFile.{MayBegin};
+ghost use Rattle.venue_main.specs.declared.failure.Failure.TheVariants.{Served, Stopped};
+ghost use Rattle.venue_main.specs.declared.serve.ServeFault.TheVariants.{Trail};
+
+use crate::failure::Failure;
+use crate::once::OnceFault;
+use crate::serve::ServeFault;
+use sqlite::{Connection, Error as StoreError, ErrorCode, File, FileStore};
+use std::alloc::Global;
+use std::fs;
+use std::io::{self, ErrorKind, Read};
+
+/// What an SQLite database begins with, and a byte 0.
+const BEGINNING: &[u8] = b"SQLite format 3\0";
+
+/// Opens the file at a path as a database, or makes one where there is none. The file is looked at first, so that none that is no
+/// database is touched.
+pub fn open_trail(rt: &HostRuntime, path: &str) -> Result<Connection<FileStore<File>>, Failure> {
+    look_at(rt, path)?;
+    match Connection::open(rt, path) {
+        Ok(conn) => Ok(conn),
+        Err(error) => Err(Failure::from(error)),
+    }
+}
+
+/// Closes the database of a trail: its log is copied into the file, which then has all rows. A trail that was served is not refused
+/// here: where the log is not copied the disk failed.
+pub fn close_trail(conn: Connection<FileStore<File>>) -> Result<(), Failure>
+    ensures { IfErr result (λ failure. (failure ≡ Stopped Memory) ⊎ (failure ≡ Served Trail)) }
+{
+    match conn.close() {
+        Ok(()) => Ok(()),
+        Err(StoreError::SqliteFailure(ErrorCode::OutOfMemory)) => Err(Failure::Stopped(
+            OnceFault::Memory,
+        )),
+        Err(_) => Err(Failure::Served(ServeFault::Trail)),
+    }
+}
+
+/// Refuses a file whose bytes are none of a database: opened as one it could be made into one.
+/// `Input` where the file is there and cannot be read.
+fn look_at(rt: &HostRuntime, path: &str) -> Result<(), Failure> {
+    match fs::open(rt, path) {
+        Ok(file) => look_into(rt.alloc(), file),
+        Err(error) => match error.kind() {
+            ErrorKind::NotFound => Ok(()),
+            kind => Err(failure_of(kind)),
+        },
+    }
+}
+
+fn look_into<R: Read + Drop>(alloc: Global, file: R) -> Result<(), Failure> {
+    match may_be_database(alloc, file) {
+        Ok(true) => Ok(()),
+        Ok(false) => Err(Failure::Trail(1)),
+        Err(error) => Err(failure_of(error.kind())),
+    }
+}
+
+/// Whether bytes may be those of a database: none; those of one that was not made to its end, which begins with a byte 0, and of which
+/// the store knows more; or as an SQLite database begins.
+pub fn may_be_database<R: Read + Drop>(alloc: Global, reader: R) -> io::Result<bool>
+    ensures { IfOk result (λ may. IfSome (R.remaining reader) (λ bytes. IsTrue may → MayBegin (take 16 bytes))) }
+{
+    let mut first = Vec::new(alloc);
+    reader.take(16).read_to_end(&mut first)?;
+    Ok(is_beginning(first.as_slice()))
+}
+
+fn is_beginning(first: &[u8]) -> bool
+    ensures { IsTrue result → MayBegin first.now }
+{
+    match first.first() {
+        None => true,
+        Some(0) => true,
+        Some(_) => first == BEGINNING,
+    }
+}
+
+fn failure_of(kind: ErrorKind) -> Failure {
+    match kind {
+        ErrorKind::OutOfMemory => Failure::Stopped(OnceFault::Memory),
+        _ => Failure::Stopped(OnceFault::Input),
+    }
+}
