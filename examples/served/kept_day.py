@@ -3,7 +3,7 @@
 
 usage: kept_day.py PORT VENUE_MAIN [SEF_REPLAY]
 
-PORT and the next 24 are taken in turn. VENUE_MAIN and SEF_REPLAY are the programs; without the second what it tells is not looked at.
+PORT and the next 29 are taken in turn. VENUE_MAIN and SEF_REPLAY are the programs; without the second what it tells is not looked at.
 
 1. Two desks trade on a venue with a trail, as two_desks.py has them. While it runs a second venue over the same file and sef_replay are
    told that the trail is held, and a copy of the file and its log tells the trade. The venue closes.
