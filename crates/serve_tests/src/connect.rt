@@ -1,0 +1,136 @@
+//! A counterparty's line over TCP.
+ghost use Rattle.std.specs.Prelude.{◌≡◌, []};
+ghost use Rattle.gateway.specs.Said.{IsWithin};
+
+use crate::signal::Signal;
+use crate::watched::{given_of, has_report, past_of};
+use gateway::line::{Accept, Line, LineFault, Read};
+use gateway::mem_line::Spoken;
+use gateway::piece::PIECE;
+use std::alloc::Global;
+use std::io;
+use std::net::{Net, TcpListener, TcpStream};
+use std::sync::Wait;
+use std::time::Clock;
+use tcp_line::{Account, Connection};
+
+/// A line that calls at a port of 127.0.0.1, once a signal was given, and tells that it read a report.
+#[derive(Drop)]
+pub struct ConnectLine<'a, N> {
+    rt: N,
+    alloc: Global,
+    port: u16,
+    connection: Option<Connection<TcpStream, TcpStream>>,
+    opens: &'a Signal,
+    reported: &'a Signal,
+    account: Account,
+}
+
+impl<'a, N: Net<Listener = TcpListener, Stream = TcpStream> + Clock + Drop> ConnectLine<'a, N> {
+    pub fn new(
+        rt: N,
+        alloc: Global,
+        port: u16,
+        opens: &'a Signal,
+        reported: &'a Signal,
+    ) -> ConnectLine<'a, N>
+        ensures { ⟦<ConnectLine<'a, N> as Line>⟧.said result ≡ [] }
+    {
+        ConnectLine {
+            rt,
+            alloc,
+            port,
+            connection: None,
+            opens,
+            reported,
+            account: Account::new(),
+        }
+    }
+
+    fn connect(&self) -> io::Result<Connection<TcpStream, TcpStream>> {
+        let stream = TcpStream::connect(&self.rt, ("127.0.0.1", self.port))?;
+        stream.set_nodelay(true)?;
+        stream.set_nonblocking(true)?;
+        let output = stream.try_clone()?;
+        Ok(Connection::new(self.alloc, stream, output))
+    }
+
+    fn next_connection(&mut self) -> Accept
+        ensures { self.new.account ≡ self.old.account }
+    {
+        self.connection = None;
+        if !self.opens.is_given() {
+            return Accept::Quiet;
+        }
+        match self.connect() {
+            Ok(connection) => {
+                self.connection = Some(connection);
+                Accept::Up
+            }
+            Err(_) => Accept::Fault,
+        }
+    }
+
+    fn hear(&mut self, buffer: &mut [u8; PIECE]) -> Read
+        ensures within { IsWithin result }
+        ensures same { self.new.account ≡ self.old.account }
+    {
+        match &mut self.connection {
+            None => Read::Fault,
+            Some(connection) => connection.read(buffer),
+        }
+    }
+
+    fn give(&mut self, bytes: &[u8]) -> Result<(), LineFault>
+        ensures { self.new.account ≡ self.old.account }
+    {
+        match &mut self.connection {
+            None => Err(LineFault),
+            Some(connection) => {
+                connection.write(&self.rt, bytes)?;
+                connection.flush(&self.rt)
+            }
+        }
+    }
+}
+
+impl<'a, N: Net<Listener = TcpListener, Stream = TcpStream> + Clock + Drop> Line
+    for ConnectLine<'a, N> {
+    ghost said = { λ l. l.account };
+
+    fn accept<R: Wait>(&mut self, _rt: &R) -> Accept {
+        let answer = self.next_connection();
+        self.account.note(Spoken::Accepted { answer });
+        answer
+    }
+
+    fn read<R: Wait>(&mut self, _rt: &R, buffer: &mut [u8; PIECE]) -> Read {
+        let answer = self.hear(buffer);
+        if let Read::Got { count } = answer {
+            if has_report(&buffer[..count]) {
+                self.reported.give();
+            }
+        }
+        let given = given_of(answer, buffer);
+        self.account.note(Spoken::Gave { given });
+        answer
+    }
+
+    fn write<R: Wait>(&mut self, _rt: &R, bytes: &[u8]) -> Result<(), LineFault> {
+        let past = past_of(bytes);
+        match self.give(bytes) {
+            Ok(()) => {
+                self.account.note(Spoken::Took { bytes: past });
+                Ok(())
+            }
+            Err(fault) => {
+                self.account.note(Spoken::BrokeOff { bytes: past });
+                Err(fault)
+            }
+        }
+    }
+
+    fn faults(&self) -> u64 {
+        self.account.faults()
+    }
+}
