@@ -27,7 +27,9 @@ fn print_kept<S: Alter, W: Write>(
     ensures crash { Survives (store S.Store trail.old) (store S.Store trail.new) (λ _. ⊥) }
 {
     let venue = venue_kept(alloc, trail)?;
-    match print_trades(alloc, &venue, writer) {
+    let printed = print_trades(alloc, &venue, writer);
+    drop(venue);
+    match printed {
         Ok(()) => Ok(()),
         Err(PrintFault::Memory) => Err(Stop::Memory),
         Err(PrintFault::Output) => Err(Stop::Output),
