@@ -1,5 +1,6 @@
 // What a desk would build from stock parts: QuickFIX's engine (FIXT 1.1, FIX 5.0 SP2), a session and a port for each participant, and
-// a book of prices to orders by entry. quickfix_venue SETTINGS says "ready" once it listens.
+// a book of prices to orders by entry. quickfix_venue SETTINGS [TRAIL] says "ready" once it listens. With TRAIL, where it was compiled
+// with WITH_SQLITE, each message is a row of that SQLite file (WAL, synchronous FULL, a transaction each) before it is answered.
 #include <quickfix/Application.h>
 #include <quickfix/MessageStore.h>
 #include <quickfix/Session.h>
@@ -11,15 +12,53 @@
 #include <quickfix/fix50sp2/OrderCancelReject.h>
 #include <quickfix/fix50sp2/OrderCancelRequest.h>
 
+#ifdef WITH_SQLITE
+#include <sqlite3.h>
+#endif
+
 #include <algorithm>
 #include <iostream>
 #include <map>
+#include <memory>
 #include <mutex>
+#include <stdexcept>
 #include <string>
 #include <unistd.h>
 #include <unordered_map>
 
 namespace {
+
+#ifdef WITH_SQLITE
+class Trail {
+    sqlite3 *file = nullptr;
+    sqlite3_stmt *insert = nullptr;
+
+    void demand(bool is_so) {
+        if (!is_so) throw std::runtime_error(sqlite3_errmsg(file));
+    }
+
+  public:
+    explicit Trail(const char *path) {
+        demand(sqlite3_open(path, &file) == SQLITE_OK);
+        const char *begin = "PRAGMA locking_mode=EXCLUSIVE; PRAGMA journal_mode=WAL; PRAGMA synchronous=FULL;"
+                            "CREATE TABLE item(n INTEGER PRIMARY KEY, who TEXT NOT NULL, text BLOB NOT NULL)";
+        demand(sqlite3_exec(file, begin, nullptr, nullptr, nullptr) == SQLITE_OK);
+        demand(sqlite3_prepare_v2(file, "INSERT INTO item(who, text) VALUES(?, ?)", -1, &insert, nullptr) == SQLITE_OK);
+    }
+
+    void record(const std::string &who, const std::string &text) {
+        sqlite3_bind_text(insert, 1, who.data(), static_cast<int>(who.size()), SQLITE_STATIC);
+        sqlite3_bind_blob(insert, 2, text.data(), static_cast<int>(text.size()), SQLITE_STATIC);
+        demand(sqlite3_step(insert) == SQLITE_DONE);
+        sqlite3_reset(insert);
+    }
+};
+#else
+struct Trail {
+    explicit Trail(const char *) { throw std::runtime_error("compiled without SQLite"); }
+    void record(const std::string &, const std::string &) {}
+};
+#endif
 
 struct Order {
     FIX::SessionID from;
@@ -41,6 +80,7 @@ class Venue : public FIX::Application, public FIX50SP2::MessageCracker {
     std::map<std::string, Sides> book{{"IRS5Y", {}}, {"BASIS1Y", {}}};
     std::unordered_map<std::string, Side::iterator> resting;
     long orders = 0, reports = 0, trades = 0;
+    Trail *const trail;
 
     void onCreate(const FIX::SessionID &) override {}
     void onLogon(const FIX::SessionID &) override {}
@@ -50,6 +90,7 @@ class Venue : public FIX::Application, public FIX50SP2::MessageCracker {
     void fromAdmin(const FIX::Message &, const FIX::SessionID &) throw(FIX::FieldNotFound, FIX::IncorrectDataFormat, FIX::IncorrectTagValue, FIX::RejectLogon) override {}
     void fromApp(const FIX::Message &message, const FIX::SessionID &from) throw(FIX::FieldNotFound, FIX::IncorrectDataFormat, FIX::IncorrectTagValue, FIX::UnsupportedMessageType) override {
         std::lock_guard<std::mutex> held(lock);
+        if (trail) trail->record(from.getTargetCompID().getValue(), message.toString());
         crack(message, from);
     }
 
@@ -86,6 +127,8 @@ class Venue : public FIX::Application, public FIX50SP2::MessageCracker {
 
   public:
     using FIX50SP2::MessageCracker::onMessage;
+
+    explicit Venue(Trail *trail) : trail(trail) {}
 
     void onMessage(const FIX50SP2::NewOrderSingle &message, const FIX::SessionID &from) override {
         FIX::ClOrdID id;
@@ -127,13 +170,14 @@ class Venue : public FIX::Application, public FIX50SP2::MessageCracker {
 } // namespace
 
 int main(int count, char **words) {
-    if (count != 2) {
-        std::cerr << "quickfix_venue SETTINGS" << std::endl;
+    if (count != 2 && count != 3) {
+        std::cerr << "quickfix_venue SETTINGS [TRAIL]" << std::endl;
         return 2;
     }
     try {
         FIX::SessionSettings settings(words[1]);
-        Venue venue;
+        std::unique_ptr<Trail> trail(count == 3 ? new Trail(words[2]) : nullptr);
+        Venue venue(trail.get());
         FIX::MemoryStoreFactory stores;
         FIX::ThreadedSocketAcceptor acceptor(venue, stores, settings);
         acceptor.start();

@@ -12,6 +12,7 @@ NAMES = ("ALPHA", "BETA", "GAMMA", "DELTA", "EPSILON")
 ENDLESS = "1000000000"  # turns
 TURNS = 3
 ROUND_TRIPS = 2_000
+RECORDED = 10  # of so many messages one is sent where each is a row of a trail
 IDLE = 10.0  # seconds
 TICKS = os.sysconf("SC_CLK_TCK")
 # messages that are refused without a look at the book, and orders that rest and are cancelled
@@ -56,7 +57,7 @@ class Venue:
         return dict(zip(said[::2], map(int, said[1::2])))
 
 
-def ours(port):
+def ours(port, *trail):
     """The venue of this repository, which listens where it has said so of each participant."""
     listening = []
 
@@ -64,15 +65,15 @@ def ours(port):
         listening.extend([line] if " at 127.0.0.1:" in line else [])
         return len(listening) == len(NAMES)
 
-    return Venue("dazhwiro", port, [PROGRAM, "serve", *FILES, "--port", str(port), "--turns", ENDLESS], is_ready)
+    return Venue("dazhwiro", port, [PROGRAM, "serve", *FILES, "--port", str(port), "--turns", ENDLESS, *trail], is_ready)
 
 
-def peer(place, port):
+def peer(place, port, *trail):
     """QuickFIX's engine, with a book of a map."""
     sessions = (f"\n[SESSION]\nTargetCompID={name}\nSocketAcceptPort={port + k}\n" for k, name in enumerate(NAMES))
     with open(f"{place}/quickfix.cfg", "w", encoding="utf-8") as file:
         file.write(SETTINGS + "".join(sessions))
-    return Venue("QuickFIX", port, [f"{place}/quickfix_venue", f"{place}/quickfix.cfg"], lambda line: line.strip() == "ready")
+    return Venue("QuickFIX", port, [f"{place}/quickfix_venue", f"{place}/quickfix.cfg", *trail], lambda line: line.strip() == "ready")
 
 
 def measure(venue, place, messages):
@@ -114,24 +115,44 @@ def idle(venue, place):
         holder.terminate()
 
 
-def main():
-    messages, port, place, with_peer = int(sys.argv[1]), int(sys.argv[2]), sys.argv[3], sys.argv[4] == "peer"
-    print(f"load of the machine: {os.getloadavg()[0]:.1f} on {os.cpu_count()} processors", flush=True)
-    venues = [ours(port)]
+def fresh(path):
+    """The path of a trail that is not there yet, nor its log."""
+    for each in (path, path + "-wal", path + "-shm"):
+        if os.path.exists(each):
+            os.remove(each)
+    return path
+
+
+def in_turn(venues, place, messages, is_told):
+    """Each venue measured in turn, compared where there are two; then what being idle costs, where that is told."""
     try:
-        if with_peer:
-            venues.append(peer(place, port + 100))
         turns = [[] for _ in venues]
         for _ in range(TURNS):
             for venue, figures in zip(venues, turns):
                 figures.append(measure(venue, place, messages))
-        if with_peer:
+        if len(venues) > 1:
             compare(turns)
-        for venue in venues:
-            idle(venue, place)
+        if is_told:
+            for venue in venues:
+                idle(venue, place)
     finally:
         for venue in venues:
             venue.process.terminate()
+            venue.process.wait()
+
+
+def main():
+    messages, port, place, peers = int(sys.argv[1]), int(sys.argv[2]), sys.argv[3], sys.argv[4]
+    print(f"load of the machine: {os.getloadavg()[0]:.1f} on {os.cpu_count()} processors", flush=True)
+    venues = [ours(port)]
+    if peers != "alone":
+        venues.append(peer(place, port + 100))
+    in_turn(venues, place, messages, True)
+    print("each message a row of a trail in a file, a transaction each:", flush=True)
+    venues = [ours(port, "--trail", fresh(f"{place}/serve.trail"))]
+    if peers == "recorded":
+        venues.append(peer(place, port + 100, fresh(f"{place}/quickfix.trail")))
+    in_turn(venues, place, max(1, messages // RECORDED), False)
 
 
 if __name__ == "__main__":

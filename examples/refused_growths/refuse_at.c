@@ -1,4 +1,5 @@
-// Refuses the FAIL_AT-th growth of a program, for examples/refused_growths/try; with COUNT set it tells how many there were.
+// Refuses the FAIL_AT-th growth of a program, for examples/refused_growths/try and examples/hostile/growths.py; with COUNT set it tells how
+// many there were. The first growth comes before there are threads.
 #define _GNU_SOURCE
 #include <dlfcn.h>
 #include <stdio.h>
@@ -15,7 +16,7 @@ static int is_refused(void) {
         real_malloc = dlsym(RTLD_NEXT, "malloc");
         real_realloc = dlsym(RTLD_NEXT, "realloc");
     }
-    return ++growths == refused;
+    return __atomic_add_fetch(&growths, 1, __ATOMIC_SEQ_CST) == refused;
 }
 
 void *malloc(size_t size) { return is_refused() ? NULL : real_malloc(size); }
@@ -24,4 +25,11 @@ void *realloc(void *old, size_t size) { return is_refused() ? NULL : real_reallo
 
 __attribute__((destructor)) static void tell(void) {
     if (getenv("COUNT")) fprintf(stderr, "%ld\n", growths);
+}
+
+// A program with threads ends by this, and no destructor runs.
+__attribute__((noreturn)) void _exit(int status) {
+    tell();
+    ((void (*)(int))dlsym(RTLD_NEXT, "_exit"))(status);
+    __builtin_unreachable();
 }

@@ -1,7 +1,6 @@
 //! The two sides of a cross: the one that enters first, and the one that is held.
 ghost use Rattle.std.specs.Prelude.{◌≡◌, ◌+◌, ◌<◌, length};
 ghost use Rattle.instruments.specs.Listing.{delay_of};
-ghost use Rattle.venue_rules.specs.Book.{is_side};
 ghost use Rattle.venue_rules.specs.Crosses.{first_side, is_first, second_side};
 ghost use Rattle.cross_answers.specs.Crossing.{cross_order};
 
@@ -9,17 +8,7 @@ use crate::terms::Terms;
 use fix_dictionary::{CrossSide, NewOrderCross, Side};
 use instruments::Instruments;
 use sef_moment::Moment;
-use venue_rules::{HeldSide, Life, OrderFact, Who};
-
-/// Whether two sides are the same.
-pub(crate) fn is_side(side: Side, other: Side) -> bool
-    ensures { result ≡ is_side side other }
-{
-    match (side, other) {
-        (Side::Buy, Side::Buy) | (Side::Sell, Side::Sell) => true,
-        _ => false,
-    }
-}
+use venue_rules::{HeldSide, Life, OrderFact, Who, is_side};
 
 // Whether CrossPrioritization (550) puts this side first: 1 the buy, 2 the sell.
 fn is_first(cross: &NewOrderCross, side: &CrossSide) -> bool

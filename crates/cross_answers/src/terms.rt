@@ -1,16 +1,14 @@
 //! The terms of a cross, and why it is turned away before the book is asked.
 ghost use Rattle.std.specs.Prelude.{◌≡◌, ◌<◌, length, IfOk, IfErr};
-ghost use Rattle.venue_rules.specs.Orders.{is_limit};
 ghost use Rattle.cross_answers.specs.Crossing.{IsSound, IsTermsOf, IsTurnedAway, are_ids_taken, is_quantity_wrong, is_unsupported};
 
-use crate::sides::is_side;
 use cross_delay::Held;
-use fix_dictionary::{FixChar, NewOrderCross, Price};
+use fix_dictionary::{NewOrderCross, Price};
 use instruments::Instruments;
-use order_answers::is_used;
 use order_answers::listing::{instrument_of, is_below_least, is_off_tick};
+use order_answers::{is_limit, is_used};
 use price_book::PriceBook;
-use venue_rules::{CrossRefusal, Who};
+use venue_rules::{CrossRefusal, Who, is_side};
 
 /// Why a cross is turned away before the book is asked.
 #[derive(Clone, Copy)]
@@ -24,13 +22,6 @@ pub(crate) enum Cause {
 pub(crate) struct Terms {
     pub instrument: u32,
     pub price: Price,
-}
-
-/// OrdType (40) is 2, a limit order.
-fn is_limit(order_type: FixChar) -> bool
-    ensures { result ≡ is_limit order_type }
-{
-    order_type.get() == b'2'
 }
 
 /// CrossType (549) is not 4, CrossPrioritization (550) is neither 1 nor 2, or OrdType (40) is not 2.

@@ -9,14 +9,7 @@ ghost use Rattle.cross_delay.specs.ByDue.{AreRising, first_due, put_last, step, 
 use fix_dictionary::Identifier;
 use participants::Who;
 use sef_moment::Moment;
-use venue_rules::{Fact, HeldSide, Release};
-
-/// Whether a name is this participant's, and of these bytes.
-fn is_name(who: Who, id: &Identifier, other: Who, other_id: &Identifier) -> bool
-    ensures { result ≡ is_name who id.now other other_id.now }
-{
-    who.place() == other.place() && id.is(other_id)
-}
+use venue_rules::{Fact, HeldSide, Release, is_name};
 
 /// The first of them, if it is due at a moment.
 pub(crate) fn first_due(sides: &[HeldSide], moment: Moment) -> Option<&HeldSide>

@@ -2,8 +2,22 @@
 #![tactic(auto)]
 
 use data_dictionary::{Dictionary, WriteFault, write_dictionary};
+use std::io::Write;
 use std::process::ExitCode;
 use std::{env, io};
+
+const HELP: &str = "Prints the venue's data dictionaries (XML, as QuickFIX reads it), for a counterparty's FIX engine
+
+Usage: dictionary_files --transport | --application ..
+
+  --transport    FIXT 1.1: the header, the trailer and the session's messages
+  --application  FIX 5.0 SP2: the application messages
+  --help         Print help
+
+Example:
+  dictionary_files --transport >transport.xml
+  dictionary_files --application >application.xml
+";
 
 /// Why the program stopped.
 enum Failure {
@@ -35,10 +49,20 @@ fn dictionary_named(word: &str) -> Option<Dictionary> {
     }
 }
 
-// Prints each dictionary that is asked for, in order.
+fn print_help(rt: &HostRuntime) -> Result<(), Failure> {
+    match rt.stdout().write_all(HELP.as_bytes()) {
+        Ok(()) => Ok(()),
+        Err(_) => Err(Failure::Stopped(WriteFault::Output)),
+    }
+}
+
+// Prints each dictionary that is asked for, in order; or the help.
 fn run(rt: &HostRuntime) -> Result<(), Failure> {
     let mut asked = false;
     for word in env::args(rt)?.skip(1) {
+        if word.as_str() == "--help" {
+            return print_help(rt);
+        }
         let Some(dictionary) = dictionary_named(word.as_str()) else {
             return Err(Failure::CommandLine);
         };

@@ -4,6 +4,7 @@ use Rattle.std.specs.List.{list_all}
 use Rattle.std.proofs.lemmas.Bool.Decides.{nat_tests}
 use Rattle.sef_moment.specs.Utc.{utc_text, moment_of}
 use Rattle.sef_moment.proofs.RoundTrip.{utc_text-is}
+use Rattle.sef_moment.proofs.TestLemmas.{utc-to}
 use Rattle.fix_fields.specs.Forms.{within, integer_in, price_text}
 use Rattle.fix_fields.specs.declared.value.ValueFault.TheVariants as value
 use Rattle.fix_fields.proofs.RoundTrip.{integer_in-decimal, quantity_of-decimal, amount_of-decimal, price_of-price_text}
@@ -18,7 +19,6 @@ use Rattle.fix_dictionary.specs.Holding.{RowHolds}
 use Rattle.fix_dictionary.specs.Fits.{Given, IsGraphic, IsMoment}
 use Rattle.fix_dictionary.specs.Told.{told, number_in, quantity_in, amount_in, price_in, character_in, side_in, flag_in, ok_or}
 use Rattle.fix_dictionary.specs.Text.{given, flag_text, side_text}
-use Rattle.fix_dictionary.proofs.UtcLemmas.{utc-to}
 use Rattle.fix_dictionary.proofs.ValueLemmas.{IsShort, short_text, short_decimal, short_byte, short_graphic, short_moment, short_price}
 
 -- the longest value that is printed in a form

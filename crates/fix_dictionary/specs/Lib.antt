@@ -13,5 +13,4 @@ pub mod Table
 pub mod Tables
 pub mod Text
 pub mod Told
-pub mod UtcTest
 pub mod Values

@@ -1,14 +1,13 @@
 -- The form of each row of a table, and the fault that a value has in that form.
-use Rattle.std.specs.Prelude.{ℕ, Bool, true, false, ◌&&◌, nat_lt, nat_le, if◌then◌else◌, List, length, Option, None, Some, Result, Ok, Err}
-use Rattle.std.specs.List.{list_all}
+use Rattle.std.specs.Prelude.{ℕ, Bool, true, false, if◌then◌else◌, List, Option, None, Some, Result, Ok, Err}
 use Rattle.fix_fields.specs.declared.value.ValueFault.{ValueFault}
 use Rattle.fix_fields.specs.declared.value.ValueFault.TheVariants.{Format, Range}
-use Rattle.fix_fields.specs.Forms.{integer_in, price_of, quantity_of, amount_of}
+use Rattle.fix_fields.specs.Forms.{integer_in, price_of, quantity_of, amount_of, printable_of}
 use Rattle.fix_dictionary.specs.declared.table.Form.{Form}
 use Rattle.fix_dictionary.specs.declared.table.Form.TheVariants.{Kind, Integer, End, Price, Quantity, Amount, Identifier, Version, Character, OneOrTwo, Flag, Utc, Printable}
 use Rattle.fix_dictionary.specs.declared.table.Row.{Row}
-use Rattle.fix_dictionary.specs.Values.{is_printable, is_text, is_character, is_either, ends}
-use Rattle.fix_dictionary.specs.UtcTest.{is_utc}
+use Rattle.fix_dictionary.specs.Values.{is_text, is_character, is_either, ends}
+use Rattle.sef_moment.specs.UtcTest.{is_utc}
 
 -- a row that each message of the type has, and one that it may have
 abbrev pub needs : ℕ → Form → Row
@@ -27,10 +26,7 @@ why (Err fault) = Some fault
 
 -- no such text is a fault of the form, and a longer one is out of range
 abbrev pub text_fault : ℕ → List ℕ → Option ValueFault
-text_fault longest bytes =
-    if nat_lt 0 (length bytes) && list_all is_printable bytes
-    then (if nat_le (length bytes) longest then None else Some Range)
-    else Some Format
+text_fault longest bytes = why (printable_of longest bytes)
 
 abbrev pub unless : Bool → ValueFault → Option ValueFault
 unless right fault = if right then None else Some fault

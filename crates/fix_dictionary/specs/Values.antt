@@ -1,20 +1,13 @@
 -- The values that fields may have, as tests on bytes.
 use Rattle.std.specs.Prelude.{◌≡◌, ℕ, ◌≤◌, ℤ, unsigned_abs, ◌==◌, Bool, true, false, ◌&&◌, ◌||◌, nat_lt, nat_le, List, [], ◌∷◌, ◌++◌, ◌-◌, length, replicate}
 use Rattle.std.specs.List.{list_all}
+pub use Rattle.fix_fields.specs.Forms.{is_printable, is_graphic}
 
--- a byte from 32 to 126
-abbrev pub is_printable : ℕ → Bool
-is_printable c = nat_le 32 c && nat_le c 126
-
--- one or more such bytes, at most so many
+-- one or more printable bytes, at most so many
 abbrev pub is_text : ℕ → List ℕ → Bool
 is_text longest bytes = nat_lt 0 (length bytes) && (nat_le (length bytes) longest && list_all is_printable bytes)
 
--- a byte from 33 to 126
-abbrev pub is_graphic : ℕ → Bool
-is_graphic c = nat_le 33 c && nat_le c 126
-
--- one such byte
+-- one such byte, and no space
 abbrev pub is_character : List ℕ → Bool
 is_character [] = false
 is_character (c ∷ []) = is_graphic c

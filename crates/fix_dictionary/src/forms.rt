@@ -1,26 +1,20 @@
 //! Whether a value has the form and the range that its tag asks for.
 ghost use Rattle.std.specs.Prelude.{◌≡◌, ℕ, ◌≤◌, ◌<◌};
-ghost use Rattle.std.specs.List.{list_all};
-ghost use Rattle.fix_dictionary.specs.Values.{is_printable, is_text, is_character, is_either};
-ghost use Rattle.fix_dictionary.specs.UtcTest.{is_utc};
+ghost use Rattle.fix_dictionary.specs.Values.{is_text, is_character, is_either};
+ghost use Rattle.sef_moment.specs.UtcTest.{is_utc};
 ghost use Rattle.fix_dictionary.specs.Table.{why, unless, text_fault, version_fault, side_fault, end_fault, value_fault};
 
 use crate::table::Form;
-use fix_fields::{ValueFault, read_amount, read_integer, read_price, read_quantity};
+use fix_fields::{
+    ValueFault, read_amount, read_identifier, read_integer, read_price, read_quantity, read_text,
+};
 use sef_moment::read_utc;
 
-// Whether each byte is from 32 to 126.
-fn is_printable(bytes: &[u8]) -> bool
-    ensures { result ≡ list_all is_printable bytes.now }
+/// Whether these bytes are an identifier.
+pub(crate) fn is_identifier(bytes: &[u8]) -> bool
+    ensures { result ≡ is_text 64 bytes.now }
 {
-    bytes.iter().all(|byte| 32 <= *byte && *byte <= 126)
-}
-
-/// Whether these are one or more printable bytes, at most so many.
-pub(crate) fn is_text(longest: usize, bytes: &[u8]) -> bool
-    ensures { result ≡ is_text longest bytes.now }
-{
-    !bytes.is_empty() && bytes.len() <= longest && is_printable(bytes)
+    read_identifier(bytes).is_ok()
 }
 
 /// Whether this is one byte from 33 to 126.
@@ -55,22 +49,25 @@ fn unless(right: bool, fault: ValueFault) -> Option<ValueFault>
     if right { None } else { Some(fault) }
 }
 
-fn text_fault(longest: usize, bytes: &[u8]) -> Option<ValueFault>
-    ensures { result ≡ text_fault longest bytes.now }
+fn identifier_fault(bytes: &[u8]) -> Option<ValueFault>
+    ensures { result ≡ text_fault 64 bytes.now }
 {
-    if bytes.is_empty() || !is_printable(bytes) {
-        return Some(ValueFault::Format);
-    }
-    unless(bytes.len() <= longest, ValueFault::Range)
+    read_identifier(bytes).err()
+}
+
+fn printable_fault(bytes: &[u8]) -> Option<ValueFault>
+    ensures { result ≡ text_fault 200 bytes.now }
+{
+    read_text(bytes).err()
 }
 
 fn version_fault(bytes: &[u8]) -> Option<ValueFault>
     ensures { result ≡ version_fault bytes.now }
 {
-    if is_text(64, bytes) {
+    if is_identifier(bytes) {
         unless(is_either(b'9', b'9', bytes), ValueFault::Range)
     } else {
-        text_fault(64, bytes)
+        identifier_fault(bytes)
     }
 }
 
@@ -99,18 +96,18 @@ pub(crate) fn value_fault(form: Form, bytes: &[u8]) -> Option<ValueFault>
     ensures { result ≡ value_fault form bytes.now }
 {
     match form {
-        Form::Kind => unless(is_text(64, bytes), ValueFault::Format),
+        Form::Kind => unless(is_identifier(bytes), ValueFault::Format),
         Form::Integer(low, high) => read_integer(bytes, u64::from(low), u64::from(high)).err(),
         Form::End(begin) => end_fault(begin, read_integer(bytes, 0, 999_999_999)),
         Form::Price => read_price(bytes).err(),
         Form::Quantity => read_quantity(bytes).err(),
         Form::Amount => read_amount(bytes).err(),
-        Form::Identifier => text_fault(64, bytes),
+        Form::Identifier => identifier_fault(bytes),
         Form::Version => version_fault(bytes),
         Form::Character => unless(is_character(bytes), ValueFault::Format),
         Form::OneOrTwo => side_fault(bytes),
         Form::Flag => unless(is_either(b'Y', b'N', bytes), ValueFault::Format),
         Form::Utc => unless(is_utc(bytes), ValueFault::Format),
-        Form::Printable => text_fault(200, bytes),
+        Form::Printable => printable_fault(bytes),
     }
 }

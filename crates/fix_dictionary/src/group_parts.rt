@@ -12,7 +12,7 @@ ghost use Rattle.fix_dictionary.specs.Messages.{entry_type, market_data_entry, m
 use crate::lists::{EntryTypes, MarketDataEntries};
 use crate::messages::{MarketDataEntry, MarketDataRequest, MarketDataSnapshot};
 use crate::places::{Part, Standing, begins, part};
-use crate::reading::{
+use crate::field_values::{
     character, identifier, number, optional_amount, optional_identifier, optional_price,
 };
 use crate::values::{FixChar, Identifier};

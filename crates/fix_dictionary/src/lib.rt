@@ -1,26 +1,41 @@
 //! The messages of the venue: what the fields of a body say, and how a message is printed.
 #![tactic(auto)]
 
+// values
 mod copy;
-mod cross_parts;
+mod lists;
+mod messages;
+mod values;
+
+// tables
+mod places;
+mod table;
+
+// faults
 mod faults;
 mod forms;
 mod group_faults;
+
+// parts
+mod cross_parts;
+mod field_values;
 mod group_parts;
-mod group_print;
-mod lists;
-mod messages;
 mod parts;
-mod places;
-mod print;
 mod quote_parts;
-mod quote_print;
-mod read;
+
+// reading
 mod reading;
-mod table;
-mod values;
+
+// printing
+mod group_print;
+mod print;
+mod quote_print;
+
+// laws
+mod laws;
 
 pub use faults::DictFault;
+pub use laws::{printed_is_read, printed_is_short, spelled_or_faulty};
 pub use lists::{EntryTypes, MarketDataEntries, Parties};
 pub use messages::{
     Admin, App, Body, BodyRef, BoxedApp, BusinessMessageReject, CrossSide, ExecutionReport, Header,
@@ -31,9 +46,7 @@ pub use messages::{
     SequenceReset, TestRequest,
 };
 pub use print::{print_app, print_message, print_parts};
-pub use read::{
-    printed_is_read, printed_is_short, read_app, read_body, read_message, spelled_or_faulty,
-};
+pub use reading::{read_app, read_body, read_message};
 pub use values::{
     Amount, FixChar, FixInt, HeartbeatInterval, Identifier, NewSequenceNumber, OtherKind, Price,
     Quantity, SequenceNumber, Side, Text,

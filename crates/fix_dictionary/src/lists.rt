@@ -33,12 +33,6 @@ impl Parties {
         Parties { instances }
     }
 
-    pub fn into_vec(self) -> Vec<Party>
-        ensures { result.items ≡ self }
-    {
-        self.instances
-    }
-
     pub fn as_slice(&self) -> &[Party]
         ensures value { result.now ≡ self.now }
         ensures number { FitsParties (length result.now) }
@@ -71,12 +65,6 @@ impl EntryTypes {
         ensures { result ≡ instances.items }
     {
         EntryTypes { instances }
-    }
-
-    pub fn into_vec(self) -> Vec<FixChar>
-        ensures { result.items ≡ self }
-    {
-        self.instances
     }
 
     pub fn as_slice(&self) -> &[FixChar]
@@ -112,12 +100,6 @@ impl MarketDataEntries {
         ensures { result ≡ instances.items }
     {
         MarketDataEntries { instances }
-    }
-
-    pub fn into_vec(self) -> Vec<MarketDataEntry>
-        ensures { result.items ≡ self }
-    {
-        self.instances
     }
 
     pub fn as_slice(&self) -> &[MarketDataEntry]

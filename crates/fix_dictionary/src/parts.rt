@@ -11,7 +11,7 @@ use crate::messages::{
     OrderCancelRequest, QuoteCancel, QuoteResponse, QuoteStatusReport, Reject, ResendRequest,
     SequenceReset, TestRequest,
 };
-use crate::reading::{
+use crate::field_values::{
     amount, character, identifier, interval, moment, new_sequence_number, number,
     optional_character, optional_flag, optional_identifier, optional_moment, optional_number,
     optional_price, optional_quantity, optional_side, optional_text, quantity, sequence_number,

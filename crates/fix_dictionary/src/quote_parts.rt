@@ -15,7 +15,7 @@ use crate::group_parts::symbol;
 use crate::lists::Parties;
 use crate::messages::{Party, Quote, QuoteRequest, QuoteRequestReject};
 use crate::places::{Standing, begins, first_begin, part};
-use crate::reading::{
+use crate::field_values::{
     character, identifier, number, optional_character, optional_moment, optional_price,
     optional_quantity, optional_side, optional_text, quantity, value_of,
 };

@@ -1,278 +1,360 @@
-//! What the values of fields tell, where the table of the message found no fault.
-ghost use Rattle.std.specs.Prelude.{◌≡◌, ℕ, ◌≤◌, ◌<◌, IfOk, MatchOption, None, Some};
-ghost use Rattle.fix_fields.specs.Fields.{value_of};
+//! Reads messages.
+ghost use Rattle.std.specs.Prelude.{◌≡◌, ◌++◌, true, false, None, IfOk, MatchResult};
+ghost use Rattle.fix_dictionary.specs.Tables.{header_rows, rows_of};
+ghost use Rattle.fix_dictionary.specs.Holding.{Holds};
+ghost use Rattle.fix_dictionary.specs.GroupHolding.{Clean};
+ghost use Rattle.fix_dictionary.specs.Places.{places};
+ghost use Rattle.fix_dictionary.specs.Kinds.{type_of, is_grouped, is_session};
+ghost use Rattle.fix_dictionary.specs.Faults.{first_fault};
+ghost use Rattle.fix_dictionary.specs.Told.{bytes_at};
+ghost use Rattle.fix_dictionary.specs.Values.{IsText};
+ghost use Rattle.fix_dictionary.specs.Messages.{body_in, type_in, begin_in, fault_in, fault_as_type, message_as, message_in, placed_as, Spells, IsFault};
+ghost use Rattle.fix_dictionary.specs.Applications.{IsApp, plain_header, app_fault_in, SpellsApp};
 ghost use Rattle.fix_fields.specs.Views.{entries};
-ghost use Rattle.fix_dictionary.specs.declared.table.Form.TheVariants as form;
-ghost use Rattle.fix_dictionary.specs.Table.{needs, takes, value_fault};
-ghost use Rattle.fix_dictionary.specs.Holding.{RowHolds};
-ghost use Rattle.fix_dictionary.specs.Told.{told, bytes_at, number_in, sequence_number_in, new_sequence_number_in, interval_in, quantity_in, amount_in, price_in, character_in, side_in, flag_in};
-ghost use Rattle.fix_dictionary.specs.Messages.{begin_in};
-ghost use Rattle.sef_moment.specs.Utc.{moment_of};
 
-use crate::values::{
-    Amount, FixChar, FixInt, HeartbeatInterval, Identifier, NewSequenceNumber, Price, Quantity,
-    SequenceNumber, Side, Text,
+use crate::faults::{DictFault, first_fault};
+use crate::group_faults::placed_fault;
+use crate::messages::{Admin, App, Body, BoxedApp, Message};
+use crate::places::{Standing, part, placed};
+use crate::field_values::{begin_in, bytes_at};
+use crate::table::{
+    MessageType, header, is_grouped, is_session, resend_request_rows, rows_of, type_of,
 };
-use fix_fields::{Field, read_amount, read_integer, read_price, read_quantity};
-use sef_moment::{Moment, read_utc};
+use crate::values::OtherKind;
+use crate::{cross_parts, group_parts, parts, quote_parts};
+use fix_fields::{Field, Fields};
 use std::alloc::{AllocError, Global};
 
-// The value of the first field with the tag.
-pub(crate) fn value_of<'a>(fields: &[Field<'a>], tag: u32) -> Option<&'a [u8]>
-    ensures { MatchOption result (value_of tag (entries fields.now) ≡ None) (λ value. value_of tag (entries fields.now) ≡ Some value.now) }
-{
-    for field in fields {
-        if field.tag == tag {
-            return Some(field.value);
-        }
-    }
-    None
-}
-
-// The value of a required tag.
-pub(crate) fn bytes_at<'a>(fields: &[Field<'a>], tag: u32) -> &'a [u8]
-    ensures { result.now ≡ bytes_at tag (entries fields.now) }
-{
-    match value_of(fields, tag) {
-        Some(bytes) => bytes,
-        None => &[],
-    }
-}
-
-pub(crate) fn identifier(fields: &[Field], tag: u32) -> Identifier
-    requires { RowHolds (needs tag form.Identifier) (value_of tag (entries fields.now)) }
-    ensures { result ≡ bytes_at tag (entries fields.now) }
-{
-    Identifier::from_slice(bytes_at(fields, tag))
-}
-
-pub(crate) fn optional_identifier(fields: &[Field], tag: u32) -> Option<Identifier>
-    requires { RowHolds (takes tag form.Identifier) (value_of tag (entries fields.now)) }
-    ensures { result ≡ value_of tag (entries fields.now) }
-{
-    match value_of(fields, tag) {
-        Some(bytes) => Some(Identifier::from_slice(bytes)),
-        None => None,
-    }
-}
-
-pub(crate) fn optional_text(
+// What a message of the session says behind its header.
+fn admin_in(
     alloc: Global,
+    kind: MessageType,
+    begin: u32,
     fields: &[Field],
-    tag: u32,
-) -> Result<Option<Text>, AllocError>
-    requires { RowHolds (takes tag form.Printable) (value_of tag (entries fields.now)) }
-    ensures { IfOk result (λ text. text ≡ value_of tag (entries fields.now)) }
+) -> Result<Admin, AllocError>
+    requires holds { Holds (rows_of kind begin) (entries fields.now) }
+    requires session { is_session kind ≡ true }
+    requires begin { begin ≡ begin_in (entries fields.now) }
+    ensures { IfOk result (λ m. Body.Admin m ≡ body_in kind (entries fields.now)) }
 {
-    match value_of(fields, tag) {
-        Some(bytes) => Ok(Some(Text::from_slice(alloc, bytes)?)),
-        None => Ok(None),
+    Ok(match kind {
+        MessageType::Heartbeat => Admin::Heartbeat(parts::heartbeat(fields)),
+        MessageType::TestRequest => Admin::TestRequest(parts::test_request(fields)),
+        MessageType::ResendRequest => Admin::ResendRequest(parts::resend_request(begin, fields)),
+        MessageType::Reject => Admin::Reject(parts::reject(alloc, fields)?),
+        MessageType::SequenceReset => Admin::SequenceReset(parts::sequence_reset(fields)),
+        MessageType::Logout => Admin::Logout(parts::logout(alloc, fields)?),
+        MessageType::Logon => Admin::Logon(parts::logon(fields)),
+        _ => unreachable!(),
+    })
+}
+
+// What a message of the venue without groups says behind its header.
+fn flat_app(alloc: Global, kind: MessageType, fields: &[Field]) -> Result<App, AllocError>
+    requires holds { Holds (rows_of kind 0) (entries fields.now) }
+    requires flat { is_grouped kind ≡ false }
+    requires venue { is_session kind ≡ false }
+    requires kind { kind ≡ type_in (entries fields.now) }
+    requires text { IsText 64 (bytes_at 35 (entries fields.now)) }
+    ensures { IfOk result (λ m. Body.App m ≡ body_in kind (entries fields.now)) }
+{
+    Ok(match kind {
+        MessageType::QuoteCancel => App::QuoteCancel(parts::quote_cancel(fields)),
+        MessageType::QuoteResponse => App::QuoteResponse(parts::quote_response(fields)),
+        MessageType::QuoteStatusReport => {
+            App::QuoteStatusReport(parts::quote_status_report(alloc, fields)?)
+        }
+        MessageType::NewOrderSingle => App::NewOrderSingle(parts::new_order_single(fields)),
+        MessageType::OrderCancelRequest => {
+            App::OrderCancelRequest(parts::order_cancel_request(fields))
+        }
+        MessageType::OrderCancelReplaceRequest => {
+            App::OrderCancelReplaceRequest(parts::order_cancel_replace_request(fields))
+        }
+        MessageType::ExecutionReport => {
+            App::ExecutionReport(parts::execution_report(alloc, fields)?)
+        }
+        MessageType::OrderCancelReject => {
+            App::OrderCancelReject(parts::order_cancel_reject(alloc, fields)?)
+        }
+        MessageType::MarketDataRequestReject => {
+            App::MarketDataRequestReject(parts::market_data_request_reject(alloc, fields)?)
+        }
+        MessageType::BusinessMessageReject => {
+            App::BusinessMessageReject(parts::business_message_reject(alloc, fields)?)
+        }
+        MessageType::Unsupported => {
+            App::Unsupported(OtherKind::from_slice(bytes_at(fields, 35)))
+        }
+        _ => unreachable!(),
+    })
+}
+
+fn body_in(
+    alloc: Global,
+    kind: MessageType,
+    begin: u32,
+    fields: &[Field],
+) -> Result<Body, AllocError>
+    requires holds { Holds (rows_of kind begin) (entries fields.now) }
+    requires flat { is_grouped kind ≡ false }
+    requires kind { kind ≡ type_in (entries fields.now) }
+    requires begin { begin ≡ begin_in (entries fields.now) }
+    requires text { IsText 64 (bytes_at 35 (entries fields.now)) }
+    ensures { IfOk result (λ b. b ≡ body_in kind (entries fields.now)) }
+{
+    if is_session(kind) {
+        Ok(Body::Admin(admin_in(alloc, kind, begin, fields)?))
+    } else {
+        let app = flat_app(alloc, kind, fields)?;
+        Ok(Body::App(BoxedApp::new(alloc, app)?))
     }
 }
 
-fn number_in(bytes: &[u8]) -> FixInt
-    ensures { result ≡ number_in bytes.now }
+// What is behind the header of a message without groups.
+fn flat_body(
+    alloc: Global,
+    kind: MessageType,
+    begin: u32,
+    fields: &[Field],
+) -> Result<Body, AllocError>
+    requires holds { Holds (header_rows ++ rows_of kind begin) (entries fields.now) }
+    requires flat { is_grouped kind ≡ false }
+    requires kind { kind ≡ type_in (entries fields.now) }
+    requires begin { begin ≡ begin_in (entries fields.now) }
+    ensures { IfOk result (λ b. b ≡ body_in kind (entries fields.now)) }
 {
-    match read_integer(bytes, 0, 999_999_999) {
-        Ok(number) => FixInt::new(number as u32),
-        Err(_) => FixInt::new(0),
+    body_in(alloc, kind, begin, fields)
+}
+
+fn message_in(
+    alloc: Global,
+    kind: MessageType,
+    begin: u32,
+    fields: &[Field],
+) -> Result<Message, AllocError>
+    requires holds { Holds (header_rows ++ rows_of kind begin) (entries fields.now) }
+    requires flat { is_grouped kind ≡ false }
+    requires kind { kind ≡ type_in (entries fields.now) }
+    requires begin { begin ≡ begin_in (entries fields.now) }
+    ensures { IfOk result (λ m. m ≡ message_as kind (entries fields.now)) }
+{
+    Ok(Message {
+        header: parts::header(fields),
+        body: flat_body(alloc, kind, begin, fields)?,
+    })
+}
+
+// What a message with groups says behind its header.
+fn grouped_app(
+    alloc: Global,
+    kind: MessageType,
+    fields: &[Field],
+    placed: &[Standing],
+) -> Result<App, AllocError>
+    requires grouped { is_grouped kind ≡ true }
+    requires placed { places placed.now ≡ placed_as kind (entries fields.now) }
+    requires clean { Clean header_rows (rows_of kind 0) (places placed.now) }
+    ensures { IfOk result (λ m. Body.App m ≡ body_in kind (entries fields.now)) }
+{
+    Ok(match kind {
+        MessageType::QuoteRequest => {
+            App::QuoteRequest(quote_parts::quote_request(alloc, placed)?)
+        }
+        MessageType::NewOrderCross => {
+            App::NewOrderCross(cross_parts::new_order_cross(alloc, placed)?)
+        }
+        MessageType::Quote => App::Quote(quote_parts::quote(alloc, placed)?),
+        MessageType::QuoteRequestReject => {
+            App::QuoteRequestReject(quote_parts::quote_request_reject(alloc, placed)?)
+        }
+        MessageType::MarketDataRequest => App::MarketDataRequest(group_parts::market_data_request(
+            alloc, placed,
+        )?),
+        MessageType::MarketDataSnapshot => App::MarketDataSnapshot(
+            group_parts::market_data_snapshot(alloc, placed)?,
+        ),
+        _ => unreachable!(),
+    })
+}
+
+// What is behind the header of a message with groups.
+fn grouped_body(
+    alloc: Global,
+    kind: MessageType,
+    fields: &[Field],
+    placed: &[Standing],
+) -> Result<Body, AllocError>
+    requires grouped { is_grouped kind ≡ true }
+    requires placed { places placed.now ≡ placed_as kind (entries fields.now) }
+    requires clean { Clean header_rows (rows_of kind 0) (places placed.now) }
+    ensures { IfOk result (λ b. b ≡ body_in kind (entries fields.now)) }
+{
+    let app = grouped_app(alloc, kind, fields, placed)?;
+    Ok(Body::App(BoxedApp::new(alloc, app)?))
+}
+
+fn grouped_message(
+    alloc: Global,
+    kind: MessageType,
+    fields: &[Field],
+    placed: &[Standing],
+) -> Result<Message, AllocError>
+    requires grouped { is_grouped kind ≡ true }
+    requires placed { places placed.now ≡ placed_as kind (entries fields.now) }
+    requires clean { Clean header_rows (rows_of kind 0) (places placed.now) }
+    ensures { IfOk result (λ m. m ≡ message_as kind (entries fields.now)) }
+{
+    let outside = part(alloc, placed, 0)?;
+    Ok(Message {
+        header: parts::header(&outside),
+        body: grouped_body(alloc, kind, fields, placed)?,
+    })
+}
+
+fn read_grouped(alloc: Global, kind: MessageType, fields: &[Field]) -> Result<Message, DictFault>
+    requires { is_grouped kind ≡ true }
+    ensures { MatchResult result (λ m. (fault_as_type kind (entries fields.now) ≡ None) × (m ≡ message_as kind (entries fields.now))) (IsFault (fault_as_type kind (entries fields.now))) }
+{
+    let Ok(placed) = placed(alloc, header(), rows_of(kind), fields) else {
+        return Err(DictFault::NoMemory);
+    };
+    match placed_fault(header(), rows_of(kind), &placed, fields) {
+        Some(found) => Err(found),
+        None => match grouped_message(alloc, kind, fields, &placed) {
+            Ok(message) => Ok(message),
+            Err(_) => Err(DictFault::NoMemory),
+        },
     }
 }
 
-pub(crate) fn number(fields: &[Field], tag: u32) -> FixInt
-    ensures { result ≡ number_in (bytes_at tag (entries fields.now)) }
+fn read_grouped_body(alloc: Global, kind: MessageType, fields: &[Field]) -> Result<Body, DictFault>
+    requires { is_grouped kind ≡ true }
+    ensures { MatchResult result (λ b. (fault_as_type kind (entries fields.now) ≡ None) × (b ≡ body_in kind (entries fields.now))) (IsFault (fault_as_type kind (entries fields.now))) }
 {
-    number_in(bytes_at(fields, tag))
-}
-
-pub(crate) fn sequence_number(fields: &[Field], tag: u32) -> SequenceNumber
-    ensures { result ≡ sequence_number_in (bytes_at tag (entries fields.now)) }
-{
-    match read_integer(bytes_at(fields, tag), 1, 999_999_999) {
-        Ok(number) => SequenceNumber::new(number as u32),
-        Err(_) => SequenceNumber::new(1),
+    let Ok(placed) = placed(alloc, header(), rows_of(kind), fields) else {
+        return Err(DictFault::NoMemory);
+    };
+    match placed_fault(header(), rows_of(kind), &placed, fields) {
+        Some(found) => Err(found),
+        None => match grouped_body(alloc, kind, fields, &placed) {
+            Ok(body) => Ok(body),
+            Err(_) => Err(DictFault::NoMemory),
+        },
     }
 }
 
-// The number from which a resend request asks, or 10^9, which is past every number.
-pub(crate) fn begin_in(fields: &[Field]) -> u32
-    ensures { result ≡ begin_in (entries fields.now) }
+// The first fault, by the header's table and that of the type.
+fn fault_in(kind: MessageType, begin: u32, fields: &[Field]) -> Option<DictFault>
+    ensures { result ≡ first_fault (header_rows ++ rows_of kind begin) (entries fields.now) }
 {
-    match read_integer(bytes_at(fields, 7), 0, 1_000_000_000) {
-        Ok(number) => number as u32,
-        Err(_) => 1_000_000_000,
+    match kind {
+        MessageType::ResendRequest => first_fault(header(), &resend_request_rows(begin), fields),
+        _ => first_fault(header(), rows_of(kind), fields),
     }
 }
 
-pub(crate) fn new_sequence_number(fields: &[Field], tag: u32) -> NewSequenceNumber
-    ensures { result ≡ new_sequence_number_in (bytes_at tag (entries fields.now)) }
+fn read_fields(alloc: Global, fields: &[Field]) -> Result<Message, DictFault>
+    ensures { MatchResult result (λ m. Spells m (entries fields.now)) (IsFault (fault_in (entries fields.now))) }
 {
-    match read_integer(bytes_at(fields, tag), 1, 1_000_000_000) {
-        Ok(number) => NewSequenceNumber::new(number as u32),
-        Err(_) => NewSequenceNumber::new(1),
+    let kind = type_of(bytes_at(fields, 35));
+    if is_grouped(kind) {
+        return read_grouped(alloc, kind, fields);
+    }
+    let begin = begin_in(fields);
+    match fault_in(kind, begin, fields) {
+        Some(fault) => Err(fault),
+        None => match message_in(alloc, kind, begin, fields) {
+            Ok(message) => Ok(message),
+            Err(_) => Err(DictFault::NoMemory),
+        },
     }
 }
 
-pub(crate) fn interval(fields: &[Field], tag: u32) -> HeartbeatInterval
-    ensures { result ≡ interval_in (bytes_at tag (entries fields.now)) }
+fn read_body_in(alloc: Global, fields: &[Field]) -> Result<Body, DictFault>
+    ensures { MatchResult result (λ b. (fault_in (entries fields.now) ≡ None) × (b ≡ (message_in (entries fields.now)).body)) (IsFault (fault_in (entries fields.now))) }
 {
-    match read_integer(bytes_at(fields, tag), 0, 3600) {
-        Ok(seconds) => HeartbeatInterval::new(seconds as u32),
-        Err(_) => HeartbeatInterval::new(0),
+    let kind = type_of(bytes_at(fields, 35));
+    if is_grouped(kind) {
+        return read_grouped_body(alloc, kind, fields);
+    }
+    let begin = begin_in(fields);
+    match fault_in(kind, begin, fields) {
+        Some(fault) => Err(fault),
+        None => match flat_body(alloc, kind, begin, fields) {
+            Ok(body) => Ok(body),
+            Err(_) => Err(DictFault::NoMemory),
+        },
     }
 }
 
-pub(crate) fn optional_number(fields: &[Field], tag: u32) -> Option<FixInt>
-    ensures { result ≡ told number_in (value_of tag (entries fields.now)) }
+/// What the message that the fields of a body spell says behind its header, or their first fault; of the header nothing is kept.
+pub fn read_body(alloc: Global, fields: &Fields) -> Result<Body, DictFault>
+    ensures { MatchResult result (λ b. (fault_in fields.now ≡ None) × (b ≡ (message_in fields.now).body)) (IsFault (fault_in fields.now)) }
 {
-    match value_of(fields, tag) {
-        Some(bytes) => Some(number_in(bytes)),
-        None => None,
+    read_body_in(alloc, fields.as_slice())
+}
+
+/// The message that the fields of a body spell, or their first fault.
+pub fn read_message(alloc: Global, fields: &Fields) -> Result<Message, DictFault>
+    ensures { MatchResult result (λ m. Spells m fields.now) (IsFault (fault_in fields.now)) }
+{
+    read_fields(alloc, fields.as_slice())
+}
+
+// A right header, with nothing in it but what each header has.
+const PLAIN_HEADER: [Field<'static>; 4] = [
+    Field {
+        tag: 49,
+        value: b"S",
+    },
+    Field {
+        tag: 56,
+        value: b"T",
+    },
+    Field {
+        tag: 34,
+        value: b"1",
+    },
+    Field {
+        tag: 52,
+        value: b"19700101-00:00:00.000",
+    },
+];
+
+fn with_header<'a>(alloc: Global, fields: &[Field<'a>]) -> Result<Vec<Field<'a>>, AllocError>
+    ensures { IfOk result (λ all. entries all.items ≡ plain_header ++ entries fields.now) }
+{
+    let mut all = Vec::new(alloc);
+    all.extend_from_slice(&PLAIN_HEADER)?;
+    all.extend_from_slice(fields)?;
+    Ok(all)
+}
+
+// The application message that a body is.
+fn application(body: Body) -> App
+    requires { IsApp body }
+    ensures { body ≡ Body.App result }
+{
+    match body {
+        Body::App(app) => app.into_inner(),
+        Body::Admin(_) => unreachable!(),
     }
 }
 
-fn quantity_in(bytes: &[u8]) -> Quantity
-    ensures { result ≡ quantity_in bytes.now }
+/// The application message that fields without a header spell, as `print_app` writes them, or their first fault. The
+/// header's optional fields may stand there, once and in their form, and are not kept.
+pub fn read_app(alloc: Global, fields: &Fields) -> Result<App, DictFault>
+    ensures { MatchResult result (λ a. SpellsApp a fields.now) (IsFault (app_fault_in fields.now)) }
 {
-    match read_quantity(bytes) {
-        Ok(quantity) => Quantity::new(quantity),
-        Err(_) => Quantity::new(1),
+    if is_session(type_of(bytes_at(fields.as_slice(), 35))) {
+        return Err(DictFault::Format(35));
     }
-}
-
-pub(crate) fn quantity(fields: &[Field], tag: u32) -> Quantity
-    ensures { result ≡ quantity_in (bytes_at tag (entries fields.now)) }
-{
-    quantity_in(bytes_at(fields, tag))
-}
-
-pub(crate) fn optional_quantity(fields: &[Field], tag: u32) -> Option<Quantity>
-    ensures { result ≡ told quantity_in (value_of tag (entries fields.now)) }
-{
-    match value_of(fields, tag) {
-        Some(bytes) => Some(quantity_in(bytes)),
-        None => None,
-    }
-}
-
-fn amount_in(bytes: &[u8]) -> Amount
-    ensures { result ≡ amount_in bytes.now }
-{
-    match read_amount(bytes) {
-        Ok(amount) => Amount::new(amount),
-        Err(_) => Amount::new(0),
-    }
-}
-
-pub(crate) fn amount(fields: &[Field], tag: u32) -> Amount
-    ensures { result ≡ amount_in (bytes_at tag (entries fields.now)) }
-{
-    amount_in(bytes_at(fields, tag))
-}
-
-pub(crate) fn optional_amount(fields: &[Field], tag: u32) -> Option<Amount>
-    ensures { result ≡ told amount_in (value_of tag (entries fields.now)) }
-{
-    match value_of(fields, tag) {
-        Some(bytes) => Some(amount_in(bytes)),
-        None => None,
-    }
-}
-
-fn price_in(bytes: &[u8]) -> Price
-    ensures { result ≡ price_in bytes.now }
-{
-    match read_price(bytes) {
-        Ok(price) => Price::new(price),
-        Err(_) => Price::new(0),
-    }
-}
-
-pub(crate) fn optional_price(fields: &[Field], tag: u32) -> Option<Price>
-    ensures { result ≡ told price_in (value_of tag (entries fields.now)) }
-{
-    match value_of(fields, tag) {
-        Some(bytes) => Some(price_in(bytes)),
-        None => None,
-    }
-}
-
-fn character_in(bytes: &[u8]) -> FixChar
-    requires { value_fault form.Character bytes.now ≡ None }
-    ensures { result ≡ character_in bytes.now }
-{
-    FixChar::new(bytes[0])
-}
-
-pub(crate) fn character(fields: &[Field], tag: u32) -> FixChar
-    requires { RowHolds (needs tag form.Character) (value_of tag (entries fields.now)) }
-    ensures { result ≡ character_in (bytes_at tag (entries fields.now)) }
-{
-    character_in(bytes_at(fields, tag))
-}
-
-pub(crate) fn optional_character(fields: &[Field], tag: u32) -> Option<FixChar>
-    requires { RowHolds (takes tag form.Character) (value_of tag (entries fields.now)) }
-    ensures { result ≡ told character_in (value_of tag (entries fields.now)) }
-{
-    match value_of(fields, tag) {
-        Some(bytes) => Some(character_in(bytes)),
-        None => None,
-    }
-}
-
-pub(crate) fn side(fields: &[Field], tag: u32) -> Side
-    ensures { result ≡ side_in (bytes_at tag (entries fields.now)) }
-{
-    match bytes_at(fields, tag) {
-        [b'1', ..] => Side::Buy,
-        _ => Side::Sell,
-    }
-}
-
-pub(crate) fn optional_side(fields: &[Field], tag: u32) -> Option<Side>
-    ensures { result ≡ told side_in (value_of tag (entries fields.now)) }
-{
-    match value_of(fields, tag) {
-        Some([b'1', ..]) => Some(Side::Buy),
-        Some(_) => Some(Side::Sell),
-        None => None,
-    }
-}
-
-pub(crate) fn optional_flag(fields: &[Field], tag: u32) -> Option<bool>
-    ensures { result ≡ told flag_in (value_of tag (entries fields.now)) }
-{
-    match value_of(fields, tag) {
-        Some([b'Y', ..]) => Some(true),
-        Some(_) => Some(false),
-        None => None,
-    }
-}
-
-fn moment_in(bytes: &[u8]) -> Moment
-    requires { value_fault form.Utc bytes.now ≡ None }
-    ensures { result ≡ moment_of bytes.now }
-{
-    match read_utc(bytes) {
-        Ok(moment) => moment,
-        Err(_) => unreachable!(),
-    }
-}
-
-pub(crate) fn moment(fields: &[Field], tag: u32) -> Moment
-    requires { RowHolds (needs tag form.Utc) (value_of tag (entries fields.now)) }
-    ensures { result ≡ moment_of (bytes_at tag (entries fields.now)) }
-{
-    moment_in(bytes_at(fields, tag))
-}
-
-pub(crate) fn optional_moment(fields: &[Field], tag: u32) -> Option<Moment>
-    requires { RowHolds (takes tag form.Utc) (value_of tag (entries fields.now)) }
-    ensures { result ≡ told moment_of (value_of tag (entries fields.now)) }
-{
-    match value_of(fields, tag) {
-        Some(bytes) => Some(moment_in(bytes)),
-        None => None,
+    let Ok(all) = with_header(alloc, fields.as_slice()) else {
+        return Err(DictFault::NoMemory);
+    };
+    match read_body_in(alloc, &all) {
+        Ok(body) => Ok(application(body)),
+        Err(fault) => Err(fault),
     }
 }

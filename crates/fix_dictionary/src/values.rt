@@ -1,8 +1,9 @@
 //! The values of single fields.
-ghost use Rattle.std.specs.Prelude.{◌≡◌, ◌≤◌, ℕ, length, IfOk, IsTrue, bytes_eq};
+ghost use Rattle.std.specs.Prelude.{◌≡◌, ◌≤◌, ℕ, length, IfOk, IsTrue, None, Some, bytes_eq, if◌then◌else◌};
 ghost use Rattle.fix_dictionary.specs.Kinds.{IsOtherKind};
-ghost use Rattle.fix_dictionary.specs.Values.{IsText, zero_padded, is_graphic, IsFixInt, IsSequenceNumber, IsNewSequenceNumber, IsInterval, IsQuantity, IsAmount, IsPrice};
+ghost use Rattle.fix_dictionary.specs.Values.{IsText, is_text, zero_padded, is_graphic, IsFixInt, IsSequenceNumber, IsNewSequenceNumber, IsInterval, IsQuantity, IsAmount, IsPrice};
 
+use crate::forms::is_identifier;
 use std::alloc::{AllocError, Global};
 use std::marker::Model;
 
@@ -43,6 +44,17 @@ fn zero_padded(bytes: &[u8]) -> [u8; 64]
 }
 
 impl Identifier {
+    /// The identifier with these bytes, where they are one.
+    pub fn read(bytes: &[u8]) -> Option<Identifier>
+        ensures { result ≡ (if is_text 64 bytes.now then Some bytes.now else None) }
+    {
+        if is_identifier(bytes) {
+            Some(Identifier::from_slice(bytes))
+        } else {
+            None
+        }
+    }
+
     /// The identifier with these bytes.
     #[tactic(auto, using(crate::proofs::ValueLemmas::bytes_in_front))]
     pub fn from_slice(bytes: &[u8]) -> Identifier

@@ -8,7 +8,7 @@ ghost use Rattle.fix_session.specs.Body.{frame_in, kind_in};
 ghost use Rattle.fix_session.specs.Chain.{accepted, due_after, era_after, era_asked, Rises};
 ghost use Rattle.fix_session.specs.Eras.{EraBegins, IsReset, NoEraBegins};
 ghost use Rattle.fix_session.specs.Heard.{Heard};
-ghost use Rattle.fix_session.specs.Machine.{step, tick, sent, pushed, AtEnd};
+ghost use Rattle.fix_session.specs.Machine.{step, tick, sent, pushed, AtEnd, Grows};
 ghost use Rattle.fix_session.specs.Reader.{Reader};
 ghost use Rattle.fix_session.specs.Runs.{AreFirst, Event, begin, frames_since, replies, run};
 ghost use Rattle.fix_session.specs.Sent.{numbered};
@@ -66,6 +66,12 @@ pub fn sends_alone_number()
 /// A step answers Idle only where no frame is unread or the line is down.
 pub fn idle_at_the_end()
     ensures { (r : Reader) (s : State) (t : ℕ) → AtEnd r (step r s t).0 (step r s t).1 }
+{}
+
+/// A step or a tick answers App(n) exactly where the ready list grew by item n of the era.
+pub fn ready_grows()
+    ensures step { (r : Reader) (s : State) (t : ℕ) → Grows (era_of s.past) s.ready (step r s t).0.ready (step r s t).1 }
+    ensures tick { (s : State) (t : ℕ) → Grows (era_of s.past) s.ready (tick s t).0.ready (tick s t).1 }
 {}
 
 /// A step that did something leaves fewer bytes unread.

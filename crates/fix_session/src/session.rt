@@ -1,6 +1,6 @@
 //! The session itself.
 
-ghost use Rattle.std.specs.Prelude.{◌≡◌, ◌↔◌, ◌≤◌, ◌+◌, ◌∷◌, [], ◌++◌, max, length, IfOk, OnOk, OnErr, IfSome, IfNone, Some, OnSome, Err, slice_get, true};
+ghost use Rattle.std.specs.Prelude.{◌≡◌, ◌↔◌, ◌≤◌, ◌+◌, ◌∷◌, [], ◌++◌, max, length, IsOk, IfOk, OnOk, OnErr, IfSome, IfNone, Some, OnSome, Err, slice_get, true};
 ghost use Rattle.fix_session.specs.Machine as machine;
 ghost use Rattle.fix_session.specs.Reader.{Reader};
 ghost use Rattle.fix_session.specs.State.{fresh, resumed, broken};
@@ -63,9 +63,11 @@ impl Model for Session {
 }
 
 impl Session {
-    /// A session of ours with a peer, on a line that is down, with both numbers at 1.
+    /// A session of ours with a peer, on a line that is down, with both numbers at 1, and with nothing ready and nothing queued. It
+    /// takes no memory, and so it is never refused.
     pub fn new(alloc: Global, own: &Identifier, peer: &Identifier) -> Result<Session, AllocError>
-        ensures { IfOk result (λ session. session.state ≡ fresh (record { own = own.now; peer = peer.now })) }
+        ensures ok { IsOk result }
+        ensures state { IfOk result (λ session. session.state ≡ fresh (record { own = own.now; peer = peer.now })) }
     {
         Ok(Session {
             alloc,
@@ -104,6 +106,7 @@ impl Session {
     pub fn push_bytes(&mut self, piece: &[u8]) -> Result<(), AllocError>
         ensures ok { (r : Reader) → OnOk result (self.new.state ≡ machine.pushed r self.old.state piece.now) }
         ensures err { OnErr result (self.new.state ≡ self.old.state) }
+        ensures up { OnErr result (self.old.state.line.up ≡ true) }
     {
         if self.line.up {
             self.cutter.push(piece)?;
@@ -174,11 +177,13 @@ impl Session {
         self.wire.clear();
     }
 
-    /// Does what the next unread frame asks. A step that is refused leaves the frame unread.
+    /// Does what the next unread frame asks. A step that is refused leaves the frame unread; one that finds no frame on an up line
+    /// is not refused.
     pub fn step(&mut self, t: Moment) -> Result<Step, AllocError>
         ensures state { (r : Reader) → OnOk result (self.new.state ≡ (machine.step r self.old.state t).0) }
         ensures answer { (r : Reader) → IfOk result (λ answer. answer ≡ (machine.step r self.old.state t).1) }
         ensures err { OnErr result (self.new.state ≡ self.old.state) }
+        ensures frame { (r : Reader) → OnErr result (machine.HasFrame r self.old.state) }
     {
         let t = later(self.line.moment, t);
         if !self.line.up {
@@ -212,11 +217,12 @@ impl Session {
         Ok(plan.answer)
     }
 
-    /// Sends a heartbeat or a test where one is due, or drops a silent line.
+    /// Sends a heartbeat or a test where one is due, or drops a silent line. A tick that sends nothing is not refused.
     pub fn tick(&mut self, t: Moment) -> Result<Step, AllocError>
         ensures state { OnOk result (self.new.state ≡ (machine.tick self.old.state t).0) }
         ensures answer { IfOk result (λ answer. answer ≡ (machine.tick self.old.state t).1) }
         ensures err { OnErr result (self.new.state ≡ self.old.state) }
+        ensures due { OnErr result ((machine.tick self.old.state t).1 ≡ Step.Did) }
     {
         let t = later(self.line.moment, t);
         match self.line.asked_at(t) {
@@ -254,6 +260,7 @@ impl Session {
         ensures state { OnOk result (self.new.state ≡ (machine.sends_now self.old.state t message test_at).0) }
         ensures answer { IfOk result (λ answer. answer ≡ (machine.sends_now self.old.state t message test_at).1) }
         ensures err { OnErr result (self.new.state ≡ self.old.state) }
+        ensures due { OnErr result ((machine.sends_now self.old.state t message test_at).1 ≡ Step.Did) }
     {
         let number = self.store.next_number();
         if number > LAST_NUMBER {

@@ -1,4 +1,2 @@
 mod DelayLemmas
-mod DocumentLemmas
-mod ListLemmas
 mod SoundLemmas

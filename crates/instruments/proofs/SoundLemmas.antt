@@ -1,16 +1,18 @@
-use Rattle.std.proofs.Common.{◌≡◌, refl, sym, ap, ◌∙◌, ℕ, pos, nat_abs, int_lt, ◌^◌, Bool, true, false, not, ◌&&◌, nat_lt, nat_le, List, [], ◌∷◌, map, length, codes, Option, Some, None, is_none, is_some, Result, Ok, Err, IfOk, IfErr, IsUtf8, arith, le-leb}
+use Rattle.std.proofs.Common.{◌≡◌, refl, sym, ap, ◌∙◌, ℕ, pos, nat_abs, int_lt, ◌^◌, Bool, true, false, not, ◌&&◌, nat_lt, nat_le, List, [], ◌∷◌, map, length, codes, Option, Some, None, is_none, Result, Ok, Err, IfOk, IfErr, IsUtf8, arith}
 use Rattle.std.specs.List.{list_any, list_all}
 use Rattle.std.proofs.lemmas.Bool.{true≢false, and_parts, or_parts, not-false}
 use Rattle.std.proofs.lemmas.Bool.Decides.{nat_tests}
 use Rattle.std.proofs.lemmas.List.{length-map}
-use Rattle.toml.specs.Data.{Data, Members, no_items, item, string, integer, float, boolean, datetime, array, table, as_table, get}
+use Rattle.toml.specs.Data.{Data, Members, string, integer, float, boolean, datetime, array, table, as_table, get}
 use Rattle.toml.specs.Parse.{parse_document}
+use Rattle.venue_files.specs.Document.{is_no_list, is_no_name, is_without_entry, lacks, text_at}
+use Rattle.venue_files.proofs.DocumentLemmas.{key-there, name-there, some-entries}
 use Rattle.instruments.specs.declared.fault.FileFault.{FileFault}
 use Rattle.instruments.specs.declared.fault.FileFault.TheVariants.{NotToml, Missing, Twice, TooMany, BadValue, NoMemory}
 use Rattle.instruments.specs.declared.instruments.Instrument.{Instrument}
 use Rattle.instruments.specs.Symbols.{is_symbol}
 use Rattle.instruments.specs.Rows.{is_instrument, is_least, is_request_life, is_tick, most_instruments}
-use Rattle.instruments.specs.Document.{entries_in, is_no_list, is_no_number, is_no_symbol, is_without_entry, lacks, number_at, number_in, stated_or, text_at, text_in}
+use Rattle.instruments.specs.Numbers.{is_no_number, number_at, number_in, stated_or}
 use Rattle.instruments.specs.Reading.{IsFaultOf, Reads, Refuses, has_bad_value, has_too_many, instruments, is_bad_instrument, is_missing, read_of, row_of, rows, rows_of, usual_delay}
 
 -- A document without the first faults has the rows of instruments.
@@ -19,18 +21,7 @@ both : (a b : Bool) → a ≡ true → b ≡ true → (a && b) ≡ true
 both true b h k = k
 both false b h k = absurd (true≢false (sym h))
 
--- what is there and is no value that is no symbol, is a symbol
-symbol_there : (o : Option Data) → is_none o ≡ false → is_no_symbol o ≡ false → is_symbol (text_in o) ≡ true
-symbol_there None h k = absurd (true≢false h)
-symbol_there (Some (string s)) h k = not-false (is_symbol s) k
-symbol_there (Some (integer z)) h k = absurd (true≢false k)
-symbol_there (Some (float x)) h k = absurd (true≢false k)
-symbol_there (Some (boolean b)) h k = absurd (true≢false k)
-symbol_there (Some (datetime d)) h k = absurd (true≢false k)
-symbol_there (Some (array ds)) h k = absurd (true≢false k)
-symbol_there (Some (table ms)) h k = absurd (true≢false k)
-
--- and so a number
+-- what is there and is no value that is no number, is a number
 number_there : (low high : ℕ) (o : Option Data) → is_none o ≡ false → is_no_number low high o ≡ false → (nat_le low (number_in o) && nat_le (number_in o) high) ≡ true
 number_there low high None h k = absurd (true≢false h)
 number_there low high (Some (integer z)) h k = not-false (nat_le low (nat_abs z) && nat_le (nat_abs z) high) (or_parts (int_lt z (pos 0)) (not (nat_le low (nat_abs z) && nat_le (nat_abs z) high)) k).1
@@ -52,22 +43,6 @@ number_left_out low high usual (Some (datetime d)) u k = absurd (true≢false k)
 number_left_out low high usual (Some (array ds)) u k = absurd (true≢false k)
 number_left_out low high usual (Some (table ms)) u k = absurd (true≢false k)
 
--- of a table that does not lack the key
-key_there : (t : Option Members) (o : Option Data) → is_none t ≡ false → (is_some t && is_none o) ≡ false → is_none o ≡ false
-key_there None o h k = absurd (true≢false h)
-key_there (Some t) o h k = k
-
-some_entries : (o : Option Data) → is_none o ≡ false → is_without_entry o ≡ false → is_no_list o ≡ false → nat_le 1 (length (entries_in o)) ≡ true
-some_entries None h k n = absurd (true≢false h)
-some_entries (Some (array no_items)) h k n = absurd (true≢false k)
-some_entries (Some (array (item d ds))) h k n = le-leb 1 _ (omega arith)
-some_entries (Some (string s)) h k n = absurd (true≢false n)
-some_entries (Some (integer z)) h k n = absurd (true≢false n)
-some_entries (Some (float x)) h k n = absurd (true≢false n)
-some_entries (Some (boolean b)) h k n = absurd (true≢false n)
-some_entries (Some (datetime d)) h k n = absurd (true≢false n)
-some_entries (Some (table ms)) h k n = absurd (true≢false n)
-
 -- no entry lacks a key
 record Whole (ds : List Data) : Type 0 where
   symbol : list_any (lacks (codes "symbol")) ds ≡ false
@@ -78,14 +53,14 @@ record Whole (ds : List Data) : Type 0 where
 good_row : (d : Data) → lacks (codes "symbol") d ≡ false → lacks (codes "tick") d ≡ false → lacks (codes "least") d ≡ false → lacks (codes "rfq_life") d ≡ false → is_bad_instrument d ≡ false → is_instrument (row_of d) ≡ true
 good_row d s t l f bad =
     let b1 = or_parts (is_none (as_table d)) _ bad in
-    let b2 = or_parts (is_no_symbol (get (codes "symbol") d)) _ b1.1 in
+    let b2 = or_parts (is_no_name (get (codes "symbol") d)) _ b1.1 in
     let b3 = or_parts (is_no_number 1 (10 ^ 12) (get (codes "tick") d)) _ b2.1 in
     let b4 = or_parts (is_no_number 1 (10 ^ 15) (get (codes "least") d)) _ b3.1 in
     let b5 = or_parts (is_no_number 1 86400 (get (codes "rfq_life") d)) (is_no_number 1000 3600000 (get (codes "delay_ms") d)) b4.1 in
-    both (is_symbol (text_at (codes "symbol") d)) _ (symbol_there (get (codes "symbol") d) (key_there (as_table d) (get (codes "symbol") d) b1.0 s) b2.0)
-    (both (is_tick (number_at (codes "tick") d)) _ (number_there 1 (10 ^ 12) (get (codes "tick") d) (key_there (as_table d) (get (codes "tick") d) b1.0 t) b3.0)
-    (both (is_least (number_at (codes "least") d)) _ (number_there 1 (10 ^ 15) (get (codes "least") d) (key_there (as_table d) (get (codes "least") d) b1.0 l) b4.0)
-    (both (is_request_life (number_at (codes "rfq_life") d)) _ (number_there 1 86400 (get (codes "rfq_life") d) (key_there (as_table d) (get (codes "rfq_life") d) b1.0 f) b5.0)
+    both (is_symbol (text_at (codes "symbol") d)) _ (name-there (get (codes "symbol") d) (key-there (as_table d) (get (codes "symbol") d) b1.0 s) b2.0)
+    (both (is_tick (number_at (codes "tick") d)) _ (number_there 1 (10 ^ 12) (get (codes "tick") d) (key-there (as_table d) (get (codes "tick") d) b1.0 t) b3.0)
+    (both (is_least (number_at (codes "least") d)) _ (number_there 1 (10 ^ 15) (get (codes "least") d) (key-there (as_table d) (get (codes "least") d) b1.0 l) b4.0)
+    (both (is_request_life (number_at (codes "rfq_life") d)) _ (number_there 1 86400 (get (codes "rfq_life") d) (key-there (as_table d) (get (codes "rfq_life") d) b1.0 f) b5.0)
     (number_left_out 1000 3600000 usual_delay (get (codes "delay_ms") d) refl b5.1))))
 
 good_rows : (ds : List Data) → Whole ds → list_any is_bad_instrument ds ≡ false → list_all is_instrument (map row_of ds) ≡ true
@@ -126,7 +101,7 @@ sound file missing bad many =
     let b1 = or_parts (is_no_list (get (codes "instrument") file)) (list_any is_bad_instrument (instruments file)) bad in
     let good = good_rows (instruments file) (record { symbol = m3.0; tick = m4.0; least = m5.0; life = m5.1 }) b1.1 in
     record {
-      some = ap (nat_le 1) (length-map (instruments file) row_of) ∙ some_entries (get (codes "instrument") file) m1.0 m2.0 b1.0;
+      some = ap (nat_le 1) (length-map (instruments file) row_of) ∙ some-entries (get (codes "instrument") file) m1.0 m2.0 b1.0;
       few = ap (λ n. nat_le n most_instruments) (length-map (instruments file) row_of) ∙ few_of (length (instruments file)) many;
       all = good;
       symbols = symbols_of (instruments file) good;

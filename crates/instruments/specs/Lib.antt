@@ -6,7 +6,7 @@ pub mod Rows
 pub mod Listing
 -- other delays for the instruments of a file
 pub mod Delays
--- what a TOML document has at its keys
-pub mod Document
+-- what numbers a TOML document has at its keys
+pub mod Numbers
 -- what a file says, and its faults
 pub mod Reading

@@ -6,7 +6,8 @@ use Rattle.instruments.specs.declared.fault.FileFault.{FileFault}
 use Rattle.instruments.specs.declared.fault.FileFault.TheVariants.{NotToml, Missing, Twice, TooMany, BadValue, NoMemory}
 use Rattle.instruments.specs.declared.instruments.Instrument.{Instrument}
 use Rattle.instruments.specs.Rows.{are_distinct, most_instruments}
-use Rattle.instruments.specs.Document.{entries_in, is_no_list, is_no_number, is_no_symbol, is_without_entry, lacks, number_at, number_or, text_at}
+use Rattle.venue_files.specs.Document.{entries_in, is_no_list, is_no_name, is_without_entry, lacks, text_at}
+use Rattle.instruments.specs.Numbers.{is_no_number, number_at, number_or}
 
 -- What an instrument file says, as a TOML document.
 
@@ -40,7 +41,7 @@ is_missing file =
 abbrev pub is_bad_instrument : Data → Bool
 is_bad_instrument entry =
     is_none (as_table entry)
-    || (is_no_symbol (get (codes "symbol") entry)
+    || (is_no_name (get (codes "symbol") entry)
     || (is_no_number 1 (10 ^ 12) (get (codes "tick") entry)
     || (is_no_number 1 (10 ^ 15) (get (codes "least") entry)
     || (is_no_number 1 86400 (get (codes "rfq_life") entry)

@@ -1,5 +1,6 @@
-use Rattle.std.specs.Prelude.{ℕ, ◌^◌, Bool, true, not, ◌&&◌, nat_le, List, [], ◌∷◌, length, bytes_eq}
-use Rattle.std.specs.List.{list_all, list_any}
+use Rattle.std.specs.Prelude.{ℕ, ◌^◌, Bool, ◌&&◌, nat_le, List, length, bytes_eq}
+use Rattle.std.specs.List.{list_all}
+use Rattle.venue_files.specs.Rows.{are_distinct_by}
 use Rattle.instruments.specs.declared.instruments.Instrument.{Instrument}
 use Rattle.instruments.specs.Symbols.{is_symbol}
 
@@ -25,11 +26,6 @@ is_delay n = nat_le 1000 n && nat_le n 3600000
 
 abbrev pub is_instrument : Instrument → Bool
 is_instrument x = is_symbol x.symbol && (is_tick x.tick && (is_least x.least && (is_request_life x.request_life && is_delay x.delay)))
-
--- no two members of a list are the same
-abbrev pub are_distinct_by : {X : Type 0} → (X → X → Bool) → List X → Bool
-are_distinct_by same [] = true
-are_distinct_by same (x ∷ xs) = not (list_any (same x) xs) && are_distinct_by same xs
 
 abbrev pub is_same_symbol : Instrument → Instrument → Bool
 is_same_symbol x y = bytes_eq x.symbol y.symbol

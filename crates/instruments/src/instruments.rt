@@ -8,10 +8,10 @@ ghost use Rattle.instruments.specs.Rows.{is_delay, is_instrument, is_instrument_
 
 use crate::fault::FileFault;
 use crate::reading::read_document;
-use crate::symbol::Symbol;
 use std::alloc::{AllocError, Global};
 use std::marker::Model;
 use toml::Value;
+use venue_files::Name as Symbol;
 
 /// One listed instrument.
 #[derive(Drop)]
@@ -58,10 +58,10 @@ fn place_of(rows: &[Instrument], symbol: &[u8]) -> usize
 }
 
 impl Instruments {
-    /// The file of these rows, which keep its rules.
+    /// The file of these rows, which keep its rules. It takes no memory, and so is never refused.
     pub fn from_rows(_alloc: Global, rows: Vec<Instrument>) -> Result<Instruments, AllocError>
         requires { is_instrument_file rows.items ≡ true }
-        ensures { IfOk result (λ file. file ≡ rows.items) }
+        ensures { result ≡ Ok rows.items }
     {
         Ok(Instruments { rows })
     }

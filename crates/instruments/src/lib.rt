@@ -2,12 +2,11 @@
 #![tactic(auto)]
 
 mod delays;
-mod document;
 mod fault;
 mod instruments;
+mod numbers;
 mod reading;
-mod symbol;
 
 pub use fault::{DelayFault, FileFault};
 pub use instruments::{Instrument, Instruments};
-pub use symbol::Symbol;
+pub use venue_files::Name as Symbol;

@@ -1,23 +1,22 @@
 //! The instrument file as a TOML document: its faults in order, and its rows.
 
-ghost use Rattle.std.specs.Prelude.{◌≡◌, ◌^◌, true, codes, is_none, length, map, nat_le, Ok, IfOk, IfErr};
+ghost use Rattle.std.specs.Prelude.{◌≡◌, ◌^◌, true, codes, length, map, nat_le, Ok, IfOk, IfErr};
 ghost use Rattle.std.specs.List.{list_all, list_any};
-ghost use Rattle.toml.specs.Data.{get};
 ghost use Rattle.toml.specs.View.{view};
 ghost use Rattle.instruments.specs.Symbols.{is_symbol};
 ghost use Rattle.instruments.specs.Rows.{are_distinct, is_instrument, is_instrument_file, is_same_symbol, most_instruments};
-ghost use Rattle.instruments.specs.Document.{entries_in, lacks, text_at};
+ghost use Rattle.venue_files.specs.Document.{text_at};
 ghost use Rattle.instruments.specs.Reading.{Refuses, has_bad_value, has_too_many, instruments, is_bad_instrument, is_missing, read_of, row_of, rows_of};
 
-use crate::document::{
-    entries, is_no_list, is_no_number, is_no_symbol, is_without_entry, lacks, number_at, number_or,
-    text_at,
-};
 use crate::fault::FileFault;
 use crate::instruments::{Instrument, Instruments};
-use crate::symbol::Symbol;
+use crate::numbers::{is_no_number, number_at, number_or};
 use std::alloc::{AllocError, Global};
 use toml::Value;
+use venue_files::{
+    Name as Symbol, entries, is_absent, is_no_list, is_no_name, is_without_entry, list_lacks,
+    text_at,
+};
 
 /// How many instruments a file may list.
 const MOST_INSTRUMENTS: usize = 256;
@@ -25,41 +24,23 @@ const MOST_INSTRUMENTS: usize = 256;
 /// The delay between linked orders where the file states none, in milliseconds (17 CFR 37.9(b)(1)).
 const USUAL_DELAY: u64 = 15_000;
 
-fn is_absent(file: &Value, key: &str) -> bool
-    ensures { result ≡ is_none (get key.now (view file.now)) }
-{
-    file.get(key).is_none()
-}
-
-fn any_lacks(list: &[Value], key: &str) -> bool
-    ensures { result ≡ list_any (λ entry. lacks key.now (view entry)) list.now }
-{
-    list.iter().any(|entry| lacks(entry, key))
-}
-
-fn one_lacks(file: &Value, key: &str) -> bool
-    ensures { result ≡ list_any (lacks key.now) (instruments (view file.now)) }
-{
-    any_lacks(entries(file, "instrument"), key)
-}
-
 /// Whether a key is absent that has to be there, or the list has no entry.
 pub(crate) fn is_missing(file: &Value) -> bool
     ensures { result ≡ is_missing (view file.now) }
 {
     is_absent(file, "instrument")
         || is_without_entry(file, "instrument")
-        || one_lacks(file, "symbol")
-        || one_lacks(file, "tick")
-        || one_lacks(file, "least")
-        || one_lacks(file, "rfq_life")
+        || list_lacks(file, "instrument", "symbol")
+        || list_lacks(file, "instrument", "tick")
+        || list_lacks(file, "instrument", "least")
+        || list_lacks(file, "instrument", "rfq_life")
 }
 
 fn is_bad_instrument(entry: &Value) -> bool
     ensures { result ≡ is_bad_instrument (view entry.now) }
 {
     !entry.is_table()
-        || is_no_symbol(entry, "symbol")
+        || is_no_name(entry, "symbol")
         || is_no_number(entry, "tick", 1, 1_000_000_000_000)
         || is_no_number(entry, "least", 1, 1_000_000_000_000_000)
         || is_no_number(entry, "rfq_life", 1, 86_400)

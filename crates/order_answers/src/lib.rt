@@ -20,7 +20,7 @@ pub use counts::Counts;
 pub use entering::enter;
 pub use laws::parts_are_read_alone;
 pub use messages::unprocessed;
-pub use orders::plan_order;
+pub use orders::{is_limit, plan_order};
 pub use prices::plan_prices;
 pub use replacing::plan_replace;
 pub use used::is_used;

@@ -9,7 +9,7 @@ ghost use Rattle.order_answers.specs.Parts.{answer_of};
 use crate::answer::OrderAnswer;
 use fix_dictionary::{App, Identifier};
 use std::alloc::{AllocError, Global};
-use venue_rules::{BusinessRefusal, Reply, Taken, Unprocessed, What};
+use venue_rules::{BusinessRefusal, Reply, Taken};
 
 /// The type (35) of a message.
 fn type_of(app: &App) -> &[u8]
@@ -47,12 +47,7 @@ pub fn unprocessed(
     ensures quiet { IfOk result (λ a. (a.book ≡ []) × (a.delay ≡ [])) }
 {
     let kind = Identifier::from_slice(type_of(taken.item.app.get()));
-    let what = What::Unprocessed(Unprocessed {
-        number: taken.item.number,
-        kind,
-        cause,
-    });
-    let to = taken.from;
-    let replies = vec![in alloc; Reply { to, what }]?;
+    let reply = Reply::unprocessed(taken.from, taken.item.number, kind, cause);
+    let replies = vec![in alloc; reply]?;
     Ok(OrderAnswer::of_replies(alloc, replies))
 }

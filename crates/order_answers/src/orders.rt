@@ -43,7 +43,7 @@ struct Terms {
 }
 
 /// OrdType (40) is 2, a limit order.
-pub(crate) fn is_limit(order_type: FixChar) -> bool
+pub fn is_limit(order_type: FixChar) -> bool
     ensures { result ≡ is_limit order_type }
 {
     order_type.get() == b'2'

@@ -1,49 +1,23 @@
-use Rattle.std.proofs.Common.{◌≡◌, refl, sym, ap, ◌∙◌, ℕ, Bool, true, false, not, ◌&&◌, ◌||◌, nat_lt, nat_le, List, [], ◌∷◌, map, length, codes, Option, Some, None, is_none, is_some, bytes_eq, Result, Ok, Err, IfOk, IfErr, IsUtf8, arith, le-leb}
+use Rattle.std.proofs.Common.{◌≡◌, refl, sym, ap, ◌∙◌, ℕ, Bool, true, false, not, ◌||◌, nat_lt, nat_le, List, [], ◌∷◌, map, length, codes, Some, is_none, bytes_eq, Result, Ok, Err, IfOk, IfErr, IsUtf8, arith}
 use Rattle.std.specs.List.{list_any, list_all}
-use Rattle.std.proofs.lemmas.Bool.{true≢false, or_parts, not-false}
+use Rattle.std.proofs.lemmas.Bool.{true≢false, or_parts}
 use Rattle.std.proofs.lemmas.Bool.Decides.{nat_tests}
-use Rattle.toml.specs.Data.{Data, Members, no_items, item, string, integer, float, boolean, datetime, array, table, as_table, get}
+use Rattle.toml.specs.Data.{Data, Members, table, as_table, get}
 use Rattle.toml.specs.Parse.{parse_document}
+use Rattle.venue_files.specs.Document.{is_no_list, is_no_name, is_without_entry, lacks, text_at}
+use Rattle.venue_files.proofs.DocumentLemmas.{key-there, name-there, some-entries}
 use Rattle.participants.specs.declared.fault.FileFault.{FileFault}
 use Rattle.participants.specs.declared.fault.FileFault.TheVariants.{NotToml, Missing, Twice, UnknownName, TooMany, BadValue, NoMemory}
 use Rattle.participants.specs.ParticipantFile.{ParticipantFile}
 use Rattle.participants.specs.Names.{is_name}
 use Rattle.participants.specs.Rows.{most_participants}
-use Rattle.participants.specs.Document.{entries_in, is_no_list, is_no_name, is_without_entry, lacks, text_at, text_in}
 use Rattle.participants.specs.Reading.{IsFaultOf, Reads, Refuses, has_bad_value, has_too_many, is_apart, is_bad_pair, is_bad_participant, is_missing, named, named_pairs, names, participants, read_of, related_pairs, rows_of, venue_name}
 use Rattle.participants.proofs.RowLemmas.{both}
 
 -- A document without the first faults has names where they have to be.
 
--- what is there and is no value that is no name, is a name
-name_there : (o : Option Data) → is_none o ≡ false → is_no_name o ≡ false → is_name (text_in o) ≡ true
-name_there None h k = absurd (true≢false h)
-name_there (Some (string s)) h k = not-false (is_name s) k
-name_there (Some (integer z)) h k = absurd (true≢false k)
-name_there (Some (float x)) h k = absurd (true≢false k)
-name_there (Some (boolean b)) h k = absurd (true≢false k)
-name_there (Some (datetime d)) h k = absurd (true≢false k)
-name_there (Some (array ds)) h k = absurd (true≢false k)
-name_there (Some (table ms)) h k = absurd (true≢false k)
-
--- of a table that does not lack the key
-key_there : (t : Option Members) (o : Option Data) → is_none t ≡ false → (is_some t && is_none o) ≡ false → is_none o ≡ false
-key_there None o h k = absurd (true≢false h)
-key_there (Some t) o h k = k
-
 name_of_entry : (key : List ℕ) (e : Data) → is_none (as_table e) ≡ false → lacks key e ≡ false → is_no_name (get key e) ≡ false → is_name (text_at key e) ≡ true
-name_of_entry key e h k n = name_there (get key e) (key_there (as_table e) (get key e) h k) n
-
-some_entries : (o : Option Data) → is_none o ≡ false → is_without_entry o ≡ false → is_no_list o ≡ false → nat_le 1 (length (entries_in o)) ≡ true
-some_entries None h k n = absurd (true≢false h)
-some_entries (Some (array no_items)) h k n = absurd (true≢false k)
-some_entries (Some (array (item d ds))) h k n = le-leb 1 _ (omega arith)
-some_entries (Some (string s)) h k n = absurd (true≢false n)
-some_entries (Some (integer z)) h k n = absurd (true≢false n)
-some_entries (Some (float x)) h k n = absurd (true≢false n)
-some_entries (Some (boolean b)) h k n = absurd (true≢false n)
-some_entries (Some (datetime d)) h k n = absurd (true≢false n)
-some_entries (Some (table ms)) h k n = absurd (true≢false n)
+name_of_entry key e h k n = name-there (get key e) (key-there (as_table e) (get key e) h k) n
 
 names_of_entries : (ds : List Data) → list_any (lacks (codes "name")) ds ≡ false → list_any is_bad_participant ds ≡ false → list_all (λ e. is_name (text_at (codes "name") e)) ds ≡ true
 names_of_entries [] h k = refl
@@ -117,8 +91,8 @@ sound file missing bad many =
     let b3 = or_parts (list_any is_bad_participant (participants file)) _ b2.1 in
     let b4 = or_parts (is_no_list (get (codes "related") file)) (list_any is_bad_pair (related_pairs file)) b3.1 in
     record {
-      venue = name_there (get (codes "venue") file) m1.0 b1.0;
-      some = some_entries (get (codes "participant") file) m2.0 m3.0 b2.0;
+      venue = name-there (get (codes "venue") file) m1.0 b1.0;
+      some = some-entries (get (codes "participant") file) m2.0 m3.0 b2.0;
       few = few_of (length (participants file)) many;
       all = names_of_entries (participants file) m4.0 b3.0;
       first = firsts (related_pairs file) m6.0 b4.1;

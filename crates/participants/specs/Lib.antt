@@ -4,8 +4,6 @@ pub mod Names
 pub mod ParticipantFile
 -- what rows a file may have
 pub mod Rows
--- what a TOML document has at its keys
-pub mod Document
 -- what a file says, and its faults
 pub mod Reading
 -- who is related to whom, and which recipients are enough

@@ -5,8 +5,9 @@ use Rattle.toml.specs.Parse.{parse_document}
 use Rattle.participants.specs.declared.fault.FileFault.{FileFault}
 use Rattle.participants.specs.declared.fault.FileFault.TheVariants.{NotToml, Missing, Twice, UnknownName, TooMany, BadValue, NoMemory}
 use Rattle.participants.specs.ParticipantFile.{ParticipantFile}
-use Rattle.participants.specs.Rows.{are_distinct, are_distinct_by, most_participants}
-use Rattle.participants.specs.Document.{entries_in, is_no_list, is_no_name, is_without_entry, lacks, text_at}
+use Rattle.participants.specs.Rows.{are_distinct, most_participants}
+use Rattle.venue_files.specs.Rows.{are_distinct_by}
+use Rattle.venue_files.specs.Document.{entries_in, is_no_list, is_no_name, is_without_entry, lacks, text_at}
 
 -- What a participant file says, as a TOML document.
 

@@ -1,16 +1,12 @@
-use Rattle.std.specs.Prelude.{ℕ, Bool, true, not, ◌&&◌, ◌||◌, ◌==◌, nat_le, nat_lt, List, [], ◌∷◌, length, bytes_eq}
-use Rattle.std.specs.List.{list_all, list_any}
+use Rattle.std.specs.Prelude.{ℕ, Bool, not, ◌&&◌, ◌||◌, ◌==◌, nat_le, nat_lt, List, ◌∷◌, length, bytes_eq}
+use Rattle.std.specs.List.{list_all}
+use Rattle.venue_files.specs.Rows.{are_distinct_by}
 use Rattle.participants.specs.ParticipantFile.{ParticipantFile}
 use Rattle.participants.specs.Names.{is_name}
 
 -- how many participants a file may name
 abbrev pub most_participants : ℕ
 most_participants = 32
-
--- no two members of a list are the same
-abbrev pub are_distinct_by : {X : Type 0} → (X → X → Bool) → List X → Bool
-are_distinct_by same [] = true
-are_distinct_by same (x ∷ xs) = not (list_any (same x) xs) && are_distinct_by same xs
 
 -- no name stands twice
 abbrev pub are_distinct : List (List ℕ) → Bool

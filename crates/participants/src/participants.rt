@@ -9,13 +9,13 @@ ghost use Rattle.participants.specs.Reading.{IsFaultOf, Reads};
 ghost use Rattle.participants.specs.Relations.{apart, are_unrelated, find_participant, name_of, related, three_unrelated, Tells};
 
 use crate::fault::FileFault;
-use crate::name::Name;
 use crate::reading::read_document;
 use crate::table::related_table;
 use crate::who::Who;
 use std::alloc::{AllocError, Global};
 use std::marker::Model;
 use toml::Value;
+use venue_files::Name;
 
 /// The venue's name, the participants in the file's order, and the related pairs by their places.
 #[derive(Drop)]

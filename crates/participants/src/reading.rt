@@ -1,42 +1,24 @@
 //! The participant file as a TOML document: its faults in order, and its rows.
 
-ghost use Rattle.std.specs.Prelude.{◌≡◌, ◌≤◌, true, codes, is_none, length, map, nat_le, bytes_eq, Ok, IfOk, IfErr};
+ghost use Rattle.std.specs.Prelude.{◌≡◌, ◌≤◌, true, codes, length, map, nat_le, bytes_eq, Ok, IfOk, IfErr};
 ghost use Rattle.std.specs.List.{list_all, list_any, position_or_len};
-ghost use Rattle.toml.specs.Data.{get};
 ghost use Rattle.toml.specs.View.{view};
 ghost use Rattle.participants.specs.Names.{is_name};
 ghost use Rattle.participants.specs.Rows.{are_distinct, most_participants};
-ghost use Rattle.participants.specs.Document.{entries_in, lacks, text_at};
+ghost use Rattle.venue_files.specs.Document.{text_at};
 ghost use Rattle.participants.specs.Reading.{Refuses, are_distinct_named, has_bad_value, has_too_many, has_twice, has_unknown, is_apart, is_bad_pair, is_bad_participant, is_known, is_missing, is_same_named, named, participants, places, read_of, related_pairs, rows_of};
 
-use crate::document::{entries, is_no_list, is_no_name, is_without_entry, lacks, text_at};
 use crate::fault::FileFault;
-use crate::name::Name;
 use crate::participants::{Participants, place_of};
 use crate::who::Who;
 use std::alloc::{AllocError, Global};
 use toml::Value;
+use venue_files::{
+    Name, entries, is_absent, is_no_list, is_no_name, is_without_entry, list_lacks, text_at,
+};
 
 /// How many participants a file may name.
 const MOST_PARTICIPANTS: usize = 32;
-
-fn is_absent(file: &Value, key: &str) -> bool
-    ensures { result ≡ is_none (get key.now (view file.now)) }
-{
-    file.get(key).is_none()
-}
-
-fn any_lacks(list: &[Value], key: &str) -> bool
-    ensures { result ≡ list_any (λ entry. lacks key.now (view entry)) list.now }
-{
-    list.iter().any(|entry| lacks(entry, key))
-}
-
-fn list_lacks(file: &Value, list: &str, key: &str) -> bool
-    ensures { result ≡ list_any (lacks key.now) (entries_in (get list.now (view file.now))) }
-{
-    any_lacks(entries(file, list), key)
-}
 
 /// Whether a key is absent that has to be there, or a list has no entry.
 pub(crate) fn is_missing(file: &Value) -> bool

@@ -60,10 +60,6 @@ fn snapshot(alloc: Global, entries: &[PictureEntry]) -> Result<Vec<MarketDataEnt
 pub(crate) fn prices(alloc: Global, r: &Prices) -> Result<App, AllocError>
     ensures { IfOk result (λ app. app ≡ message (what.Prices r.now)) }
 {
-    // Until the type of a picture says so, that it has at most 400 entries is looked for here.
-    if 400 < r.entries.as_slice().len() {
-        return Err(AllocError);
-    }
     let entries = snapshot(alloc, r.entries.as_slice())?;
     Ok(App::MarketDataSnapshot(MarketDataSnapshot {
         request_id: r.request_id,

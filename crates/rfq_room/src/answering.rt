@@ -1,6 +1,5 @@
 //! An answer to a quote (QuoteResponse, AJ).
 ghost use Rattle.std.specs.Prelude.{◌≡◌, IfOk, IfErr};
-ghost use Rattle.venue_rules.specs.Entering.{buyer};
 ghost use Rattle.venue_rules.specs.Responses.{hit_trade, is_other_side, price_for, taken_side};
 ghost use Rattle.rfq_room.specs.Causes.{decide, decide_room, hit_on, is_supported, refused_by};
 ghost use Rattle.rfq_room.specs.Plans.{IsResponsePlan, IsResponsePlanned, hit_plan, pass_plan, sender};
@@ -15,7 +14,7 @@ use fix_dictionary::{Price, QuoteResponse, Side};
 use participants::Who;
 use sef_moment::Moment;
 use std::alloc::{AllocError, Global};
-use venue_rules::{Closing, Fact, Place, Room, RoomQuote, Trade};
+use venue_rules::{Closing, Fact, Place, Room, RoomQuote, Trade, buyer};
 
 // QuoteRespType (694) is 1, a hit, or 6, a pass.
 fn is_supported(response: &QuoteResponse) -> bool
@@ -98,15 +97,6 @@ fn decide_room(
         return Decision::Refuse(ResponseCause::OtherSide);
     }
     hit_on(quote, taken_side(room.side, response.side))
-}
-
-fn buyer(side: Side, requester: Who, maker: Who) -> Who
-    ensures { result ≡ buyer side requester maker }
-{
-    match side {
-        Side::Buy => requester,
-        Side::Sell => maker,
-    }
 }
 
 // The trade of a hit: of the asked quantity, at the quote's price.

@@ -2,7 +2,6 @@
 ghost use Rattle.std.specs.Prelude.{◌≡◌, ◌<◌, ◌≤◌, ◌^◌, ℕ, [], ◌∷◌, true, codes, length, option_map, IfOk, IfSome, IsSome};
 ghost use Rattle.participants.specs.ParticipantFile.{ParticipantFile};
 ghost use Rattle.venue_rules.specs.Answer.{answers};
-ghost use Rattle.venue_rules.specs.Book.{opposite};
 ghost use Rattle.venue_rules.specs.Facts.{History, trades};
 ghost use Rattle.venue_rules.specs.Responses.{answer_response, response_status};
 ghost use Rattle.venue_rules.specs.Rooms.{find_quote};
@@ -22,7 +21,7 @@ use crate::listing::symbol_in;
 use crate::sender::Sender;
 use crate::unprocessed::unprocessed;
 use crate::withdrawals::to_maker;
-use fix_dictionary::{Identifier, QuoteResponse, Side};
+use fix_dictionary::{Identifier, QuoteResponse};
 use instruments::Instruments;
 use participants::Who;
 use rfq_room::{Cause, Hit, ResponseCause, RoomPlan, Rooms, rooms_decide};
@@ -30,7 +29,7 @@ use sef_moment::Moment;
 use std::alloc::{AllocError, Global};
 use venue_rules::{
     BusinessRefusal, QuoteState, QuoteStatus, Reply, ResponseRefusal, Room, RoomQuote, RoomReport,
-    What, symbol_of,
+    What, opposite, symbol_of,
 };
 
 // The requester's identifier of the request of a room, where there is one.
@@ -184,15 +183,6 @@ fn passed(
     let own = status(instruments, sender, response, Some(room), state);
     let makers = to_maker(room, &symbol, quote, QuoteState::Passed);
     both(alloc, own, makers)
-}
-
-fn opposite(side: Side) -> Side
-    ensures { result ≡ opposite side }
-{
-    match side {
-        Side::Buy => Side::Sell,
-        Side::Sell => Side::Buy,
-    }
 }
 
 // The hit as the maker has it.

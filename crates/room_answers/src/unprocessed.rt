@@ -9,7 +9,7 @@ use crate::sender::Sender;
 use fix_dictionary::Identifier;
 use rfq_room::RoomPlan;
 use std::alloc::{AllocError, Global};
-use venue_rules::{BusinessRefusal, Reply, Unprocessed, What};
+use venue_rules::{BusinessRefusal, Reply};
 
 /// The message of this type is not processed, for this cause.
 pub(crate) fn unprocessed(
@@ -21,12 +21,8 @@ pub(crate) fn unprocessed(
     requires { IsText 64 kind.now }
     ensures { IfOk result (λ a. a ≡ unprocessed (sent_by sender kind.now) cause) }
 {
-    let what = What::Unprocessed(Unprocessed {
-        number: sender.number,
-        kind: Identifier::from_slice(kind),
-        cause,
-    });
-    let to = sender.who;
-    let replies = vec![in alloc; Reply { to, what }]?;
+    let kind = Identifier::from_slice(kind);
+    let reply = Reply::unprocessed(sender.who, sender.number, kind, cause);
+    let replies = vec![in alloc; reply]?;
     Ok(RoomAnswer::of(RoomPlan::nothing(alloc), replies, 0, 0))
 }

@@ -53,13 +53,6 @@ impl Heard {
     {
         &self.messages
     }
-
-    /// The messages, in the order in which they were heard.
-    pub fn into_vec(self) -> Vec<Message>
-        ensures { result.items ≡ self }
-    {
-        self.messages
-    }
 }
 
 // How many of these are application messages.

@@ -1,6 +1,7 @@
 //! The command line.
 
 use crate::failure::{Failure, Stop};
+use crate::form::Form;
 use clap::error::ErrorKind;
 use clap::{Arg, ArgAction, Command, Error};
 use std::alloc::{AllocError, Global};
@@ -9,10 +10,10 @@ use std::{env, io};
 /// What the words of the command line ask for.
 #[derive(Drop)]
 pub enum Task {
-    /// `TRAIL`
-    Print { path: String },
-    /// `--migrate TRAIL`: a trail of an older version is first made into one of version 3.
-    Migrate { path: String },
+    /// `TRAIL`, and `--csv` for a table
+    Print { path: String, form: Form },
+    /// `--migrate TRAIL`, and `--csv` for a table: a trail of an older version is first made into one of version 3.
+    Migrate { path: String, form: Form },
     /// `TRAIL --trade WORD`
     Trade { path: String, word: String },
     /// `--help`: the text was printed.
@@ -43,6 +44,15 @@ fn words_given(rt: &HostRuntime) -> Result<Vec<String>, Failure> {
     }
 }
 
+/// What stands below the words in the help.
+const EXAMPLES: &str = "Examples:
+  sef_replay day.trail                 each trade of the day: T1 book IRS5Y 60 @ 2.5 buyer ALPHA seller BETA
+  sef_replay day.trail --csv           the same, for a spreadsheet
+  sef_replay day.trail --trade T1      what this trade rests on, a fact a line
+  sef_replay --migrate day.trail       of a trail of an older version, which is changed for good: copy it before
+
+Read from a copy of the file and of its log (day.trail-wal), if there is one. docs/COMPLIANCE.md explains what is printed.";
+
 fn program<'a>(alloc: Global) -> Result<Command<'a>, AllocError> {
     let trail = Arg::new(alloc, "trail")
         .value_name("TRAIL")
@@ -53,6 +63,10 @@ fn program<'a>(alloc: Global) -> Result<Command<'a>, AllocError> {
         .long("migrate")
         .help("First makes a trail of version 1 or 2 into one of version 3, in the file itself")
         .action(ArgAction::SetTrue);
+    let csv = Arg::new(alloc, "csv")
+        .long("csv")
+        .help("Prints the trades as comma-separated values, for a spreadsheet")
+        .action(ArgAction::SetTrue);
     let trade = Arg::new(alloc, "trade")
         .long("trade")
         .value_name("TRADE")
@@ -62,8 +76,10 @@ fn program<'a>(alloc: Global) -> Result<Command<'a>, AllocError> {
         .about(
             "Prints the trades of the day that a trail keeps, one line each, or the evidence for one",
         )
+        .after_help(EXAMPLES)
         .arg(trail)?
         .arg(migrate)?
+        .arg(csv)?
         .arg(trade)
 }
 
@@ -75,14 +91,19 @@ fn task_in(alloc: Global, words: &[String]) -> Result<Option<Task>, Error> {
     };
     let path = String::from_str(alloc, path)?;
     let migrates = matches.get_flag("migrate");
+    let form = if matches.get_flag("csv") {
+        Form::Table
+    } else {
+        Form::Lines
+    };
     let Some(word) = matches.get_str("trade") else {
         return Ok(Some(if migrates {
-            Task::Migrate { path }
+            Task::Migrate { path, form }
         } else {
-            Task::Print { path }
+            Task::Print { path, form }
         }));
     };
-    if migrates {
+    if migrates || form == Form::Table {
         return Ok(None);
     }
     let word = String::from_str(alloc, word)?;

@@ -4,6 +4,7 @@
 mod command_line;
 mod failure;
 mod file;
+mod form;
 mod market;
 mod migrating;
 mod printing;
@@ -13,18 +14,19 @@ mod trade;
 
 use command_line::{Task, task_given};
 pub use failure::{Failure, Stop};
+pub use form::Form;
 pub use migrating::print_migrated;
 pub use printing::print_day;
 use sqlite::Connection;
 use std::process::ExitCode;
 pub use trade::{print_trade, trade_number};
 
-/// What is printed of a trail: its trades, and perhaps after one of an older version was made into version 3; or the evidence for the
-/// trade with a number.
+/// What is printed of a trail: its trades in a form, and perhaps after one of an older version was made into version 3; or the evidence for
+/// the trade with a number.
 #[derive(Clone, Copy)]
 enum Wanted {
-    Day,
-    MigratedDay,
+    Day(Form),
+    MigratedDay(Form),
     Trade(u64),
 }
 
@@ -37,8 +39,8 @@ fn print_trail(rt: &HostRuntime, path: &str, wanted: Wanted) -> Result<(), Failu
         Err(error) => return Err(Failure::from(error)),
     };
     let printed = match wanted {
-        Wanted::Day => print_day(rt.alloc(), conn, &mut rt.stdout()),
-        Wanted::MigratedDay => print_migrated(rt.alloc(), conn, &mut rt.stdout()),
+        Wanted::Day(form) => print_day(rt.alloc(), conn, form, &mut rt.stdout()),
+        Wanted::MigratedDay(form) => print_migrated(rt.alloc(), conn, form, &mut rt.stdout()),
         Wanted::Trade(number) => print_trade(rt.alloc(), conn, number, &mut rt.stdout()),
     };
     match printed {
@@ -49,8 +51,8 @@ fn print_trail(rt: &HostRuntime, path: &str, wanted: Wanted) -> Result<(), Failu
 
 fn run(rt: &HostRuntime) -> Result<(), Failure> {
     match task_given(rt)? {
-        Task::Print { path } => print_trail(rt, &path, Wanted::Day),
-        Task::Migrate { path } => print_trail(rt, &path, Wanted::MigratedDay),
+        Task::Print { path, form } => print_trail(rt, &path, Wanted::Day(form)),
+        Task::Migrate { path, form } => print_trail(rt, &path, Wanted::MigratedDay(form)),
         Task::Trade { path, word } => match trade_number(&word) {
             Some(number) => print_trail(rt, &path, Wanted::Trade(number)),
             None => Err(Failure::Trade),

@@ -9,6 +9,7 @@ ghost use Rattle.sef_replay.specs.Day.{UnlessPrinting};
 ghost use Rattle.sef_replay.specs.Older.{EitherFault, IsEitherFailure, IsThirdNow, LeavesThird, TellsEither};
 
 use crate::failure::Failure;
+use crate::form::Form;
 use crate::printing::print_day;
 use audit_trail::Trail;
 use sqlite::{Alter, Connection};
@@ -34,15 +35,16 @@ fn brought_up<S: Alter>(
     }
 }
 
-/// Writes a line for each trade of the day that a database keeps as a trail, as `print_day` does. A trail of version 1 or 2 is made into
-/// one of version 3 before, in one transaction, and stays so, also where its lines are then not written. The connection comes back.
+/// Writes each trade of the day that a database keeps as a trail, as `print_day` does. A trail of version 1 or 2 is made into
+/// one of version 3 before, in one transaction, and stays so, also where its trades are then not written. The connection comes back.
 #[tactic(auto, using(crate::proofs::Ends::refused_unwritten, crate::proofs::Older::failure_told))]
 pub fn print_migrated<S: Alter, W: Write>(
     alloc: Global,
     conn: Connection<S>,
+    form: Form,
     writer: &mut W,
 ) -> Result<Connection<S>, (Failure, Connection<S>)>
-    ensures told { IfOk result (λ back. HasCleanDisk (state S.Store back) → TellsEither (state S.Store conn).now (W.contents writer.old) (W.contents writer.new)) }
+    ensures told { IfOk result (λ back. HasCleanDisk (state S.Store back) → TellsEither form (state S.Store conn).now (W.contents writer.old) (W.contents writer.new)) }
     ensures fault { IfErr result (λ e. HasCleanDisk (state S.Store e.1) → IsEitherFailure (state S.Store conn).now e.0) }
     ensures unwritten { IfErr result (λ e. UnlessPrinting e.0 (Keeps (W.contents writer.old) (W.contents writer.new))) }
 
@@ -52,7 +54,7 @@ pub fn print_migrated<S: Alter, W: Write>(
     ensures crash_err { IfErr result (λ e. Survives (state S.Store conn) (state S.Store e.1) (MayBecomeThird (state S.Store conn))) }
 {
     match brought_up(alloc, conn) {
-        Ok(conn) => print_day(alloc, conn, writer),
+        Ok(conn) => print_day(alloc, conn, form, writer),
         Err((fault, conn)) => Err((Failure::from(fault), conn)),
     }
 }

@@ -1,33 +1,53 @@
 //! The trades of the day that a database keeps as a trail, printed.
 
 ghost use Rattle.std.specs.Prelude.{IfOk, IfErr, OnOk};
-ghost use Rattle.std.specs.Io.KnownBytes.{Keeps};
+ghost use Rattle.std.specs.Io.KnownBytes.{Appends, Keeps};
+ghost use Rattle.venue_rules.specs.Facts.{History};
+ghost use Rattle.venue_core.specs.Standing.{IsHistory};
 ghost use Rattle.sqlite.specs.State.{HasCleanDisk, Survives};
 ghost use Rattle.sqlite.specs.Held.{state};
 ghost use Rattle.audit_trail.specs.Trail.{kept_rows, store};
-ghost use Rattle.sef_replay.specs.Day.{IsFailureOf, TellsDay, TellsKept, UnlessPrinting, UnlessStopped};
+ghost use Rattle.sef_replay.specs.Day.{IsFailureOf, TellsDay, TellsKept, UnlessPrinting, UnlessStopped, printed};
 
 use crate::failure::{Failure, Stop};
+use crate::form::Form;
 use crate::replaying::venue_kept;
 use audit_trail::Trail;
 use sqlite::{Alter, Connection};
 use std::alloc::Global;
 use std::io::Write;
-use trade_lines::{PrintFault, print_trades};
+use trade_lines::{PrintFault, print_table, print_trades};
+use venue_core::Venue;
 
-/// Writes the lines of the trades of the day that a trail keeps.
+/// Writes the trades of a venue's day in a form.
+fn print_in<W: Write>(
+    alloc: Global,
+    venue: &Venue,
+    form: Form,
+    writer: &mut W,
+) -> Result<(), PrintFault>
+    ensures { (h : History) → IsHistory venue.now h → OnOk result (Appends (W.contents writer.old) (W.contents writer.new) (printed form venue.now.market h)) }
+{
+    match form {
+        Form::Lines => print_trades(alloc, venue, writer),
+        Form::Table => print_table(alloc, venue, writer),
+    }
+}
+
+/// Writes the trades of the day that a trail keeps.
 fn print_kept<S: Alter, W: Write>(
     alloc: Global,
     trail: &mut Trail<S>,
+    form: Form,
     writer: &mut W,
 ) -> Result<(), Stop>
     ensures told { HasCleanDisk (store S.Store trail.new) → OnOk result
-        (TellsKept trail.old.files trail.old.delays (kept_rows S.Store trail.old) (W.contents writer.old) (W.contents writer.new)) }
+        (TellsKept form trail.old.files trail.old.delays (kept_rows S.Store trail.old) (W.contents writer.old) (W.contents writer.new)) }
     ensures unwritten { IfErr result (λ stop. UnlessStopped stop (Keeps (W.contents writer.old) (W.contents writer.new))) }
     ensures crash { Survives (store S.Store trail.old) (store S.Store trail.new) (λ _. ⊥) }
 {
     let venue = venue_kept(alloc, trail)?;
-    let printed = print_trades(alloc, &venue, writer);
+    let printed = print_in(alloc, &venue, form, writer);
     drop(venue);
     match printed {
         Ok(()) => Ok(()),
@@ -36,16 +56,17 @@ fn print_kept<S: Alter, W: Write>(
     }
 }
 
-/// Writes a line for each trade of the day that a database keeps as a trail, in their order, read back from its rows alone: these are
+/// Writes each trade of the day that a database keeps as a trail, in their order and in a form, read back from its rows alone: these are
 /// replayed over the files and with the delays that it keeps. Nothing is written into the database, nor, where it is refused, to the
 /// writer. The connection comes back.
 #[tactic(auto, using(crate::proofs::Kept::survives_both, crate::proofs::Ends::fault_told, crate::proofs::Ends::refused_unwritten))]
 pub fn print_day<S: Alter, W: Write>(
     alloc: Global,
     conn: Connection<S>,
+    form: Form,
     writer: &mut W,
 ) -> Result<Connection<S>, (Failure, Connection<S>)>
-    ensures told { IfOk result (λ back. HasCleanDisk (state S.Store back) → TellsDay (state S.Store conn).now (W.contents writer.old) (W.contents writer.new)) }
+    ensures told { IfOk result (λ back. HasCleanDisk (state S.Store back) → TellsDay form (state S.Store conn).now (W.contents writer.old) (W.contents writer.new)) }
     ensures fault { IfErr result (λ e. HasCleanDisk (state S.Store e.1) → IsFailureOf (state S.Store conn).now e.0) }
     ensures unwritten { IfErr result (λ e. UnlessPrinting e.0 (Keeps (W.contents writer.old) (W.contents writer.new))) }
 
@@ -57,7 +78,7 @@ pub fn print_day<S: Alter, W: Write>(
         Ok(trail) => trail,
         Err((fault, conn)) => return Err((Failure::from(fault), conn)),
     };
-    match print_kept(alloc, &mut trail, writer) {
+    match print_kept(alloc, &mut trail, form, writer) {
         Ok(()) => Ok(trail.into_connection()),
         Err(stop) => Err((Failure::Stopped(stop), trail.into_connection())),
     }

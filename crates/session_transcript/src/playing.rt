@@ -1,12 +1,8 @@
 //! Calls that are made of a session.
 
-ghost use Rattle.std.specs.Prelude.{◌≡◌};
-ghost use Rattle.std.specs.List.{list_all};
-ghost use Rattle.fix_dictionary.specs.Values.{is_printable, is_text};
-
 use crate::call::Call;
 use crate::refusals::Refusals;
-use anyhow::{Result, ensure};
+use anyhow::{Result, bail, ensure};
 use fix_dictionary::{App, Identifier, Item};
 use fix_session::{SendFault, Session, Step};
 use sef_moment::Moment;
@@ -85,24 +81,12 @@ pub fn play(session: &mut Session, call: &Call, refusals: &mut Refusals) -> Resu
     Ok(call_once(session, call)?)
 }
 
-fn is_printable(bytes: &[u8]) -> bool
-    ensures { result ≡ list_all is_printable bytes.now }
-{
-    bytes.iter().all(|byte| b' ' <= *byte && *byte <= b'~')
-}
-
-// Whether the bytes are an identifier.
-fn is_identifier(bytes: &[u8]) -> bool
-    ensures { result ≡ is_text 64 bytes.now }
-{
-    !bytes.is_empty() && (bytes.len() <= 64 && is_printable(bytes))
-}
-
 // The identifier with this text. It is an error where it is empty, too long, or has a byte that is not printed.
 fn identifier_in(text: &str) -> Result<Identifier> {
-    let bytes = text.as_bytes();
-    ensure!(is_identifier(bytes), "no name: {text}");
-    Ok(Identifier::from_slice(bytes))
+    match Identifier::read(text.as_bytes()) {
+        Some(identifier) => Ok(identifier),
+        None => bail!("no name: {text}"),
+    }
 }
 
 /// A new session of one side with another.

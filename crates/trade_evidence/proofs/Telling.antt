@@ -7,8 +7,8 @@ use Rattle.venue_rules.specs.declared.trail.TradeFact.{TradeFact}
 use Rattle.venue_rules.specs.declared.trail.TrailRow.{TrailRow}
 use Rattle.venue_rules.specs.Facts.{History}
 use Rattle.venue_rules.specs.Market.{Market}
-use Rattle.venue_rules.specs.Run.{Input, run}
-use Rattle.venue_core.specs.Replay.{AreTold}
+use Rattle.venue_rules.specs.Run.{Input, rows, run}
+use Rattle.venue_core.specs.Replay.{AreFitting, AreTold}
 use Rattle.venue_core.specs.Standing.{IsHistory}
 use Rattle.venue_core.specs.State.{State}
 use Rattle.trade_evidence.specs.declared.evidence.EvidenceFault.{EvidenceFault}
@@ -16,12 +16,15 @@ use Rattle.trade_evidence.specs.declared.evidence.EvidenceFault.TheVariants.{Mem
 use Rattle.trade_evidence.specs.declared.word.Word.{Word}
 use Rattle.trade_evidence.specs.Lines.{evidence}
 use Rattle.trade_evidence.specs.Told.{AreOf, HasNoTrade, IsEvidence, IsHeard, TellsTrade, UnlessWriting, trade_numbered}
-use Rattle.trade_evidence.proofs.Rows.{PrintedIsRead, told_rows}
 
-are_of : PrintedIsRead → (rs : List TrailRow) (items : List Input) → AreTold rs items → AreOf rs items
-are_of law rs items told = record { told = told; of_run = λ is same fits. told_rows law rs is items same fits told }
+-- what rows of inputs tell is these inputs
+abbrev pub TellTheirInputs : Type 0
+TellTheirInputs = (rs : List TrailRow) (is told : List Input) → rs ≡ rows is → AreFitting is → AreTold rs told → told ≡ is
 
-pub trade_told : PrintedIsRead → (m : Market) (rs : List TrailRow) (s : State) (words : List Word) (number : ℕ) (trade : TradeFact) (text : List ℕ) → IsHeard m number rs s words
+are_of : TellTheirInputs → (rs : List TrailRow) (items : List Input) → AreTold rs items → AreOf rs items
+are_of law rs items told = record { told = told; of_run = λ is same fits. law rs is items same fits told }
+
+pub trade_told : TellTheirInputs → (m : Market) (rs : List TrailRow) (s : State) (words : List Word) (number : ℕ) (trade : TradeFact) (text : List ℕ) → IsHeard m number rs s words
     → ((h : History) → IsHistory s h → Some trade ≡ trade_numbered h number) → text ≡ evidence s.market words trade → IsEvidence m rs number text
 trade_told law m rs s words number trade text heard numbered is = record {
   items = heard.items;
@@ -31,7 +34,7 @@ trade_told law m rs s words number trade text heard numbered is = record {
   is = is ∙ (λ k. evidence (heard.stands.market k) (heard.said k) trade);
 }
 
-pub no_trade : PrintedIsRead → (m : Market) (rs : List TrailRow) (s : State) (words : List Word) (number : ℕ) → IsHeard m number rs s words
+pub no_trade : TellTheirInputs → (m : Market) (rs : List TrailRow) (s : State) (words : List Word) (number : ℕ) → IsHeard m number rs s words
     → ((h : History) → IsHistory s h → None ≡ trade_numbered h number) → HasNoTrade m rs number
 no_trade law m rs s words number heard numbered = record {
   items = heard.items;

@@ -231,13 +231,16 @@ price_if (Some price) = codes " @ " ++ price_text price
 abbrev pub order_line : ParticipantFile → Word → Entered → List ℕ
 order_line file w e = codes "order O" ++ (decimal e.order ++ (codes " of " ++ (name_of file w.to ++ (side_text e.side ++ (decimal e.quantity ++ (codes " " ++ (e.symbol ++ (price_if e.price ++ (at_text w.moment ++ row_text w.row)))))))))
 
+-- what is said of an order with an identifier, where it has one
+abbrev pub named_line : ℕ → List ℕ → Option (List ℕ) → ℕ → List ℕ
+named_line order said None row = []
+named_line order said (Some id) row = codes "O" ++ (decimal order ++ (said ++ (id ++ row_text row)))
+
 abbrev pub link_line : ℕ → Option (List ℕ) → ℕ → List ℕ
-link_line order None row = []
-link_line order (Some link) row = codes "O" ++ (decimal order ++ (codes " carries the link " ++ (link ++ row_text row)))
+link_line order link row = named_line order (codes " carries the link ") link row
 
 abbrev pub original_line : ℕ → Option (List ℕ) → ℕ → List ℕ
-original_line order None row = []
-original_line order (Some original) row = codes "O" ++ (decimal order ++ (codes " takes the place of the order with the identifier " ++ (original ++ row_text row)))
+original_line order original row = named_line order (codes " takes the place of the order with the identifier ") original row
 
 abbrev pub held_said : ℕ → Word → Said → List ℕ
 held_said order w (said.Held x) = codes "O" ++ (decimal order ++ (codes " was held as the second side of a cross for " ++ (decimal x.delay ++ (codes " ms from " ++ (utc_text w.moment ++ row_text w.row)))))

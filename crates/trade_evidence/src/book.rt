@@ -2,7 +2,7 @@
 
 ghost use Rattle.std.specs.Prelude.{◌≡◌, ◌++◌, find, option_map, OnOk};
 ghost use Rattle.venue_rules.specs.Book.{is_same_link};
-ghost use Rattle.trade_evidence.specs.Lines.{apart_line, are_linked, book_lines, both_lines, entries_lines, entry_lines, entry_moment, held_line, held_until, hold_lines, is_sought, link_line, linked_line, linked_text, order_line, orders_lines, original_line, price_if, side_text, together_lines};
+ghost use Rattle.trade_evidence.specs.Lines.{apart_line, are_linked, book_lines, both_lines, entries_lines, entry_lines, entry_moment, held_line, held_until, hold_lines, is_sought, linked_line, linked_text, named_line, order_line, orders_lines, price_if, side_text, together_lines};
 ghost use Rattle.trade_evidence.specs.declared.finding.Sought.TheVariants.{HeldSide};
 
 use crate::finding::{Sought, filled_order, find_word};
@@ -58,42 +58,20 @@ fn append_order(
     append_at(text, word.moment, word.row)
 }
 
-fn append_link(
+/// Appends what is said of an order with an identifier, if it has one.
+fn append_named(
     text: &mut Vec<u8>,
     order: u64,
-    link: &Option<Identifier>,
+    said: &[u8],
+    id: &Option<Identifier>,
     row: u64,
 ) -> Result<(), AllocError>
-    ensures { OnOk result (text.new.items ≡ text.old.items ++ link_line order link.now row) }
+    ensures { OnOk result (text.new.items ≡ text.old.items ++ named_line order said.now id.now row) }
 {
-    match link {
-        Some(link) => {
+    match id {
+        Some(id) => {
             append_number(text, b"O", order)?;
-            append(text, &[b" carries the link ", link.as_slice()])?;
-            append_row(text, row)
-        }
-        None => Ok(()),
-    }
-}
-
-fn append_original(
-    text: &mut Vec<u8>,
-    order: u64,
-    original: &Option<Identifier>,
-    row: u64,
-) -> Result<(), AllocError>
-    ensures { OnOk result (text.new.items ≡ text.old.items ++ original_line order original.now row) }
-{
-    match original {
-        Some(original) => {
-            append_number(text, b"O", order)?;
-            append(
-                text,
-                &[
-                    b" takes the place of the order with the identifier ",
-                    original.as_slice(),
-                ],
-            )?;
+            append(text, &[said, id.as_slice()])?;
             append_row(text, row)
         }
         None => Ok(()),
@@ -157,8 +135,10 @@ fn append_entry(
     ensures { OnOk result (text.new.items ≡ text.old.items ++ entry_lines participants.now words.now word.now entered.now) }
 {
     append_order(alloc, text, participants, word, entered)?;
-    append_link(text, entered.order, &entered.link, word.row)?;
-    append_original(text, entered.order, &entered.original, word.row)?;
+    let link = b" carries the link ";
+    append_named(text, entered.order, link, &entered.link, word.row)?;
+    let original = b" takes the place of the order with the identifier ";
+    append_named(text, entered.order, original, &entered.original, word.row)?;
     append_hold(text, words, word, entered)
 }
 

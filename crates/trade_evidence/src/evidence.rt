@@ -15,14 +15,13 @@ use crate::finding::{Sought, row_of};
 use crate::gathering::gather;
 use crate::room::{append_room, append_row};
 use crate::word::Word;
-use fix_dictionary::printed_is_read;
 use instruments::Instruments;
 use participants::Participants;
 use std::alloc::{AllocError, Global};
 use std::io::Write;
 use thiserror::Error;
 use trade_lines::{append, append_deal, append_number};
-use venue_core::Venue;
+use venue_core::{Venue, rows_tell_their_inputs};
 use venue_rules::{TradeFact, TrailRow};
 
 /// Why the evidence was not written.
@@ -140,7 +139,7 @@ fn evidence_in(
     ensures told { IfOk result (λ text. IsEvidence venue.old.market rows.now number text.items) }
     ensures refused { IfErr result (λ fault. fault ≡ NoTrade → HasNoTrade venue.old.market rows.now number) }
 {
-    printed_is_read();
+    rows_tell_their_inputs();
     let words = gather(alloc, venue, rows, number)?;
     let Some(trade) = trade_numbered(venue, number) else {
         return Err(EvidenceFault::NoTrade);

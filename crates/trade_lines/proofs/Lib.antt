@@ -1,2 +1,3 @@
 pub mod Prices
 pub mod Examples
+pub mod Rows

@@ -1,2 +1,3 @@
--- the line of a trade
+-- the line of a trade, and its row
 pub mod Line
+pub mod Table

@@ -3,6 +3,8 @@
 
 mod line;
 mod printing;
+mod table;
 
 pub use line::{append, append_deal, append_number, append_price, name_at};
 pub use printing::{PrintFault, print_trades};
+pub use table::print_table;

@@ -30,7 +30,7 @@ impl From<AllocError> for PrintFault {
 }
 
 /// What is read back of a trade's room.
-fn room_of(venue: &Venue, room: Option<u64>) -> Option<&RoomFact>
+pub(crate) fn room_of(venue: &Venue, room: Option<u64>) -> Option<&RoomFact>
     ensures { (h : History) → IsHistory venue.now h → option_copied result ≡ room_told h room }
 {
     match room {

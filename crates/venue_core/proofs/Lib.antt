@@ -1,5 +1,6 @@
 pub mod Parting
 pub mod Adding
+pub mod Rows
 pub mod Running
 pub mod Listing
 pub mod Unsupported

@@ -1,15 +1,18 @@
 //! What a venue comes to that takes inputs one after another.
 ghost use Rattle.std.specs.Prelude.{◌≡◌, List, [], ◌∷◌, ◌++◌};
 ghost use Rattle.venue_rules.specs.declared.replies.Reply.{Reply};
+ghost use Rattle.venue_rules.specs.declared.trail.TrailRow.{TrailRow};
 ghost use Rattle.venue_rules.specs.Answer.{Answer};
 ghost use Rattle.venue_rules.specs.Facts.{no_history};
 ghost use Rattle.venue_rules.specs.Lawful.{Lawful};
 ghost use Rattle.venue_rules.specs.Market.{Market};
-ghost use Rattle.venue_rules.specs.Run.{Input, run};
+ghost use Rattle.venue_rules.specs.Run.{Input, rows, run};
+ghost use Rattle.venue_core.specs.Replay.{AreFitting, AreTold};
 ghost use Rattle.venue_core.specs.Standing.{IsAfter, IsAnswer, IsHistory};
 ghost use Rattle.venue_core.specs.State.{State};
 ghost use Rattle.venue_core.specs.Taking.{IsSame, Stands, Takes, TakesAll};
 
+use fix_dictionary::printed_is_read;
 use venue_rules::every_run_is_lawful;
 
 /// A venue on which nothing had happened, and that takes inputs one after another, stands where the rules' run of these
@@ -29,3 +32,10 @@ pub fn day_goes_on()
     ensures stands { (m : Market) (is : List Input) (i : Input) (s s' : State) (a : Answer) → Stands m is s → Takes s i a s' → Stands m (is ++ i ∷ []) s' }
     ensures replies { (m : Market) (is : List Input) (i : Input) (s s' : State) (a : Answer) → Stands m is s → Takes s i a s' → (run m (is ++ i ∷ [])).replies ≡ (run m is).replies ++ a.replies }
 {}
+
+/// What the rows of inputs tell is these inputs, where their messages have values of the dictionary's forms.
+pub fn rows_tell_their_inputs()
+    ensures { (rs : List TrailRow) (is told : List Input) → rs ≡ rows is → AreFitting is → AreTold rs told → told ≡ is }
+{
+    printed_is_read();
+}

@@ -12,7 +12,8 @@ mod replay;
 mod unanswered;
 mod venue;
 
-pub use laws::{day_goes_on, every_day_is_lawful};
+pub use laws::{day_goes_on, every_day_is_lawful, rows_tell_their_inputs};
 pub use plan::Plan;
+pub use replay::taken_of;
 pub use report_writer::message_of;
 pub use venue::Venue;

@@ -56,6 +56,21 @@ fn words_given(rt: &HostRuntime) -> Result<Vec<String>, Failure> {
     }
 }
 
+/// What stands below the commands in the help.
+const EXAMPLES: &str = "Examples, where FILES stands for --participants FILE --instruments FILE:
+  venue_main check FILES
+  venue_main once FILES --at 20250303-14:30:00 <order.fix
+  venue_main serve FILES --port 7000 --turns 1000000000 --trail day.trail
+
+docs/CONNECT.md tells what a desk's engine is to set, docs/PROTOCOL.md each message, docs/COMPLIANCE.md how a trail is read.";
+
+/// What stands below the words of `serve` in its help.
+const EXAMPLE_OF_SERVE: &str = "Example:
+  venue_main serve --participants participants.toml --instruments instruments.toml --port 7000 --turns 1000000000 --trail day.trail
+
+Standard error tells each participant's name and port. A trail that is there is gone on with; without one the rows stay in memory. The
+venue ends once each thread has made its turns; a turn in which there is nothing to do waits 100 ms at most.";
+
 /// An argument that has to be given, with one value.
 fn needed<'a>(alloc: Global, name: &'a str, value: &'a str, help: &'a str) -> Arg<'a> {
     Arg::new(alloc, name)
@@ -104,7 +119,11 @@ fn command_of_serve<'a>(alloc: Global) -> Result<Command<'a>, AllocError> {
         "serve",
         "Serves each participant over TCP, at 127.0.0.1",
     )?;
-    serve.arg(port)?.arg(turns)?.arg(trail)
+    serve
+        .after_help(EXAMPLE_OF_SERVE)
+        .arg(port)?
+        .arg(turns)?
+        .arg(trail)
 }
 
 /// The program's own command, with `once`, `serve` and `check`.
@@ -123,6 +142,7 @@ fn program<'a>(alloc: Global) -> Result<Command<'a>, AllocError> {
     let check = command_on_files(alloc, "check", "Tells how much the two files list")?;
     Command::new(alloc, "venue_main")
         .about("A swap execution facility over FIX")
+        .after_help(EXAMPLES)
         .subcommand_required(true)
         .subcommand(once.arg(at)?)?
         .subcommand(command_of_serve(alloc)?)?

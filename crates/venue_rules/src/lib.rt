@@ -8,8 +8,10 @@ mod fixture;
 mod identifiers;
 mod laws;
 mod lists;
+mod names;
 mod refusals;
 mod replies;
+mod sides;
 mod trail;
 
 pub use facts::{
@@ -25,6 +27,7 @@ pub use laws::{
     replies_go_to_participants, rows_are_in_order, run_goes_on, runs_join,
 };
 pub use lists::{PictureEntries, Recipients, RowText, Shown};
+pub use names::is_name;
 pub use participants::Who;
 pub use refusals::{
     BusinessRefusal, ChangeRefusal, CrossRefusal, MarketDataRefusal, OrderRefusal, QuoteRefusal,
@@ -35,4 +38,5 @@ pub use replies::{
     OrderReport, PictureEntry, Prices, PricesRefused, QuoteSent, QuoteState, QuoteStatus, Reply,
     RequestRefused, RequestSent, RoomReport, Standing, Unprocessed, What,
 };
+pub use sides::{buyer, is_side, opposite};
 pub use trail::{EventFault, Keep, RoomFact, ShownOrder, Taken, TradeFact, TrailFault, TrailRow};

@@ -1,6 +1,7 @@
 //! Lists within facts and replies, each seen as a list.
 
-ghost use Rattle.std.specs.Prelude.{◌≡◌};
+ghost use Rattle.std.specs.Prelude.{◌≡◌, ◌≤◌, ◌*◌, length};
+ghost use Rattle.venue_rules.specs.Book.{side_room};
 
 use crate::replies::PictureEntry;
 use crate::trail::ShownOrder;
@@ -28,12 +29,6 @@ impl Recipients {
         Recipients { members }
     }
 
-    pub fn into_vec(self) -> Vec<Who>
-        ensures { result.items ≡ self }
-    {
-        self.members
-    }
-
     /// Its members.
     pub fn as_slice(&self) -> &[Who]
         ensures { result.now ≡ self.now }
@@ -49,30 +44,30 @@ pub struct PictureEntries {
 }
 
 impl Model for PictureEntries {
-    ghost use Rattle.std.specs.Prelude.{List};
+    ghost use Rattle.std.specs.Prelude.{◌≤◌, ◌*◌, List, length};
     ghost use Rattle.venue_rules.specs.declared.replies.PictureEntry.{PictureEntry};
+    ghost use Rattle.venue_rules.specs.Book.{side_room};
 
     ghost Value = { List PictureEntry };
 
     ghost view = { λ a. a.entries.items };
+
+    ghost invariant = { λ a. length a.entries.items ≤ 2 * side_room };
 }
 
 impl PictureEntries {
+    /// These entries, no more than may rest on the two sides.
     pub fn from_vec(entries: Vec<PictureEntry>) -> PictureEntries
+        requires { length entries.items ≤ 2 * side_room }
         ensures { result ≡ entries.items }
     {
         PictureEntries { entries }
     }
 
-    pub fn into_vec(self) -> Vec<PictureEntry>
-        ensures { result.items ≡ self }
-    {
-        self.entries
-    }
-
     /// Its members.
     pub fn as_slice(&self) -> &[PictureEntry]
-        ensures { result.now ≡ self.now }
+        ensures value { result.now ≡ self.now }
+        ensures few { length result.now ≤ 2 * side_room }
     {
         &self.entries
     }
@@ -97,12 +92,6 @@ impl RowText {
         ensures { result ≡ bytes.items }
     {
         RowText { bytes }
-    }
-
-    pub fn into_vec(self) -> Vec<u8>
-        ensures { result.items ≡ self }
-    {
-        self.bytes
     }
 
     /// Its members.
@@ -133,12 +122,6 @@ impl Shown {
         ensures { result ≡ orders.items }
     {
         Shown { orders }
-    }
-
-    pub fn into_vec(self) -> Vec<ShownOrder>
-        ensures { result.items ≡ self }
-    {
-        self.orders
     }
 
     /// Its members.

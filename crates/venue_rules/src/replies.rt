@@ -1,5 +1,8 @@
 //! What the venue answers.
 
+ghost use Rattle.std.specs.Prelude.{◌≡◌, [], ◌∷◌};
+ghost use Rattle.venue_rules.specs.Answer.{answers, unprocessed};
+
 use crate::lists::PictureEntries;
 use crate::refusals::{
     BusinessRefusal, ChangeRefusal, CrossRefusal, MarketDataRefusal, OrderRefusal, QuoteRefusal,
@@ -199,4 +202,21 @@ pub enum What {
 pub struct Reply {
     pub to: Who,
     pub what: What,
+}
+
+impl Reply {
+    /// The message of this number and type (35) is not processed, for this cause: a BusinessMessageReject (j).
+    pub fn unprocessed(
+        to: Who,
+        number: SequenceNumber,
+        kind: Identifier,
+        cause: BusinessRefusal,
+    ) -> Reply
+        ensures { answers (result ∷ []) ≡ unprocessed (record { who = to; number = number; kind = kind }) cause }
+    {
+        Reply {
+            to,
+            what: What::Unprocessed(Unprocessed { number, kind, cause }),
+        }
+    }
 }

@@ -8,11 +8,14 @@ use anyhow::{Result, anyhow};
 use std::alloc::{AllocError, Global};
 use std::mem;
 
-// The call of a line, read once more where a growth was refused.
-fn read(alloc: Global, line: &str) -> Result<Call> {
+// The line after which what was refused a growth is made once more.
+const AGAIN: &str = "again";
+
+// The call of a line.
+fn read(alloc: Global, line: &str, again: bool) -> Result<Call> {
     let call = match call_in(alloc, line) {
-        Ok(call) => call,
-        Err(_) => call_in(alloc, line)?,
+        Err(_) if again => call_in(alloc, line)?,
+        call => call?,
     };
     call.ok_or_else(|| anyhow!("no call: {line}"))
 }
@@ -30,61 +33,74 @@ fn write(
     tell(alloc, world, answer, told)
 }
 
-// Appends a line and an answer, once more where a growth was refused.
+// Appends a line and an answer.
 fn write_again(
     alloc: Global,
     world: &Played,
     line: &str,
     answer: &Answer,
+    again: bool,
     told: &mut Vec<u8>,
 ) -> Result<(), AllocError> {
     let before = told.len();
-    if write(alloc, world, line, answer, told).is_ok() {
-        return Ok(());
+    let written = write(alloc, world, line, answer, told);
+    if !again || written.is_ok() {
+        return written;
     }
     told.truncate(before);
     write(alloc, world, line, answer, told)
 }
 
-// A new world, opened once more where a growth was refused.
-fn open(alloc: Global, refuses: Option<u64>) -> Result<Played, AllocError> {
+// A new world.
+fn open(alloc: Global, refuses: Option<u64>, again: bool) -> Result<Played, AllocError> {
     match new_world(alloc, refuses) {
-        Ok(world) => Ok(world),
-        Err(_) => new_world(alloc, refuses),
+        Err(_) if again => new_world(alloc, refuses),
+        world => world,
     }
 }
 
 // A new world in the place of this one.
-fn begin(alloc: Global, world: &mut Played, refuses: Option<u64>) -> Result<(), AllocError> {
-    let begun = open(alloc, refuses)?;
+fn begin(
+    alloc: Global,
+    world: &mut Played,
+    refuses: Option<u64>,
+    again: bool,
+) -> Result<(), AllocError> {
+    let begun = open(alloc, refuses, again)?;
     drop(mem::replace(world, begun));
     Ok(())
 }
 
 // What the world answers to a line.
-fn answer_to(alloc: Global, world: &mut Played, line: &str) -> Result<Answer> {
-    if line.is_empty() {
+fn answer_to(alloc: Global, world: &mut Played, line: &str, again: bool) -> Result<Answer> {
+    if line.is_empty() || line == AGAIN {
         return Ok(Answer::Nothing);
     }
     if line.starts_with('#') {
-        begin(alloc, world, None)?;
+        begin(alloc, world, None, again)?;
         return Ok(Answer::Nothing);
     }
     if let Some(number) = line.strip_prefix("refuses ") {
-        begin(alloc, world, number.parse::<u64>().ok())?;
+        begin(alloc, world, number.parse::<u64>().ok(), again)?;
         return Ok(Answer::Nothing);
     }
-    let call = read(alloc, line)?;
-    play(alloc, world, &call)
+    let call = read(alloc, line, again)?;
+    play(alloc, world, &call, again)
 }
 
 // Plays a line, and appends it with what the world answers; a line that tells an answer is passed over.
-fn play_line(alloc: Global, world: &mut Played, line: &str, told: &mut Vec<u8>) -> Result<()> {
+fn play_line(
+    alloc: Global,
+    world: &mut Played,
+    line: &str,
+    again: bool,
+    told: &mut Vec<u8>,
+) -> Result<()> {
     if line.starts_with("  ") {
         return Ok(());
     }
-    let answer = answer_to(alloc, world, line)?;
-    write_again(alloc, world, line, &answer, told)?;
+    let answer = answer_to(alloc, world, line, again)?;
+    write_again(alloc, world, line, &answer, again, told)?;
     Ok(())
 }
 
@@ -92,19 +108,22 @@ fn play_lines(
     alloc: Global,
     world: &mut Played,
     transcript: &str,
+    again: bool,
     told: &mut Vec<u8>,
 ) -> Result<()> {
     for line in transcript.lines() {
-        play_line(alloc, world, line, told)?;
+        play_line(alloc, world, line, again, told)?;
     }
     Ok(())
 }
 
-/// The transcript with what the world answers.
+/// The transcript with what the world answers. Where it begins with the line `again`, a call to which a growth is refused is made
+/// once more.
 pub fn told_anew(alloc: Global, transcript: &str) -> Result<Vec<u8>> {
-    let mut world = open(alloc, None)?;
+    let again = transcript.starts_with(AGAIN);
+    let mut world = open(alloc, None, again)?;
     let mut told = Vec::new(alloc);
-    let played = play_lines(alloc, &mut world, transcript, &mut told);
+    let played = play_lines(alloc, &mut world, transcript, again, &mut told);
     drop(world);
     played?;
     Ok(told)

@@ -1,9 +1,10 @@
 //! Plays a transcript of a world's events, and sees whether the world answers as it is written there.
 //!
 //! The transcript comes on standard input. A line that begins with `#` begins a new world, a line that is set in tells an
-//! answer, an empty line is passed over, and any other line is a call. The calls are made, each once more where a growth was
-//! refused, and the transcript is written anew with what the world answers. Where that is the transcript that came, nothing is
-//! written; else the new one is, and the status is 1.
+//! answer, an empty line is passed over, and any other line is a call. The calls are made, and the transcript is written anew with
+//! what the world answers: a refusal for want of memory is an answer as any other, so none may come. Only where the first line is
+//! `again` is what was refused a growth made once more. Where the new transcript is the one that came, nothing is written; else the
+//! new one is, and the status is 1.
 #![tactic(auto)]
 
 mod call;

@@ -109,11 +109,11 @@ fn is_refused(answer: &Answer) -> bool {
     }
 }
 
-/// What a call gives. A call to which a growth is refused changes nothing, and is made once more.
-pub fn play(alloc: Global, world: &mut Played, call: &Call) -> Result<Answer> {
+/// What a call gives. Where that is to be done, a call to which a growth is refused, which changes nothing, is made once more.
+pub fn play(alloc: Global, world: &mut Played, call: &Call, again: bool) -> Result<Answer> {
     let before = row_count(world);
     let answer = call_once(alloc, world, call);
-    if !is_refused(&answer) {
+    if !again || !is_refused(&answer) {
         return Ok(answer);
     }
     ensure!(row_count(world) == before, "a refused call recorded a row");

@@ -5,7 +5,7 @@ use Rattle.sef_replay.proofs.migrating.print_migrated.Goals as goal
 pub returns-in-Ok-clause-told : goal.returns-in-Ok-clause-told
 returns-in-Ok-clause-told g c =
     of_ok c.print_day.result _ _ _ c.print_day.ensures.told c.print_day.ensures.crash
-    (λ back told s clean. either_told (state g.S.Store c.args.conn) (state g.S.Store c.in-Ok.conn) _ _ (c.in-Ok.ensures.third (clean_before _ _ _ s clean)) (told clean))
+    (λ back told s clean. either_told c.args.form (state g.S.Store c.args.conn) (state g.S.Store c.in-Ok.conn) _ _ (c.in-Ok.ensures.third (clean_before _ _ _ s clean)) (told clean))
 
 pub returns-in-Ok-clause-fault : goal.returns-in-Ok-clause-fault
 returns-in-Ok-clause-fault g c =

@@ -7,4 +7,4 @@ use Rattle.sef_replay.proofs.printing.print_day.Goals as goal
 pub returns-in-Ok-print_kept-clause-told : goal.returns-in-Ok-print_kept-clause-told
 returns-in-Ok-print_kept-clause-told g c clean =
     let last : HasCleanDisk (store g.S.Store c.print_kept.new.trail) = search rules in
-    day_printed _ _ _ _ _ _ _ _ _ c.in-Ok.ensures.found c.print_kept.ensures.crash c.in-Ok-print_kept.ensures.told last
+    day_printed c.args.form _ _ _ _ _ _ _ _ _ c.in-Ok.ensures.found c.print_kept.ensures.crash c.in-Ok-print_kept.ensures.told last

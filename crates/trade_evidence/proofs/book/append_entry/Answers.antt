@@ -10,5 +10,5 @@ returns c =
     let x = c.args.entered.now in
     on_ok_weaker c.append_hold.result
     (λ e. four _ _ _ _ _ (order_line c.args.participants.now w x) (link_line x.order x.link w.row) (original_line x.order x.original w.row) (hold_lines c.args.words.now w x) c.in_ok-append_order.ensures
-    c.in_ok-append_link.ensures c.in_ok-append_original.ensures e)
+    c.in_ok-append_named.ensures c.in_ok-append_named-2.ensures e)
     c.append_hold.ensures

@@ -1,0 +1,10 @@
+//! How the trades of a day are printed.
+
+/// How the trades of a day are printed.
+#[derive(Clone, Copy, PartialEq, Eq)]
+pub enum Form {
+    /// A line for each trade.
+    Lines,
+    /// Comma-separated values, for a spreadsheet (RFC 4180): the names of the fields, and a row for each trade.
+    Table,
+}

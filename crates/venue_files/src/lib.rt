@@ -1,0 +1,10 @@
+//! What the files of a venue have in common: names, and what a TOML document has at its keys.
+#![tactic(auto)]
+
+mod document;
+mod name;
+
+pub use document::{
+    entries, is_absent, is_no_list, is_no_name, is_without_entry, list_lacks, text_at,
+};
+pub use name::Name;
