@@ -6,7 +6,8 @@ use std::io::Write;
 use std::process::ExitCode;
 use std::{env, io};
 
-const HELP: &str = "Prints the venue's data dictionaries (XML, as QuickFIX reads it), for a counterparty's FIX engine
+const HELP: &str =
+    "Prints the venue's data dictionaries (XML, as QuickFIX reads it), for a counterparty's FIX engine
 
 Usage: dictionary_files --transport | --application ..
 

@@ -12,10 +12,10 @@ ghost use Rattle.fix_dictionary.specs.Fits.{FitsCrossSide, FitsNewOrderCross};
 ghost use Rattle.fix_dictionary.specs.Printed.{printed_option, slots};
 ghost use Rattle.fix_dictionary.specs.Text.{slots_text, given, side_text, new_order_cross_slots};
 
+use crate::field_values::{character, identifier, number, optional_price, quantity, side};
 use crate::messages::{CrossSide, NewOrderCross};
 use crate::places::{Standing, first_begin, part, second_begin};
 use crate::print::{Printed, Slot, append_slots, printed_price, printed_side};
-use crate::field_values::{character, identifier, number, optional_price, quantity, side};
 use fix_fields::Field;
 use std::alloc::{AllocError, Global};
 

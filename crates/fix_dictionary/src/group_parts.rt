@@ -9,12 +9,12 @@ ghost use Rattle.fix_dictionary.specs.Values.{FitsEntryTypes, FitsEntries};
 ghost use Rattle.fix_dictionary.specs.Told.{bytes_at, character_in, number_in};
 ghost use Rattle.fix_dictionary.specs.Messages.{entry_type, market_data_entry, market_data_request, market_data_snapshot};
 
-use crate::lists::{EntryTypes, MarketDataEntries};
-use crate::messages::{MarketDataEntry, MarketDataRequest, MarketDataSnapshot};
-use crate::places::{Part, Standing, begins, part};
 use crate::field_values::{
     character, identifier, number, optional_amount, optional_identifier, optional_price,
 };
+use crate::lists::{EntryTypes, MarketDataEntries};
+use crate::messages::{MarketDataEntry, MarketDataRequest, MarketDataSnapshot};
+use crate::places::{Part, Standing, begins, part};
 use crate::values::{FixChar, Identifier};
 use fix_fields::Field;
 use smallvec::SmallVec;

@@ -5,17 +5,17 @@ ghost use Rattle.fix_fields.specs.Views.{entries};
 ghost use Rattle.fix_dictionary.specs.Holding.{Holds};
 ghost use Rattle.fix_dictionary.specs.Messages.{header, heartbeat, test_request, begin_in, resend_request, reject, sequence_reset, logout, logon, quote_cancel, quote_response, quote_status_report, new_order_single, order_cancel_request, order_cancel_replace_request, execution_report, order_cancel_reject, market_data_request_reject, business_message_reject};
 
-use crate::messages::{
-    BusinessMessageReject, ExecutionReport, Header, Heartbeat, Logon, Logout,
-    MarketDataRequestReject, NewOrderSingle, OrderCancelReject, OrderCancelReplaceRequest,
-    OrderCancelRequest, QuoteCancel, QuoteResponse, QuoteStatusReport, Reject, ResendRequest,
-    SequenceReset, TestRequest,
-};
 use crate::field_values::{
     amount, character, identifier, interval, moment, new_sequence_number, number,
     optional_character, optional_flag, optional_identifier, optional_moment, optional_number,
     optional_price, optional_quantity, optional_side, optional_text, quantity, sequence_number,
     side,
+};
+use crate::messages::{
+    BusinessMessageReject, ExecutionReport, Header, Heartbeat, Logon, Logout,
+    MarketDataRequestReject, NewOrderSingle, OrderCancelReject, OrderCancelReplaceRequest,
+    OrderCancelRequest, QuoteCancel, QuoteResponse, QuoteStatusReport, Reject, ResendRequest,
+    SequenceReset, TestRequest,
 };
 use fix_fields::Field;
 use std::alloc::{AllocError, Global};

@@ -11,14 +11,14 @@ ghost use Rattle.fix_dictionary.specs.Values.{FitsParties};
 ghost use Rattle.fix_dictionary.specs.Told.{told, bytes_at, character_in, number_in, price_in, quantity_in, side_in};
 ghost use Rattle.fix_dictionary.specs.Messages.{party, parties_in, quote_request, quote, quote_request_reject};
 
-use crate::group_parts::symbol;
-use crate::lists::Parties;
-use crate::messages::{Party, Quote, QuoteRequest, QuoteRequestReject};
-use crate::places::{Standing, begins, first_begin, part};
 use crate::field_values::{
     character, identifier, number, optional_character, optional_moment, optional_price,
     optional_quantity, optional_side, optional_text, quantity, value_of,
 };
+use crate::group_parts::symbol;
+use crate::lists::Parties;
+use crate::messages::{Party, Quote, QuoteRequest, QuoteRequestReject};
+use crate::places::{Standing, begins, first_begin, part};
 use crate::values::Identifier;
 use fix_fields::Field;
 use std::alloc::{AllocError, Global};

@@ -13,10 +13,10 @@ ghost use Rattle.fix_dictionary.specs.Applications.{IsApp, plain_header, app_fau
 ghost use Rattle.fix_fields.specs.Views.{entries};
 
 use crate::faults::{DictFault, first_fault};
+use crate::field_values::{begin_in, bytes_at};
 use crate::group_faults::placed_fault;
 use crate::messages::{Admin, App, Body, BoxedApp, Message};
 use crate::places::{Standing, part, placed};
-use crate::field_values::{begin_in, bytes_at};
 use crate::table::{
     MessageType, header, is_grouped, is_session, resend_request_rows, rows_of, type_of,
 };

@@ -96,11 +96,7 @@ fn push_asked(
 }
 
 /// Adds what was shown, with a comma between the orders.
-fn push_shown(
-    alloc: Global,
-    row: &mut ByteRecord,
-    shown: &[ShownOrder],
-) -> Result<(), AllocError>
+fn push_shown(alloc: Global, row: &mut ByteRecord, shown: &[ShownOrder]) -> Result<(), AllocError>
     requires { partial_of row.old ≡ [] }
     ensures partial { OnOk result (partial_of row.new ≡ []) }
     ensures fields { OnOk result (fields_of row.new ≡ fields_of row.old ++ listed shown_text shown.now ∷ []) }
@@ -215,11 +211,7 @@ fn row_bytes(alloc: Global, row: &ByteRecord) -> Result<Vec<u8>, AllocError>
 }
 
 /// Writes a row.
-fn print_row<W: Write>(
-    alloc: Global,
-    row: &ByteRecord,
-    writer: &mut W,
-) -> Result<(), PrintFault>
+fn print_row<W: Write>(alloc: Global, row: &ByteRecord, writer: &mut W) -> Result<(), PrintFault>
     ensures { OnOk result (Appends (W.contents writer.old) (W.contents writer.new) (row_text setup (fields_of row.now))) }
 {
     let bytes = row_bytes(alloc, row)?;
@@ -263,11 +255,7 @@ fn print_rows<W: Write>(alloc: Global, venue: &Venue, writer: &mut W) -> Result<
 /// Writes the names of the fields, `trade,kind,instrument,quantity,price,buyer,seller,room,asked,first,shown`, and then a row for each
 /// trade of the day, in their order: `T1,book,IRS5Y,60,2.5,ALPHA,BETA,,,,`. Of one that came about in a room the last four fields tell
 /// what was asked of whom and shown: `R1,"BETA,GAMMA,DELTA",Q1,O2x30`. Each row ends in CR LF.
-pub fn print_table<W: Write>(
-    alloc: Global,
-    venue: &Venue,
-    writer: &mut W,
-) -> Result<(), PrintFault>
+pub fn print_table<W: Write>(alloc: Global, venue: &Venue, writer: &mut W) -> Result<(), PrintFault>
     ensures { (h : History) → IsHistory venue.now h → OnOk result (Appends (W.contents writer.old) (W.contents writer.new) (trade_table venue.now.market h)) }
 {
     let names = field_names(alloc)?;

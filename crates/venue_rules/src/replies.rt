@@ -216,7 +216,11 @@ impl Reply {
     {
         Reply {
             to,
-            what: What::Unprocessed(Unprocessed { number, kind, cause }),
+            what: What::Unprocessed(Unprocessed {
+                number,
+                kind,
+                cause,
+            }),
         }
     }
 }
