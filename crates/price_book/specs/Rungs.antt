@@ -1,12 +1,14 @@
-use Rattle.std.specs.Prelude.{◌≡◌, ⊤, ℕ, suc, ◌+◌, ◌*◌, ◌≤◌, ◌<◌, ◌==◌, nat_lt, false, List, [], ◌∷◌, map, length, get_or, if◌then◌else◌}
+use Rattle.std.specs.Prelude.{◌≡◌, ⊤, ℕ, suc, ◌+◌, ◌*◌, ◌≤◌, ◌<◌, ◌^◌, ◌==◌, nat_lt, false, List, [], ◌∷◌, map, length, get_or, if◌then◌else◌}
 use Rattle.std.specs.Coded.{×_prop, Unit-prop, le_prop}
+use Rattle.std.specs.HashMap.{spare as unused}
 use Rattle.std.specs.Vec.{vec_capacity, vec_len}
 use Rattle.fix_dictionary.specs.declared.values.Side.{Side}
 use Rattle.fix_dictionary.specs.declared.values.Side.TheVariants.{Buy, Sell}
 use Rattle.venue_rules.specs.Book.{Resting, side_room}
 use Rattle.price_book.specs.declared.ladder.Ladder.{Ladder}
 use Rattle.price_book.specs.declared.orders_kept.OrdersKept.{OrdersKept}
-use Rattle.price_book.specs.Live.{seen_slot, ranked_live, names_of}
+use Rattle.price_book.specs.Live.{seen_slot, ranked_live}
+use Rattle.price_book.specs.Numbered.{IsListed}
 
 -- the place of an instrument's side among all: by instrument, the bids first
 abbrev pub rung : ℕ → Side → ℕ
@@ -48,18 +50,19 @@ lower n (l ∷ ls) = if nat_lt (rung_of l) n then suc (lower n ls) else 0
 abbrev pub AreLadders : List Resting → List Ladder → Type 0
 AreLadders rs ls = (x : ℕ) (side : Side) → held (rung x side) ls ≡ ranked_live x side rs
 
--- the names and the ladders of the orders that are kept are those of the orders
-pub record IsInStep (o : OrdersKept) : Type 0 where
-  pub named : o.names.names ≡ names_of (map seen_slot o.slots.items)
+-- the orders that are kept are these, by number, by name and by ladder
+pub record IsInStep (rs : List Resting) (o : OrdersKept) : Type 0 where
+  pub listed : IsListed rs o.slots.entries o.names.items
   pub ordered : AreOrdered 0 o.ladders.items
-  pub ladders : AreLadders (map seen_slot o.slots.items) o.ladders.items
+  pub ladders : AreLadders rs o.ladders.items
   pub empty : o.spare.items ≡ []
 
 -- so many orders, one or none, may enter with no memory: each ladder has a place, and there is one for a ladder more
 pub record HasRoom (n : ℕ) (o : OrdersKept) : Type 0 where
   pub one : n ≤ 1
-  pub slots : vec_len o.slots + n ≤ vec_capacity o.slots
-  pub names : n ≤ o.names.room
+  pub slots : n ≤ unused o.slots
+  pub names : vec_len o.names + n ≤ vec_capacity o.names
+  pub few : vec_len o.names + n ≤ 2 ^ 32
   pub ladders : vec_len o.ladders + n ≤ vec_capacity o.ladders
   pub spare : n * (side_room + 1) ≤ vec_capacity o.spare
   pub places : (x : ℕ) (side : Side) → length (held (rung x side) o.ladders.items) + n ≤ side_room + 1

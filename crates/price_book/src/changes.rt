@@ -1,33 +1,37 @@
 //! What each fact does to the orders that rest.
-ghost use Rattle.std.specs.Prelude.{◌≡◌, ℕ, ◌≤◌, ◌<◌, ◌+◌, ◌^◌, map, length, true, [], ◌∷◌, IfOk};
+ghost use Rattle.std.specs.Prelude.{◌≡◌, ℕ, ◌≤◌, ◌<◌, ◌+◌, ◌^◌, length, true, List, [], ◌∷◌, IfOk};
 ghost use Rattle.std.specs.Vec.{vec_capacity, vec_len};
-ghost use Rattle.venue_rules.specs.Book.{side_room};
+ghost use Rattle.venue_rules.specs.Book.{Resting, side_room};
 ghost use Rattle.venue_rules.specs.Facts.{entries};
 ghost use Rattle.price_book.specs.Kept.{are_whole, is_whole};
-ghost use Rattle.price_book.specs.Live.{seen_slot, entered, reduced, traded_of, without, step, steps, Ledger, AreLedgers};
+ghost use Rattle.price_book.specs.Live.{entered, reduced, traded_of, without, step, steps, Ledger, AreLedgers};
 ghost use Rattle.price_book.specs.Rungs.{rung, held, IsInStep, HasRoom};
 ghost use Rattle.fix_dictionary.specs.declared.values.Side.{Side};
 
 use crate::entering::SIDE_ROOM;
+use crate::named::{add_name, remove_name};
+use crate::numbered::{forget, put, reduce_slot, reserve_slots};
 use crate::orders::is_day;
 use crate::orders_kept::OrdersKept;
 use crate::sides::{enter_ladder, leave_ladder, reduce_ladder};
-use crate::slots::{find_entered, leave_at, name_of, reduce_at, slot_of};
+use crate::slots::name_of;
 use fix_dictionary::Identifier;
-use sorted_names::NameIndex;
 use std::alloc::{AllocError, Global};
+use std::collections::HashMap;
 use venue_rules::{Entry, Fact, Place, Trade};
+
+// No more orders rest.
+const MOST: usize = 0xffff_ffff;
 
 /// No orders.
 pub(crate) fn no_orders(alloc: Global) -> OrdersKept
-    ensures none { result.slots.items ≡ [] }
-    ensures step { IsInStep result }
+    ensures step { IsInStep [] result }
     ensures room { HasRoom 0 result }
 {
     OrdersKept {
         alloc,
-        slots: Vec::new(alloc),
-        names: NameIndex::new(alloc),
+        slots: HashMap::new(alloc),
+        names: Vec::new(alloc),
         ladders: Vec::new(alloc),
         spare: Vec::new(alloc),
     }
@@ -35,14 +39,16 @@ pub(crate) fn no_orders(alloc: Global) -> OrdersKept
 
 /// Makes room for one order more on any side.
 pub(crate) fn reserve(orders: &mut OrdersKept) -> Result<(), AllocError>
-    requires step { IsInStep orders.old }
+    requires empty { orders.old.spare.items ≡ [] }
     requires places { (x : ℕ) (side : Side) → length (held (rung x side) orders.old.ladders.items) ≤ side_room }
-    ensures slots { orders.new.slots.items ≡ orders.old.slots.items }
-    ensures step { IsInStep orders.new }
+    ensures step { (rs : List Resting) → IsInStep rs orders.old → IsInStep rs orders.new }
     ensures kept { (n : ℕ) → HasRoom n orders.old → HasRoom n orders.new }
     ensures room { IfOk result (λ _. HasRoom 1 orders.new) }
 {
-    orders.slots.reserve(1)?;
+    if MOST < orders.names.len() {
+        return Err(AllocError);
+    }
+    reserve_slots(&mut orders.slots)?;
     orders.names.reserve(1)?;
     orders.ladders.reserve(1)?;
     orders.spare.reserve(SIDE_ROOM + 1)?;
@@ -51,66 +57,61 @@ pub(crate) fn reserve(orders: &mut OrdersKept) -> Result<(), AllocError>
 
 // An order enters; it rests where it may.
 fn enter(orders: &mut OrdersKept, entry: &Entry)
-    requires step { IsInStep orders.old }
+    requires step { (rs : List Resting) × IsInStep rs orders.old }
     requires room { HasRoom 1 orders.old }
     requires whole { entry.now.filled_before + entry.now.order.quantity ≤ 10 ^ 15 }
-    ensures slots { map seen_slot orders.new.slots.items ≡ entered entry.now (map seen_slot orders.old.slots.items) }
-    ensures step { IsInStep orders.new }
+    ensures step { (rs : List Resting) → Ledger 0 (entered entry.now rs) → IsInStep rs orders.old → IsInStep (entered entry.now rs) orders.new }
     ensures room { HasRoom 0 orders.new }
 {
     let _link: Option<Identifier> = entry.order.link;
     if is_day(entry.order.life) && 0 < entry.order.quantity.get() {
-        orders.slots.push_reserved(slot_of(entry));
-        orders.names.add(name_of(entry));
+        let name = name_of(entry);
+        add_name(&orders.slots, &mut orders.names, &name, entry.number);
+        put(&mut orders.slots, entry);
         enter_ladder(orders.alloc, &mut orders.ladders, &mut orders.spare, entry);
-    }
-}
-
-// So much less is left of the order of this number; it is gone where nothing is.
-fn reduce(orders: &mut OrdersKept, number: u64, quantity: u64)
-    requires step { IsInStep orders.old }
-    requires ledger { Ledger 0 (map seen_slot orders.old.slots.items) }
-    ensures slots { map seen_slot orders.new.slots.items ≡ reduced number quantity (map seen_slot orders.old.slots.items) }
-    ensures step { IsInStep orders.new }
-    ensures room { (n : ℕ) → HasRoom n orders.old → HasRoom n orders.new }
-{
-    let Some(at) = find_entered(&orders.slots, number) else {
-        return;
-    };
-    let slot = &orders.slots[at];
-    let instrument = slot.entry.order.instrument;
-    let side = slot.entry.order.side;
-    reduce_ladder(&mut orders.ladders, instrument, side, number, quantity);
-    if reduce_at(&mut orders.slots, at, quantity) {
-        orders.names.remove(at);
     }
 }
 
 // The order of this number is gone.
 fn leave(orders: &mut OrdersKept, number: u64)
-    requires step { IsInStep orders.old }
-    requires ledger { Ledger 0 (map seen_slot orders.old.slots.items) }
-    ensures slots { map seen_slot orders.new.slots.items ≡ without number (map seen_slot orders.old.slots.items) }
-    ensures step { IsInStep orders.new }
+    requires { (rs : List Resting) × IsInStep rs orders.old }
+    ensures step { (rs : List Resting) → IsInStep rs orders.old → IsInStep (without number rs) orders.new }
     ensures room { (n : ℕ) → HasRoom n orders.old → HasRoom n orders.new }
 {
-    let Some(at) = find_entered(&orders.slots, number) else {
+    let Some(slot) = orders.slots.get(&number) else {
         return;
     };
-    let slot = &orders.slots[at];
     let instrument = slot.entry.order.instrument;
     let side = slot.entry.order.side;
+    let name = name_of(&slot.entry);
     leave_ladder(&mut orders.ladders, instrument, side, number);
-    leave_at(&mut orders.slots, at);
-    orders.names.remove(at);
+    remove_name(&orders.slots, &mut orders.names, &name, number);
+    forget(&mut orders.slots, number);
+}
+
+// So much less is left of the order of this number; it is gone where nothing is.
+fn reduce(orders: &mut OrdersKept, number: u64, quantity: u64)
+    requires { (rs : List Resting) × IsInStep rs orders.old }
+    ensures step { (rs : List Resting) → IsInStep rs orders.old → IsInStep (reduced number quantity rs) orders.new }
+    ensures room { (n : ℕ) → HasRoom n orders.old → HasRoom n orders.new }
+{
+    let Some(slot) = orders.slots.get(&number) else {
+        return;
+    };
+    let instrument = slot.entry.order.instrument;
+    let side = slot.entry.order.side;
+    if slot.left <= quantity {
+        leave(orders, number);
+        return;
+    }
+    reduce_ladder(&mut orders.ladders, instrument, side, number, quantity);
+    reduce_slot(&mut orders.slots, number, quantity);
 }
 
 // A trade leaves less of both its orders.
 fn trade(orders: &mut OrdersKept, trade: &Trade)
-    requires step { IsInStep orders.old }
-    requires ledger { Ledger 0 (map seen_slot orders.old.slots.items) }
-    ensures slots { map seen_slot orders.new.slots.items ≡ traded_of trade.now (map seen_slot orders.old.slots.items) }
-    ensures step { IsInStep orders.new }
+    requires { (rs : List Resting) × IsInStep rs orders.old }
+    ensures step { (rs : List Resting) → IsInStep rs orders.old → IsInStep (traded_of trade.now rs) orders.new }
     ensures room { (n : ℕ) → HasRoom n orders.old → HasRoom n orders.new }
 {
     if let Place::Book(resting, entering) = trade.place {
@@ -121,12 +122,10 @@ fn trade(orders: &mut OrdersKept, trade: &Trade)
 
 // One fact more.
 fn add_fact(orders: &mut OrdersKept, fact: &Fact)
-    requires step { IsInStep orders.old }
-    requires ledger { Ledger 0 (map seen_slot orders.old.slots.items) }
+    requires step { (rs : List Resting) × IsInStep rs orders.old }
     requires room { HasRoom (length (entries (fact.now ∷ []))) orders.old }
     requires whole { is_whole fact.now ≡ true }
-    ensures slots { map seen_slot orders.new.slots.items ≡ step (map seen_slot orders.old.slots.items) fact.now }
-    ensures step { IsInStep orders.new }
+    ensures step { (rs : List Resting) → Ledger 0 (step rs fact.now) → IsInStep rs orders.old → IsInStep (step rs fact.now) orders.new }
     ensures room { (n : ℕ) → HasRoom (length (entries (fact.now ∷ [])) + n) orders.old → HasRoom n orders.new }
 {
     match fact {
@@ -140,12 +139,10 @@ fn add_fact(orders: &mut OrdersKept, fact: &Fact)
 #[tactic(auto, using(crate::proofs::SlotSteps::facts_on))]
 /// Facts more, for whose orders there is room.
 pub(crate) fn add_facts(orders: &mut OrdersKept, facts: &[Fact])
-    requires step { IsInStep orders.old }
-    requires ledgers { AreLedgers (map seen_slot orders.old.slots.items) facts.now }
+    requires step { (rs : List Resting) × AreLedgers rs facts.now × IsInStep rs orders.old }
     requires room { HasRoom (length (entries facts.now)) orders.old }
     requires whole { are_whole facts.now ≡ true }
-    ensures slots { map seen_slot orders.new.slots.items ≡ steps (map seen_slot orders.old.slots.items) facts.now }
-    ensures step { IsInStep orders.new }
+    ensures step { (rs : List Resting) → AreLedgers rs facts.now → IsInStep rs orders.old → IsInStep (steps rs facts.now) orders.new }
     ensures room { HasRoom 0 orders.new }
 {
     for fact in facts {

@@ -166,7 +166,7 @@ fn reduce_in(orders: &mut Vec<Slot>, number: u64, quantity: u64)
     ensures capacity { vec_capacity orders.new ≡ vec_capacity orders.old }
 {
     if let Some(at) = find_number(orders, number) {
-        let _gone = reduce_at(orders, at, quantity);
+        reduce_at(orders, at, quantity);
     }
 }
 

@@ -1,40 +1,54 @@
-use Rattle.std.proofs.Common.{◌≡◌, ◌∙◌, ap, sym, map, List, length, get_or, ◌==◌, arith}
-use Rattle.std.specs.List.{remove}
-use Rattle.std.proofs.lemmas.List.{length-map}
+use Rattle.std.proofs.Common.{◌≡◌, ◌∙◌, ap, sym, ℕ, ◌<◌, ◌≤◌, List, Some, None, length, ◌==◌, arith}
+use Rattle.std.specs.Option.{option_copied}
 use Rattle.venue_rules.specs.Book.{Resting}
 use Rattle.price_book.specs.declared.slot.Slot.{Slot}
-use Rattle.price_book.specs.Live.{seen_slot, without, Absent, IsPlaceOf}
+use Rattle.price_book.specs.Live.{seen_slot, without}
+use Rattle.price_book.specs.Numbered.{slot_at}
 use Rattle.price_book.specs.Rungs.{rung, held}
-use Rattle.price_book.proofs.SlotSteps.{mapped-at}
 use Rattle.price_book.proofs.Ladders.{without-absent}
+use Rattle.price_book.proofs.Numbers.{Found, kept-some, kept-none, numbered-some, without-place, ledger-without}
+use Rattle.price_book.proofs.Names.{place-at}
 use Rattle.price_book.proofs.Rungs.{ladders-without, held-fewer, without-fewer}
 use Rattle.price_book.proofs.changes.leave.Goals as goal
 
-pub returns-in_default-clause-slots : goal.returns-in_default-clause-slots
-returns-in_default-clause-slots c =
-    let absent : Absent c.args.number (map seen_slot c.args.orders.now.slots.items) = rw c.deref.ensures.value at c.in_default.ensures in
-    sym (without-absent c.args.number (map seen_slot c.args.orders.now.slots.items) absent)
+pub returns-in_default-clause-step : goal.returns-in_default-clause-step
+returns-in_default-clause-step c = λ rs h.
+    let none : slot_at c.args.orders.now.slots.entries c.args.number ≡ None = sym c.get.ensures.value ∙ ap option_copied c.in_default.is in
+    rw (without-absent c.args.number rs (kept-none c.args.number rs c.args.orders.now.slots.entries none h.listed.slots)) h
+
+pub remove_name-requires : goal.remove_name-requires
+remove_name-requires c =
+    let n = c.args.number in
+    let rs : List Resting = c.requires.0 in
+    let s : Slot = c.in-Some.slot.now in
+    let some : slot_at c.args.orders.now.slots.entries n ≡ Some s = sym c.get.ensures.value ∙ ap option_copied c.in-Some.is in
+    let f : Found n rs (seen_slot s) = numbered-some n rs (seen_slot s) (kept-some n s rs c.args.orders.now.slots.entries some c.requires.1.listed.slots) in
+    (rs, c.requires.1.listed, f.at, rw c.name_of-name.ensures (place-at n rs f.at (seen_slot s) f.place f.here))
 
 pub returns-clause-step : goal.returns-clause-step
-returns-clause-step c =
-    let xs : List Slot = c.args.orders.now.slots.items in
-    let rs : List Resting = map seen_slot xs in
-    let s : Slot = c.index-slot.result.now in
-    let place : IsPlaceOf c.args.number rs c.in-Some.at = rw c.deref.ensures.value at c.in-Some.ensures in
-    let here : seen_slot s ≡ get_or rs c.in-Some.at (seen_slot s) = sym (mapped-at xs c.in-Some.at s (seen_slot s) (omega (arith, place.0, length-map xs seen_slot)) c.index-slot.ensures) in
+returns-clause-step c = λ rs h.
+    let n = c.args.number in
+    let s : Slot = c.in-Some.slot.now in
+    let some : slot_at c.args.orders.now.slots.entries n ≡ Some s = sym c.get.ensures.value ∙ ap option_copied c.in-Some.is in
+    let f : Found n rs (seen_slot s) = numbered-some n rs (seen_slot s) (kept-some n s rs c.args.orders.now.slots.entries some h.listed.slots) in
     record {
-      named = c.remove.ensures.names ∙ ap (λ ns. remove ns c.in-Some.at) c.requires.step.named ∙ sym c.leave_at.ensures.names;
+      listed = record {
+        ledger = ledger-without n 0 rs h.listed.ledger;
+        slots = c.forget.ensures.slots rs h.listed.ledger h.listed.slots;
+        named = rw (without-place n rs f.at f.place) (c.remove_name.ensures.named rs f.at (rw c.name_of-name.ensures (place-at n rs f.at (seen_slot s) f.place f.here)) h.listed);
+      };
       ordered = c.leave_ladder.ensures.ordered;
-      ladders = rw (c.leave_at.ensures.slots c.args.number place) (ladders-without c.args.number c.in-Some.at rs (seen_slot s) c.args.orders.now.ladders.items c.leave_ladder.new.ladders.items c.requires.ledger place here c.requires.step.ladders c.leave_ladder.ensures.held);
-      empty = c.requires.step.empty;
+      ladders = ladders-without n f.at rs (seen_slot s) c.args.orders.now.ladders.items c.leave_ladder.new.ladders.items h.listed.ledger f.place f.here h.ladders c.leave_ladder.ensures.held;
+      empty = h.empty;
     }
 
 pub returns-clause-room : goal.returns-clause-room
 returns-clause-room c = λ n h. record {
   one = h.one;
-  slots = omega (arith, h.slots, c.leave_at.ensures.len, c.leave_at.ensures.capacity);
-  names = omega (arith, h.names, c.remove.ensures.room);
+  slots = omega (arith, h.slots, c.forget.ensures.room);
+  names = omega (arith, h.names, c.remove_name.ensures.len, c.remove_name.ensures.capacity);
+  few = omega (arith, h.few, c.remove_name.ensures.len);
   ladders = omega (arith, h.ladders, c.leave_ladder.ensures.len, c.leave_ladder.ensures.capacity);
   spare = h.spare;
-  places = λ x side. let hs : List Resting = held (rung x side) c.args.orders.now.ladders.items in omega (arith, ap length (c.leave_ladder.ensures.held (rung x side)), held-fewer (without c.args.number) (rung x side == rung c.index-slot.result.now.entry.order.instrument c.index-slot.result.now.entry.order.side) hs (without-fewer c.args.number hs), h.places x side);
+  places = λ x side. let hs : List Resting = held (rung x side) c.args.orders.now.ladders.items in omega (arith, ap length (c.leave_ladder.ensures.held (rung x side)), held-fewer (without c.args.number) (rung x side == rung c.in-Some.slot.now.entry.order.instrument c.in-Some.slot.now.entry.order.side) hs (without-fewer c.args.number hs), h.places x side);
 }

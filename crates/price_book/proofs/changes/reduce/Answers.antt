@@ -1,64 +1,61 @@
-use Rattle.std.proofs.Common.{◌≡◌, ◌∙◌, ap, sym, map, List, length, get_or, ◌==◌, if◌then◌else◌, arith}
-use Rattle.std.specs.List.{remove}
-use Rattle.std.proofs.lemmas.List.{length-map}
+use Rattle.std.proofs.Common.{◌≡◌, ◌∙◌, ap, sym, ℕ, ◌<◌, ◌≤◌, List, Some, None, length, ◌==◌, arith}
+use Rattle.std.specs.Option.{option_copied}
 use Rattle.venue_rules.specs.Book.{Resting}
 use Rattle.price_book.specs.declared.slot.Slot.{Slot}
-use Rattle.price_book.specs.Live.{seen_slot, reduced, names_of, Absent, IsPlaceOf}
+use Rattle.price_book.specs.Live.{seen_slot, reduced}
+use Rattle.price_book.specs.Numbered.{slot_at}
 use Rattle.price_book.specs.Rungs.{rung, held}
-use Rattle.price_book.proofs.SlotSteps.{mapped-at}
+use Rattle.price_book.proofs.Living.{ledger-reduced}
 use Rattle.price_book.proofs.Ladders.{reduced-absent}
+use Rattle.price_book.proofs.Numbers.{Found, kept-some, kept-none, numbered-some, reduced-all}
+use Rattle.price_book.proofs.Names.{named-reduced}
 use Rattle.price_book.proofs.Rungs.{ladders-reduced, held-fewer, reduced-fewer}
 use Rattle.price_book.proofs.changes.reduce.Goals as goal
 
-pub returns-in_default-clause-slots : goal.returns-in_default-clause-slots
-returns-in_default-clause-slots c =
-    let absent : Absent c.args.number (map seen_slot c.args.orders.now.slots.items) = rw c.deref.ensures.value at c.in_default.ensures in
-    sym (reduced-absent c.args.number c.args.quantity (map seen_slot c.args.orders.now.slots.items) absent)
+pub returns-in_default-clause-step : goal.returns-in_default-clause-step
+returns-in_default-clause-step c = λ rs h.
+    let none : slot_at c.args.orders.now.slots.entries c.args.number ≡ None = sym c.get.ensures.value ∙ ap option_copied c.in_default.is in
+    rw (reduced-absent c.args.number c.args.quantity rs (kept-none c.args.number rs c.args.orders.now.slots.entries none h.listed.slots)) h
 
-pub returns-then-reduce_at-clause-step : goal.returns-then-reduce_at-clause-step
-returns-then-reduce_at-clause-step c =
-    let xs : List Slot = c.args.orders.now.slots.items in
-    let rs : List Resting = map seen_slot xs in
-    let s : Slot = c.index-slot.result.now in
-    let place : IsPlaceOf c.args.number rs c.in-Some.at = rw c.deref.ensures.value at c.in-Some.ensures in
-    let here : seen_slot s ≡ get_or rs c.in-Some.at (seen_slot s) = sym (mapped-at xs c.in-Some.at s (seen_slot s) (omega (arith, place.0, length-map xs seen_slot)) c.index-slot.ensures) in
+pub returns-then-slot-quantity-clause-step : goal.returns-then-slot-quantity-clause-step
+returns-then-slot-quantity-clause-step c = λ rs h.
+    let n = c.args.number in
+    let s : Slot = c.in-Some.slot.now in
+    let some : slot_at c.args.orders.now.slots.entries n ≡ Some s = sym c.get.ensures.value ∙ ap option_copied c.in-Some.is in
+    rw (sym (reduced-all n c.args.quantity rs (seen_slot s) (kept-some n s rs c.args.orders.now.slots.entries some h.listed.slots) (omega (arith, c.if-slot-quantity.true)))) (c.leave.ensures.step rs h)
+
+pub reduce_slot-requires : goal.reduce_slot-requires
+reduce_slot-requires c =
+    let some : slot_at c.args.orders.now.slots.entries c.args.number ≡ Some c.in-Some.slot.now = sym c.get.ensures.value ∙ ap option_copied c.in-Some.is in
+    let more : c.args.quantity < c.in-Some.slot.now.left = omega (arith, c.if-slot-quantity.false) in
+    rw some more
+
+pub returns-clause-step : goal.returns-clause-step
+returns-clause-step c = λ rs h.
+    let n = c.args.number in
+    let q = c.args.quantity in
+    let s : Slot = c.in-Some.slot.now in
+    let some : slot_at c.args.orders.now.slots.entries n ≡ Some s = sym c.get.ensures.value ∙ ap option_copied c.in-Some.is in
+    let here = kept-some n s rs c.args.orders.now.slots.entries some h.listed.slots in
+    let f : Found n rs (seen_slot s) = numbered-some n rs (seen_slot s) here in
     record {
-      named = c.remove.ensures.names ∙ ap (λ ns. remove ns c.in-Some.at) c.requires.step.named ∙ ap (λ b. if b then remove (names_of rs) c.in-Some.at else names_of rs) (sym c.if-reduce_at.true) ∙ sym c.reduce_at.ensures.names;
+      listed = record {
+        ledger = ledger-reduced n q 0 rs h.listed.ledger;
+        slots = c.reduce_slot.ensures.slots rs h.listed.ledger h.listed.slots;
+        named = named-reduced n q rs (seen_slot s) c.args.orders.now.names.items here (omega (arith, c.if-slot-quantity.false)) h.listed.named;
+      };
       ordered = c.reduce_ladder.ensures.ordered;
-      ladders = rw (c.reduce_at.ensures.slots c.args.number place) (ladders-reduced c.args.number c.args.quantity c.in-Some.at rs (seen_slot s) c.args.orders.now.ladders.items c.reduce_ladder.new.ladders.items c.requires.ledger place here c.requires.step.ladders c.reduce_ladder.ensures.held);
-      empty = c.requires.step.empty;
+      ladders = ladders-reduced n q f.at rs (seen_slot s) c.args.orders.now.ladders.items c.reduce_ladder.new.ladders.items h.listed.ledger f.place f.here h.ladders c.reduce_ladder.ensures.held;
+      empty = h.empty;
     }
 
-pub returns-then-reduce_at-clause-room : goal.returns-then-reduce_at-clause-room
-returns-then-reduce_at-clause-room c = λ n h. record {
+pub returns-clause-room : goal.returns-clause-room
+returns-clause-room c = λ n h. record {
   one = h.one;
-  slots = omega (arith, h.slots, c.reduce_at.ensures.len, c.reduce_at.ensures.capacity);
-  names = omega (arith, h.names, c.remove.ensures.room);
-  ladders = omega (arith, h.ladders, c.reduce_ladder.ensures.len, c.reduce_ladder.ensures.capacity);
-  spare = h.spare;
-  places = λ x side. let hs : List Resting = held (rung x side) c.args.orders.now.ladders.items in omega (arith, ap length (c.reduce_ladder.ensures.held (rung x side)), held-fewer (reduced c.args.number c.args.quantity) (rung x side == rung c.index-slot.result.now.entry.order.instrument c.index-slot.result.now.entry.order.side) hs (reduced-fewer c.args.number c.args.quantity hs), h.places x side);
-}
-
-pub returns-else-reduce_at-clause-step : goal.returns-else-reduce_at-clause-step
-returns-else-reduce_at-clause-step c =
-    let xs : List Slot = c.args.orders.now.slots.items in
-    let rs : List Resting = map seen_slot xs in
-    let s : Slot = c.index-slot.result.now in
-    let place : IsPlaceOf c.args.number rs c.in-Some.at = rw c.deref.ensures.value at c.in-Some.ensures in
-    let here : seen_slot s ≡ get_or rs c.in-Some.at (seen_slot s) = sym (mapped-at xs c.in-Some.at s (seen_slot s) (omega (arith, place.0, length-map xs seen_slot)) c.index-slot.ensures) in
-    record {
-      named = c.requires.step.named ∙ ap (λ b. if b then remove (names_of rs) c.in-Some.at else names_of rs) (sym c.if-reduce_at.false) ∙ sym c.reduce_at.ensures.names;
-      ordered = c.reduce_ladder.ensures.ordered;
-      ladders = rw (c.reduce_at.ensures.slots c.args.number place) (ladders-reduced c.args.number c.args.quantity c.in-Some.at rs (seen_slot s) c.args.orders.now.ladders.items c.reduce_ladder.new.ladders.items c.requires.ledger place here c.requires.step.ladders c.reduce_ladder.ensures.held);
-      empty = c.requires.step.empty;
-    }
-
-pub returns-else-reduce_at-clause-room : goal.returns-else-reduce_at-clause-room
-returns-else-reduce_at-clause-room c = λ n h. record {
-  one = h.one;
-  slots = omega (arith, h.slots, c.reduce_at.ensures.len, c.reduce_at.ensures.capacity);
+  slots = omega (arith, h.slots, c.reduce_slot.ensures.room);
   names = h.names;
+  few = h.few;
   ladders = omega (arith, h.ladders, c.reduce_ladder.ensures.len, c.reduce_ladder.ensures.capacity);
   spare = h.spare;
-  places = λ x side. let hs : List Resting = held (rung x side) c.args.orders.now.ladders.items in omega (arith, ap length (c.reduce_ladder.ensures.held (rung x side)), held-fewer (reduced c.args.number c.args.quantity) (rung x side == rung c.index-slot.result.now.entry.order.instrument c.index-slot.result.now.entry.order.side) hs (reduced-fewer c.args.number c.args.quantity hs), h.places x side);
+  places = λ x side. let hs : List Resting = held (rung x side) c.args.orders.now.ladders.items in omega (arith, ap length (c.reduce_ladder.ensures.held (rung x side)), held-fewer (reduced c.args.number c.args.quantity) (rung x side == rung c.in-Some.slot.now.entry.order.instrument c.in-Some.slot.now.entry.order.side) hs (reduced-fewer c.args.number c.args.quantity hs), h.places x side);
 }

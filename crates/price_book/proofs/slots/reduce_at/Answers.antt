@@ -1,8 +1,8 @@
 use Rattle.std.proofs.Common.{◌≡◌, ◌∙◌, ap, sym, refl, map, List, arith}
 use Rattle.std.proofs.lemmas.List.{get_or_default}
 use Rattle.price_book.specs.declared.slot.Slot.{Slot}
-use Rattle.price_book.specs.Live.{seen_slot, names_of}
-use Rattle.price_book.proofs.SlotSteps.{reduced-set, reduced-gone, names-removed, names-set}
+use Rattle.price_book.specs.Live.{seen_slot}
+use Rattle.price_book.proofs.SlotSteps.{reduced-set, reduced-gone}
 use Rattle.price_book.proofs.slots.reduce_at.Goals as goal
 
 pub returns-then-quantity-index-clause-slots : goal.returns-then-quantity-index-clause-slots
@@ -13,13 +13,7 @@ returns-then-quantity-index-clause-slots c =
     let left : c.index.result.now.left ≡ s.left = ap (λ (t : Slot). t.left) first in
     λ n at. reduced-set n c.args.quantity xs c.args.at s _ c.requires c.index_mut-slot.ensures.value (omega (arith, c.if-quantity-index.true, left)) refl at
 
-pub returns-then-quantity-index-clause-names : goal.returns-then-quantity-index-clause-names
-returns-then-quantity-index-clause-names c = sym (names-set c.args.slots.now.items c.args.at c.index_mut-slot.result.now _ c.requires c.index_mut-slot.ensures.value refl)
-
 pub returns-clause-slots : goal.returns-clause-slots
 returns-clause-slots c =
     let xs : List Slot = c.args.slots.now.items in
     λ n at. ap (map seen_slot) c.remove-gone.ensures.items ∙ reduced-gone n c.args.quantity xs c.args.at c.index.result.now c.requires c.index.ensures (omega (arith, c.if-quantity-index.false)) at
-
-pub returns-clause-names : goal.returns-clause-names
-returns-clause-names c = ap (λ xs. names_of (map seen_slot xs)) c.remove-gone.ensures.items ∙ sym (names-removed c.args.slots.now.items c.args.at)

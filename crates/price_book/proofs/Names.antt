@@ -1,0 +1,232 @@
+use Rattle.std.proofs.Common.{◌≡◌, refl, sym, ap, ◌∙◌, ℕ, zero, suc, ◌+◌, ◌-◌, ◌≤◌, ◌<◌, ◌^◌, Bool, true, false, List, [], ◌∷◌, ◌++◌, map, length, get_or, nat_lt, Option, Some, None, option_map, inl, inr, arith, if◌then◌else◌}
+use Rattle.std.specs.List.{remove, insert, list_any}
+use Rattle.std.specs.Option.{unwrap_or}
+use Rattle.std.specs.declared.cmp.Ordering.{Ordering}
+use Rattle.std.specs.declared.cmp.Ordering.TheVariants.{Less, Equal}
+use Rattle.std.specs.Ordering.{nat_cmp, ordering_index}
+use Rattle.std.proofs.lemmas.Bool.{cases_lt}
+use Rattle.std.proofs.lemmas.Bool.Decides.{nat_tests}
+use Rattle.std.proofs.lemmas.Cmp.{tied_itself}
+use Rattle.std.proofs.lemmas.List.{map-append, length-map, get_or_append_left}
+use Rattle.std.proofs.lemmas.List.Edits.{length-remove, get_or-remove_below, get_or-remove_above}
+use Rattle.std.proofs.Math.Seq.{get_or-append_seam}
+use Rattle.venue_rules.specs.Book.{Resting}
+use Rattle.sorted_names.specs.declared.names.Name.{Name}
+use Rattle.sorted_names.specs.Search.{AreRising, IsPlace}
+use Rattle.sorted_names.specs.Names.{is_of, name_at, name_cmp, name_order, place_cmp, lowered, closed, IsIndex, IsFirst}
+use Rattle.sorted_names.specs.Names.{answer_at as name_answer, answer_behind as name_behind}
+use Rattle.sorted_names.proofs.Ordered.{name_total, then-less, nat-less, rising-at, rising-behind, first-found, none-found}
+use Rattle.sorted_names.proofs.Inserted.{added}
+use Rattle.sorted_names.proofs.Closed.{less}
+use Rattle.price_book.specs.declared.slot.Slot.{Slot}
+use Rattle.price_book.specs.Live.{is_live, seen_slot, reduced, entry_name, names_of, find_live, Ledger, IsPlaceOf}
+use Rattle.price_book.specs.Numbered.{numbered, slot_at, slot_order, IsNumbered, IsNamed, IsListed, IsAt, numbers_of, number_at, answer_at, answer_behind}
+use Rattle.price_book.proofs.SlotSteps.{map-remove}
+use Rattle.price_book.proofs.Current.{AreLive, first-current, none-current}
+use Rattle.price_book.proofs.Numbers.{number-one, number-read, numbered-at, mapped-reduced}
+
+-- lists of numbers
+
+get_or-mapped : (f : ℕ → ℕ) (xs : List ℕ) (i : ℕ) → i < length xs → get_or (map f xs) i 0 ≡ f (get_or xs i 0)
+get_or-mapped f [] i h = absurd (omega (arith, h))
+get_or-mapped f (x ∷ xs) zero h = refl
+get_or-mapped f (x ∷ xs) (suc i) h = get_or-mapped f xs i (omega (arith, h))
+
+map-within : (f g : ℕ → ℕ) (xs : List ℕ) → ((i : ℕ) → i < length xs → f (get_or xs i 0) ≡ g (get_or xs i 0)) → map f xs ≡ map g xs
+map-within f g [] h = refl
+map-within f g (x ∷ xs) h = ap (λ y. y ∷ map f xs) (h 0 (omega arith)) ∙ ap (λ ys. g x ∷ ys) (map-within f g xs (λ i l. h (suc i) (omega (arith, l))))
+
+map-twice : (f g : ℕ → ℕ) (xs : List ℕ) → map f (map g xs) ≡ map (λ k. f (g k)) xs
+map-twice f g [] = refl
+map-twice f g (x ∷ xs) = ap (λ ys. f (g x) ∷ ys) (map-twice f g xs)
+
+map-insert : (f : ℕ → ℕ) (xs : List ℕ) (i x : ℕ) → map f (insert xs i x) ≡ insert (map f xs) i (f x)
+map-insert f [] zero x = refl
+map-insert f [] (suc i) x = refl
+map-insert f (y ∷ ys) zero x = refl
+map-insert f (y ∷ ys) (suc i) x = ap (λ zs. f y ∷ zs) (map-insert f ys i x)
+
+-- the count of names, of numbers and of orders is one
+
+names-count : (rs : List Resting) → length (names_of rs) ≡ length rs
+names-count rs = length-map rs (λ (r : Resting). entry_name r.entry)
+
+numbers-count : (rs : List Resting) → length (numbers_of rs) ≡ length rs
+numbers-count rs = length-map rs (λ (r : Resting). r.entry.number)
+
+index-count : (rs : List Resting) (ns : List ℕ) (n : IsNamed rs ns) → length ns ≡ length n.index
+index-count rs ns n = ap length n.numbers ∙ length-map n.index (number_at rs)
+
+pub named-count : (rs : List Resting) (ns : List ℕ) → IsNamed rs ns → length ns ≡ length rs
+named-count rs ns n = index-count rs ns n ∙ n.is.count ∙ names-count rs
+
+number-there : (rs : List Resting) (ns : List ℕ) (n : IsNamed rs ns) (k : ℕ) → k < length n.index → get_or ns k 0 ≡ number_at rs (get_or n.index k 0)
+number-there rs ns n k h = ap (λ xs. get_or xs k 0) n.numbers ∙ get_or-mapped (number_at rs) n.index k h
+
+within : (rs : List Resting) (ns : List ℕ) (n : IsNamed rs ns) (k : ℕ) → k < length n.index → get_or n.index k 0 < length rs
+within rs ns n k h = omega (arith, n.is.within k h, names-count rs)
+
+-- a search by numbers is one by names
+
+order-seen : (o : Option Slot) (r : Resting) (who : ℕ) (id : List ℕ) → option_map seen_slot o ≡ Some r → slot_order o who id ≡ name_order (entry_name r.entry) who id
+order-seen None r who id h = cc
+order-seen (Some s) r who id h = ap (λ (t : Resting). name_order (entry_name t.entry) who id) (ap (λ o. unwrap_or o (seen_slot s)) h)
+
+name-read : (rs : List Resting) (j : ℕ) (d : Resting) → j < length rs → entry_name (get_or rs j d).entry ≡ name_at (names_of rs) j
+name-read [] j d h = absurd (omega (arith, h))
+name-read (r ∷ rs) zero d h = refl
+name-read (r ∷ rs) (suc j) d h = name-read rs j d (omega (arith, h))
+
+some-order : (rs : List Resting) (j : ℕ) → j < length rs → Resting
+some-order [] j h = absurd (omega (arith, h))
+some-order (r ∷ rs) j h = r
+
+answer-same : (rs : List Resting) (es : List (ℕ × Slot)) (ns : List ℕ) (l : IsListed rs es ns) (who : ℕ) (id : List ℕ) (k : ℕ) → k < length ns → answer_at es ns who id k ≡ name_answer (names_of rs) l.named.index who id k
+answer-same rs es ns l who id k h =
+    let in-index : k < length l.named.index = omega (arith, h, index-count rs ns l.named) in
+    let j = get_or l.named.index k 0 in
+    let below : j < length rs = within rs ns l.named k in-index in
+    let d = some-order rs j below in
+    ap (λ n. slot_order (slot_at es n) who id) (number-there rs ns l.named k in-index)
+    ∙ order-seen (slot_at es (number_at rs j)) (get_or rs j d) who id (l.slots (number_at rs j) ∙ numbered-at 0 rs j d l.ledger below)
+    ∙ ap (λ n. name_order n who id) (name-read rs j d below)
+
+rising-same : (a b : ℕ → Ordering) (n m : ℕ) → n ≡ m → ((k : ℕ) → k < n → a k ≡ b k) → AreRising b m → AreRising a n
+rising-same a b n m e same r i j h l = omega (arith, ap ordering_index (same i (omega (arith, h, l))), ap ordering_index (same j l), r i j h (omega (arith, e, l)))
+
+place-same : (a b : ℕ → Ordering) (n m place : ℕ) (found : Bool) → n ≡ m → ((k : ℕ) → k < n → a k ≡ b k) → IsPlace a n place found → IsPlace b m place found
+place-same a b n m place found e same p = record {
+  within = omega (arith, p.within, e);
+  below = λ k h. omega (arith, p.below k h, ap ordering_index (same k (omega (arith, h, p.within))));
+  above = λ k h l. omega (arith, p.above k h (omega (arith, l, e)), ap ordering_index (same k (omega (arith, l, e))));
+  here = λ f. let at = p.here f in (omega (arith, at.0, e), omega (arith, at.1, ap ordering_index (same place at.0)));
+  nowhere = λ f k h l. omega (arith, p.nowhere f k h (omega (arith, l, e)), ap ordering_index (same k (omega (arith, l, e))));
+}
+
+pub listed-rising : (rs : List Resting) (es : List (ℕ × Slot)) (ns : List ℕ) (who : ℕ) (id : List ℕ) → IsListed rs es ns → AreRising (answer_at es ns who id) (length ns)
+listed-rising rs es ns who id l = rising-same (answer_at es ns who id) (name_answer (names_of rs) l.named.index who id) (length ns) (length l.named.index) (index-count rs ns l.named) (answer-same rs es ns l who id) (rising-at (names_of rs) l.named.index who id l.named.is)
+
+pub behind-rising : (rs : List Resting) (es : List (ℕ × Slot)) (ns : List ℕ) (who : ℕ) (id : List ℕ) → IsListed rs es ns → AreRising (answer_behind es ns who id) (length ns)
+behind-rising rs es ns who id l = rising-same (answer_behind es ns who id) (name_behind (names_of rs) l.named.index who id) (length ns) (length l.named.index) (index-count rs ns l.named) (λ k h. ap lowered (answer-same rs es ns l who id k h)) (rising-behind (names_of rs) l.named.index who id l.named.is)
+
+-- the first order of a name
+
+ledger-alive : (low : ℕ) (rs : List Resting) → Ledger low rs → AreLive rs
+ledger-alive low [] l = tt
+ledger-alive low (r ∷ rs) l = (l.1, ledger-alive r.entry.number rs l.2)
+
+pub listed-found : (rs : List Resting) (es : List (ℕ × Slot)) (ns : List ℕ) (who : ℕ) (id : List ℕ) (at : ℕ) → IsListed rs es ns → IsPlace (answer_at es ns who id) (length ns) at true → option_map seen_slot (slot_at es (get_or ns at 0)) ≡ find_live who id rs
+listed-found rs es ns who id at l p =
+    let q : IsPlace (name_answer (names_of rs) l.named.index who id) (length l.named.index) at true = place-same (answer_at es ns who id) (name_answer (names_of rs) l.named.index who id) (length ns) (length l.named.index) at true (index-count rs ns l.named) (answer-same rs es ns l who id) p in
+    let first : IsFirst (names_of rs) who id (Some (get_or l.named.index at 0)) = first-found (names_of rs) l.named.index who id at l.named.is q in
+    let j = get_or l.named.index at 0 in
+    let below : j < length rs = within rs ns l.named at (q.here refl).0 in
+    let d = some-order rs j below in
+    ap (λ n. option_map seen_slot (slot_at es n)) (number-there rs ns l.named at (q.here refl).0) ∙ l.slots (number_at rs j) ∙ numbered-at 0 rs j d l.ledger below
+    ∙ sym (first-current who id rs j d (ledger-alive 0 rs l.ledger) below first.1 first.2)
+
+pub listed-none : (rs : List Resting) (es : List (ℕ × Slot)) (ns : List ℕ) (who : ℕ) (id : List ℕ) (at : ℕ) → IsListed rs es ns → IsPlace (answer_at es ns who id) (length ns) at false → find_live who id rs ≡ None
+listed-none rs es ns who id at l p =
+    let q : IsPlace (name_answer (names_of rs) l.named.index who id) (length l.named.index) at false = place-same (answer_at es ns who id) (name_answer (names_of rs) l.named.index who id) (length ns) (length l.named.index) at false (index-count rs ns l.named) (answer-same rs es ns l who id) p in
+    none-current who id rs (ledger-alive 0 rs l.ledger) (none-found (names_of rs) l.named.index who id at l.named.is q)
+
+-- an order more
+
+mapped-push : (rs : List Resting) (r : Resting) → names_of (rs ++ r ∷ []) ≡ names_of rs ++ entry_name r.entry ∷ []
+mapped-push rs r = map-append (λ (t : Resting). entry_name t.entry) rs (r ∷ [])
+
+numbers-push : (rs : List Resting) (r : Resting) → numbers_of (rs ++ r ∷ []) ≡ numbers_of rs ++ r.entry.number ∷ []
+numbers-push rs r = map-append (λ (t : Resting). t.entry.number) rs (r ∷ [])
+
+pub named-pushed : (rs : List Resting) (es : List (ℕ × Slot)) (ns : List ℕ) (r : Resting) (at : ℕ) (found : Bool) → IsListed rs es ns → length ns < 2 ^ 32 → IsPlace (answer_behind es ns (entry_name r.entry).who (entry_name r.entry).id) (length ns) at found → IsNamed (rs ++ r ∷ []) (insert ns at r.entry.number)
+named-pushed rs es ns r at found l few p =
+    let n : Name = entry_name r.entry in
+    let index = l.named.index in
+    let q : IsPlace (name_behind (names_of rs) index n.who n.id) (length index) at found = place-same (answer_behind es ns n.who n.id) (name_behind (names_of rs) index n.who n.id) (length ns) (length index) at found (index-count rs ns l.named) (λ k h. ap lowered (answer-same rs es ns l n.who n.id k h)) p in
+    let is : IsIndex (names_of rs ++ n ∷ []) (insert index at (length (names_of rs))) = added (names_of rs) index n at found l.named.is q (omega (arith, few, named-count rs ns l.named, names-count rs)) in
+    let last : number_at (rs ++ r ∷ []) (length (names_of rs)) ≡ r.entry.number = ap (λ xs. get_or xs (length (names_of rs)) 0) (numbers-push rs r) ∙ ap (λ k. get_or (numbers_of rs ++ r.entry.number ∷ []) k 0) (names-count rs ∙ sym (numbers-count rs)) ∙ get_or-append_seam (numbers_of rs) r.entry.number [] 0 in
+    let before : map (number_at rs) index ≡ map (number_at (rs ++ r ∷ [])) index = map-within (number_at rs) (number_at (rs ++ r ∷ [])) index (λ i h. sym (ap (λ xs. get_or xs (get_or index i 0) 0) (numbers-push rs r) ∙ get_or_append_left (numbers_of rs) (r.entry.number ∷ []) 0 (get_or index i 0) (omega (arith, within rs ns l.named i h, numbers-count rs)))) in
+    record {
+      index = insert index at (length (names_of rs));
+      is = rw (mapped-push rs r) is;
+      numbers = ap (λ xs. insert xs at r.entry.number) (l.named.numbers ∙ before) ∙ ap (λ y. insert (map (number_at (rs ++ r ∷ [])) index) at y) (sym last) ∙ sym (map-insert (number_at (rs ++ r ∷ [])) index at (length (names_of rs)));
+    }
+
+-- an order less
+
+itself : (names : List Name) (a b : ℕ) → a ≡ b → name_cmp (name_at names a) (name_at names b) ≡ Less → ⊥
+itself names a b e less = let equal : Less ≡ Equal = sym less ∙ ap (λ k. name_cmp (name_at names a) (name_at names k)) (sym e) ∙ tied_itself name_total (name_at names a) in cc
+
+differ : (names : List Name) (index : List ℕ) (i j : ℕ) → IsIndex names index → i < j → j < length index → get_or index i 0 ≡ get_or index j 0 → ⊥
+differ names index i j is h l same = elim (then-less (name_cmp (name_at names (get_or index i 0)) (name_at names (get_or index j 0))) (nat_cmp (get_or index i 0) (get_or index j 0)) (is.rising i j h l)).which [
+  | inl less ↦ itself names (get_or index i 0) (get_or index j 0) same less
+  | inr e ↦ omega (arith, nat-less (get_or index i 0) (get_or index j 0) e.1, same)
+]
+
+lt : (a b : ℕ) (c : Bool) → nat_lt a b ≡ c → (c ≡ true → a < b) × (c ≡ false → b ≤ a)
+lt a b true e = ((λ h. grind (arith, nat_tests)), (λ h. cc))
+lt a b false e = ((λ h. cc), (λ h. grind (arith, nat_tests)))
+
+-- a number that stays is at the closed place
+number-kept : (rs : List Resting) (g k : ℕ) → g < length rs → k < length rs → (k ≡ g → ⊥) → number_at (remove rs g) (closed g k) ≡ number_at rs k
+number-kept rs g k h l other = ap (λ xs. get_or xs (closed g k) 0) (sym (map-remove (λ (r : Resting). r.entry.number) rs g)) ∙ by (nat_lt g k) refl
+  where
+    ks : List ℕ
+    ks = numbers_of rs
+
+    by : (b : Bool) → nat_lt g k ≡ b → get_or (remove ks g) (if b then k - 1 else k) 0 ≡ get_or ks k 0
+    by true e =
+        let more : g < k = (lt g k true e).0 refl in
+        let next : k - 1 + 1 ≡ k = omega (arith, more) in
+        get_or-remove_above ks g 0 (k - 1) (omega (arith, more)) (omega (arith, h, numbers-count rs)) ∙ ap (λ m. get_or ks m 0) next
+    by false e =
+        let no_more : k ≤ g = (lt g k false e).1 refl in
+        let fewer : k < g = elim (cases_lt k g) [ inl y ↦ y | inr z ↦ absurd (other (omega (arith, z, no_more))) ] in
+        get_or-remove_below ks g 0 k fewer (omega (arith, h, numbers-count rs))
+
+pub named-removed : (rs : List Resting) (ns : List ℕ) (k at : ℕ) → Ledger 0 rs → IsNamed rs ns → k < length rs → at < length ns → get_or ns at 0 ≡ number_at rs k → IsNamed (remove rs k) (remove ns at)
+named-removed rs ns k at l n below there same =
+    let index = n.index in
+    let at-index : at < length index = omega (arith, there, index-count rs ns n) in
+    let here : get_or index at 0 ≡ k = number-one 0 rs (get_or index at 0) k l (within rs ns n at at-index) below (sym (number-there rs ns n at at-index) ∙ same) in
+    let is : IsIndex (remove (names_of rs) k) (map (closed k) (remove index at)) = less (names_of rs) index at k n.is at-index here in
+    let other : (i j : ℕ) → i < length index → (i ≡ at → ⊥) → get_or index i 0 ≡ k → ⊥ = λ i j h off e. elim (cases_lt i at) [
+      | inl y ↦ differ (names_of rs) index i at n.is y at-index (e ∙ sym here)
+      | inr z ↦ elim (cases_lt at i) [
+        | inl y ↦ differ (names_of rs) index at i n.is y h (here ∙ sym e)
+        | inr w ↦ off (omega (arith, z, w))
+      ]
+    ] in
+    let fewer = length-remove index at at-index in
+    let stays : (i : ℕ) → i < length (remove index at) → number_at rs (get_or (remove index at) i 0) ≡ number_at (remove rs k) (closed k (get_or (remove index at) i 0)) = λ i h. elim (cases_lt i at) [
+      | inl y ↦ let read = get_or-remove_below index at 0 i y at-index in
+          rw read (sym (number-kept rs k (get_or index i 0) below (within rs ns n i (omega (arith, y, at-index))) (other i 0 (omega (arith, y, at-index)) (λ e. omega (arith, e, y)))))
+      | inr z ↦ let read = get_or-remove_above index at 0 i z at-index in
+          rw read (sym (number-kept rs k (get_or index (i + 1) 0) below (within rs ns n (i + 1) (omega (arith, h, fewer))) (other (i + 1) 0 (omega (arith, h, fewer)) (λ e. omega (arith, e, z)))))
+    ] in
+    record {
+      index = map (closed k) (remove index at);
+      is = rw (sym (map-remove (λ (r : Resting). entry_name r.entry) rs k)) is;
+      numbers = ap (λ xs. remove xs at) n.numbers ∙ map-remove (number_at rs) index at ∙ map-within (number_at rs) (λ j. number_at (remove rs k) (closed k j)) (remove index at) stays ∙ sym (map-twice (number_at (remove rs k)) (closed k) (remove index at));
+    }
+
+-- where the number of an order stands
+pub named-there : (rs : List Resting) (es : List (ℕ × Slot)) (ns : List ℕ) (n : Name) (from k : ℕ) (found : Bool) → IsListed rs es ns → IsPlace (answer_at es ns n.who n.id) (length ns) from found → k < length rs → name_at (names_of rs) k ≡ n → (i : ℕ) × (from ≤ i) × (i < length ns) × (get_or ns i 0 ≡ number_at rs k)
+named-there rs es ns n from k found l p h name =
+    let c = l.named.is.covers k (omega (arith, h, names-count rs)) in
+    let in-ns : c.0 < length ns = omega (arith, c.1, index-count rs ns l.named) in
+    let equal : ordering_index (answer_at es ns n.who n.id c.0) ≡ 1 = ap ordering_index (answer-same rs es ns l n.who n.id c.0 in-ns ∙ ap (λ j. name_order (name_at (names_of rs) j) n.who n.id) c.2 ∙ ap (λ m. name_order m n.who n.id) name ∙ tied_itself name_total n) in
+    let behind : from ≤ c.0 = elim (cases_lt c.0 from) [ inl y ↦ absurd (omega (arith, equal, p.below c.0 y)) | inr z ↦ z ] in
+    (c.0, behind, in-ns, number-there rs ns l.named c.0 c.1 ∙ ap (number_at rs) c.2)
+
+-- the place of an order has its name and its number
+pub place-at : (n : ℕ) (rs : List Resting) (k : ℕ) (r : Resting) → IsPlaceOf n rs k → r ≡ get_or rs k r → IsAt rs (entry_name r.entry) n k
+place-at n rs k r p e = (p.0, sym (name-read rs k r p.0) ∙ ap (λ (t : Resting). entry_name t.entry) (sym e), number-read rs k r p.0 ∙ p.1 r)
+
+-- some of an order is left
+pub named-reduced : (n q : ℕ) (rs : List Resting) (r : Resting) (ns : List ℕ) → numbered n rs ≡ Some r → q < r.left → IsNamed rs ns → IsNamed (reduced n q rs) ns
+named-reduced n q rs r ns some more named = record {
+  index = named.index;
+  is = rw (sym (mapped-reduced entry_name n q rs r some more)) named.is;
+  numbers = named.numbers ∙ ap (λ xs. map (λ k. get_or xs k 0) named.index) (mapped-reduced (λ e. e.number) n q rs r some more);
+}
