@@ -11,13 +11,14 @@ SIZES = (
     (10, 1_000, 1, 20),
     (10, 10_000, 1, 0),
     (10, 100_000, 1, 0),
+    (10, 1_000_000, 1, 0),
     (199, 1_000, 1, 20),
     (199, 100_000, 1, 0),
     (10, 1_000, 256, 0),
     (100, 1_000, 256, 0),
 )
 KINDS = ("rest", "replace", "cancel", "fill", "picture", "plain")
-TURNS = 3
+TURNS = 4
 
 
 def times(words):
@@ -35,12 +36,11 @@ def main():
     # builds it where it is not built
     subprocess.run(["rt", "run"], cwd="crates/book_bench", check=True, stdin=subprocess.DEVNULL, capture_output=True)
     for resting, gone, instruments, plain in SIZES:
-        # where many rest, it is the making of the book that takes the time: fewer requests are timed, once
-        many = resting * instruments > 10_000
-        turns = 1 if many else TURNS
-        size = [str(resting), str(gone), str(instruments), str(min(timed, 256) if many else timed)]
-        book = best([PROGRAM, *size, str(plain)], turns)
-        peer = best([os.path.join(place, "book_peer"), *size], turns)
+        # (where many rest, one request is timed in each instrument)
+        timed_here = min(timed, instruments) if resting * instruments > 10_000 else timed
+        size = [str(resting), str(gone), str(instruments), str(timed_here)]
+        book = best([PROGRAM, *size, str(plain)], TURNS)
+        peer = best([os.path.join(place, "book_peer"), *size], TURNS)
         print(f"{resting} rest on each side, {gone} gone, {instruments} instruments:")
         for kind in KINDS:
             if kind in peer:
