@@ -10,11 +10,12 @@ PORT and the next 29 are taken in turn. VENUE_MAIN and SEF_REPLAY are the progra
 2. A venue begins again from the file. Its sessions' numbers begin at 1. ALPHA's order, sent again, is refused as a duplicate; what
    was left of it rests, and DELTA trades with it. The venue closes, and its closing line counts the rows of both runs.
 3. A venue is killed (SIGKILL) while ALPHA sends orders. Each order that was answered has its row, and a venue begins from them.
-4. A venue whose log may not grow past some size answers no more from then on, and once its turns are spent it says `stopped: trail`. Each
+4. A venue whose log may not grow past some size ends its sessions, says `stopped: trail` and stops, however many turns it has left. Each
    order that was answered has its row.
 5. A venue whose log may not hold an empty trail stops before it listens.
 """
 
+import contextlib
 import os
 import resource
 import sqlite3
@@ -34,7 +35,6 @@ ORDERS = 150  # which one side of the book has room for
 LONGEST_LOG = 400000  # bytes, in which some orders have room, but not all; the log grows by 262,144 at once
 SHORTEST_LOG = 8192  # bytes, in which an empty trail has none
 LONGEST_STOP = 60.0  # seconds until a venue that stops has ended
-LONGEST_SILENCE = 10.0  # seconds after which a venue answers no more
 
 
 def wanted(what, found, expected):
@@ -196,9 +196,13 @@ def send_until(play, is_over, prefix):
     alpha.log_on()
     answered = Answered(alpha)
     answered.start()
-    for count in range(1, ORDERS + 1):
-        alpha.send("D", order(f"{prefix}{count}", 1, 1), quietly=True)
+    with contextlib.suppress(OSError):
+        for count in range(1, ORDERS + 1):
+            alpha.send("D", order(f"{prefix}{count}", 1, 1), quietly=True)
+    since = time.monotonic()
     while not is_over(answered.orders):
+        if time.monotonic() - since > LONGEST_STOP:
+            raise SystemExit("the orders come to no end")
         time.sleep(0.01)
     return answered
 
@@ -222,27 +226,12 @@ def killed_run(play):
     wanted("closing", closed(venue, play.port), f"closed sessions 5 taken {kept}")
 
 
-class Silence:
-    """Whether no more orders were answered for a while, though some were."""
-
-    def __init__(self):
-        self.count = 0
-        self.since = time.monotonic()
-
-    def has_come(self, orders):
-        if len(orders) != self.count:
-            self.count = len(orders)
-            self.since = time.monotonic()
-        return time.monotonic() - self.since > LONGEST_SILENCE
-
-
 def confined_run(play):
     print("-- its log may not grow", flush=True)
     trail = os.path.join(play.folder, "confined.trail")
-    venue = play.start(trail, TURNS, LONGEST_LOG)
+    venue = play.start(trail, MANY_TURNS, LONGEST_LOG)
     await_start(venue)
-    answered = send_until(play, Silence().has_come, "f")
-    spend_turns(venue, play.port)
+    answered = send_until(play, lambda orders: venue.poll() is not None, "f")
     wanted("the end", (venue.stdout.read(), venue.stderr.read(), venue.returncode), ("", "venue_main: stopped: trail\n", 1))
     answered.join(LONGEST_STOP)
     kept = orders_in(trail)

@@ -1,6 +1,6 @@
 -- What stands once a venue ran and was closed.
 use Rattle.std.proofs.Common.{◌≡◌, ℕ, ◌+◌, ◌<◌, List, [], ◌∷◌, ◌++◌, map, length, Bool, true, false, refl, ap, sym, ◌∙◌, subst, arith}
-use Rattle.std.specs.Prelude.{Option, Some, None, Ok, Err, is_err, slice_get}
+use Rattle.std.specs.Prelude.{Option, Some, None, Ok, Err, IfOk, is_err, slice_get}
 use Rattle.std.specs.Option.{option_to_list}
 use Rattle.std.specs.declared.result.Result.{Result}
 use Rattle.std.proofs.lemmas.List.{length-map}
@@ -229,6 +229,11 @@ pub none_refused : (turns : ℕ) (told told' : List ℕ) (ran : Result Unit Even
     is_err ran ≡ false → HasWorkedAnew turns told told' ran m opened kept refused intake takes replies hands venue written is_clean refused' queues takes' hands' → refused' ≡ refused
 none_refused turns told told' ran m opened kept refused intake takes replies hands venue written is_clean refused' queues takes' hands' well has =
     has.worked.parts.refusals ∙ as_before ran has.worker.ledger.refused has.worked.after.ledger.refused well has.worked.run.stop ∙ has.begins.refusals
+
+-- what holds of a run that ended well, of one that did
+pub where_ok : {X : Type 0} (ran : Result Unit EventFault) → is_err ran ≡ false → IfOk ran (λ u. X) → X
+where_ok (Ok u) well x = x
+where_ok (Err f) well x = absurd (cc)
 
 -- the worker's ends that come back are those of its boards
 pub ends_left : (turns : ℕ) (told told' : List ℕ) (ran : Result Unit EventFault) (w : Work) (venue : VenueState) (written : List TrailRow) (is_clean : Bool) (refused : ℕ) (queues : List Queue) (takes : List (TakeEnd Item)) (hands : List (HandEnd Outgoing)) (intake replies : TableId) →

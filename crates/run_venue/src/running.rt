@@ -52,7 +52,7 @@ fn run_threads<
     requires own { All (λ s. IsReady intake.now replies.now ends.now s) starts.items }
     requires marks { AreTakes ends.now marks.items × AreUnmarked marks.items }
     ensures served { IfOk result (λ r. AreServed turns starts.items r.0.items) }
-    ensures worked { IfOk result (λ r. HasWorked turns (W.answered clock) (W.answered r.2) r.1.ran worker.entry r.1.parts.venue (K.rows r.1.parts.keeper) (K.is_clean r.1.parts.keeper) (K.refused r.1.parts.keeper) r.1.parts.queues.items r.1.parts.takes.items r.1.parts.hands.items) }
+    ensures worked { IfOk result (λ r. IfOk r.1.ran (λ _. HasWorked turns (W.answered clock) (W.answered r.2) r.1.ran worker.entry r.1.parts.venue (K.rows r.1.parts.keeper) (K.is_clean r.1.parts.keeper) (K.refused r.1.parts.keeper) r.1.parts.queues.items r.1.parts.takes.items r.1.parts.hands.items)) }
 {
     let (finished, (worked, clock_after)) = run_beside(
         rt,
@@ -64,7 +64,7 @@ fn run_threads<
         turns,
         move || -> (Worked<K>, W)
             requires marks { AreTakes ends.now marks.items × AreUnmarked marks.items }
-            ensures worked { HasWorked turns (W.answered clock) (W.answered result.1) result.0.ran worker.entry result.0.parts.venue (K.rows result.0.parts.keeper) (K.is_clean result.0.parts.keeper) (K.refused result.0.parts.keeper) result.0.parts.queues.items result.0.parts.takes.items result.0.parts.hands.items }
+            ensures worked { IfOk result.0.ran (λ _. HasWorked turns (W.answered clock) (W.answered result.1) result.0.ran worker.entry result.0.parts.venue (K.rows result.0.parts.keeper) (K.is_clean result.0.parts.keeper) (K.refused result.0.parts.keeper) result.0.parts.queues.items result.0.parts.takes.items result.0.parts.hands.items) }
         { work_with(worker, clock, ends, marks, turns) },
     )?;
     Ok((finished, worked, clock_after))
@@ -79,8 +79,8 @@ fn run_threads<
 /// fall, and the store is clean.
 ///
 /// `NoMemory`: memory was refused for a board, a session, a list or the worker. `NoThread`: the system made no thread; those that
-/// were started are joined first. `TrailRefused`: the keeper refused a row, and the sessions had their turns. After any of them
-/// all that was given is given up.
+/// were started are joined first. `TrailRefused`: the keeper refused a row, and the sessions were given what they were owed and ended.
+/// After any of them all that was given is given up.
 pub fn run_venue<
     R: Threads + Wait + Sync,
     L: Line + Send + Drop,

@@ -1,5 +1,6 @@
 //! What the worker does beside the threads of the sessions.
 
+ghost use Rattle.std.specs.Prelude.{IfOk};
 ghost use Rattle.intake_seats.specs.Ends.{AreTakes};
 ghost use Rattle.venue_worker.specs.Turns.{AreUnmarked};
 ghost use Rattle.run_venue.specs.Working.{HasWorked};
@@ -15,7 +16,7 @@ pub(crate) struct Worked<K: Keep + Drop> {
     pub(crate) parts: Parts<K>,
 }
 
-/// Gives a worker its turns, and takes it apart.
+/// Gives a worker its turns, and takes it apart. Where the trail stopped it, the sessions end first.
 pub(crate) fn work_out<W: Clock, K: Keep + Drop>(
     worker: Worker<'_, K>,
     clock: &mut W,
@@ -24,11 +25,14 @@ pub(crate) fn work_out<W: Clock, K: Keep + Drop>(
     turns: u64,
 ) -> Worked<K>
     requires marks { AreTakes ends.now marks.items × AreUnmarked marks.items }
-    ensures { HasWorked turns (W.answered clock.old) (W.answered clock.new) result.ran worker.entry result.parts.venue (K.rows result.parts.keeper) (K.is_clean result.parts.keeper) (K.refused result.parts.keeper) result.parts.queues.items result.parts.takes.items result.parts.hands.items }
+    ensures { IfOk result.ran (λ _. HasWorked turns (W.answered clock.old) (W.answered clock.new) result.ran worker.entry result.parts.venue (K.rows result.parts.keeper) (K.is_clean result.parts.keeper) (K.refused result.parts.keeper) result.parts.queues.items result.parts.takes.items result.parts.hands.items) }
 {
     let mut worker = worker;
     let mut marks = marks;
     let ran = worker.run(clock, ends, &mut marks, turns);
+    if ran.is_err() {
+        worker.dismiss(clock, turns);
+    }
     let parts = worker.into_parts();
     Worked { ran, parts }
 }
@@ -42,7 +46,7 @@ pub(crate) fn work_with<W: Clock, K: Keep + Drop>(
     turns: u64,
 ) -> (Worked<K>, W)
     requires marks { AreTakes ends.now marks.items × AreUnmarked marks.items }
-    ensures { HasWorked turns (W.answered clock) (W.answered result.1) result.0.ran worker.entry result.0.parts.venue (K.rows result.0.parts.keeper) (K.is_clean result.0.parts.keeper) (K.refused result.0.parts.keeper) result.0.parts.queues.items result.0.parts.takes.items result.0.parts.hands.items }
+    ensures { IfOk result.0.ran (λ _. HasWorked turns (W.answered clock) (W.answered result.1) result.0.ran worker.entry result.0.parts.venue (K.rows result.0.parts.keeper) (K.is_clean result.0.parts.keeper) (K.refused result.0.parts.keeper) result.0.parts.queues.items result.0.parts.takes.items result.0.parts.hands.items) }
 {
     let mut clock = clock;
     let worked = work_out(worker, &mut clock, ends, marks, turns);

@@ -1,0 +1,74 @@
+//! How the sessions end where the trail takes no more rows.
+
+ghost use Rattle.std.specs.Prelude.{◌≡◌, ◌<◌, length};
+ghost use Rattle.venue_worker.specs.Calls.{IsSameElse};
+
+use crate::clock::{Clock, tell};
+use crate::worker::Worker;
+use venue_rules::Keep;
+
+/// After so many rounds in a row in which no session took anything, no more are made. A clock waits in most of them.
+const PATIENCE: u64 = 400;
+
+impl<'a, K: Keep + Drop> Worker<'a, K> {
+    /// Has the sessions end where the trail takes no more rows: each participant is given what it is owed, and then it is cut. So many
+    /// rounds are made at most, each behind an answer of the clock; fewer where each mark is in its seat, or where no session takes
+    /// anything for long.
+    pub fn dismiss<C: Clock>(&mut self, clock: &mut C, rounds: u64)
+        ensures only { IsSameElse self.old self.new }
+    {
+        let mut idle: u64 = 0;
+        for _ in 0..rounds {
+            let _moment = clock.now();
+            if self.see_all_off(clock) {
+                idle = 0;
+            } else {
+                idle = idle.saturating_add(1);
+            }
+            if PATIENCE < idle || self.are_dismissed() {
+                return;
+            }
+        }
+    }
+
+    // Each participant was given its mark.
+    fn are_dismissed(&self) -> bool {
+        self.desk
+            .queues
+            .iter()
+            .all(|queue| queue.is_cut && queue.waiting.is_empty())
+    }
+
+    // One delivery to each participant, who is cut where nothing waits for it. Whether a message was handed over.
+    fn see_all_off<C: Clock>(&mut self, clock: &mut C) -> bool
+        ensures only { IsSameElse self.old self.new }
+    {
+        let mut moved = false;
+        let count = self.hands.len();
+        for j in 0..count {
+            moved |= self.see_off(clock, j);
+        }
+        moved
+    }
+
+    // A delivery to a participant, who is cut where nothing waits for it.
+    fn see_off<C: Clock>(&mut self, clock: &mut C, j: usize) -> bool
+        requires named { j < length self.old.hands }
+        ensures only { IsSameElse self.old self.new }
+    {
+        if self.is_served(j) {
+            self.cut(j);
+        }
+        let delivered = self.deliver(j);
+        tell(clock, j, delivered);
+        delivered
+    }
+
+    // Nothing waits for a participant.
+    fn is_served(&self, j: usize) -> bool
+        requires named { j < length self.now.hands }
+        ensures long { length self.now.ledger.queues ≡ length self.now.hands }
+    {
+        self.desk.queues[j].waiting.is_empty()
+    }
+}
