@@ -29,12 +29,19 @@ pub(crate) fn work_out<W: Clock, K: Keep + Drop>(
 {
     let mut worker = worker;
     let mut marks = marks;
-    let ran = worker.run(clock, ends, &mut marks, turns);
-    if ran.is_err() {
-        worker.dismiss(clock, turns);
+    match worker.run(clock, ends, &mut marks, turns) {
+        Ok(()) => Worked {
+            ran: Ok(()),
+            parts: worker.into_parts(),
+        },
+        Err(fault) => {
+            worker.dismiss(clock, turns);
+            Worked {
+                ran: Err(fault),
+                parts: worker.into_parts(),
+            }
+        }
     }
-    let parts = worker.into_parts();
-    Worked { ran, parts }
 }
 
 /// The same with a clock that is given, and given back.
