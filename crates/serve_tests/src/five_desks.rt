@@ -1,7 +1,7 @@
 //! A trading day of five desks over TCP: the day of `examples/day`, but for its reset, and for the messages that a desk asks for again
 //! though it has them: a script has no step for either.
 
-use crate::cues::{Cue, Day, Until};
+use crate::cues::{Day, Plan};
 use crate::fixture::{Outcome, PlayFault, bytes_of};
 use crate::lines_of_a_day::script_of;
 use crate::served::{opened_somewhere, play, serve_beside};
@@ -73,25 +73,6 @@ const DAY: [&str; 49] = [
     "DELTA logout",
     "EPSILON logout",
 ];
-
-const ALPHA: usize = 0;
-
-const DELTA: usize = 3;
-
-const EPSILON: usize = 4;
-
-/// What orders the steps of different desks.
-const CUES: [Cue; 6] = [
-    ("11=d1", Until::Told(ALPHA, 1)),
-    ("262=v1", Until::Told(ALPHA, 3)),
-    ("131=q0", Until::Told(EPSILON, 8)),
-    ("117=bq", Until::Told(ALPHA, 6)),
-    ("117=eq", Until::Told(ALPHA, 7)),
-    ("11=d2", Until::Broken),
-];
-
-/// ALPHA calls again once DELTA heard of the trade that ALPHA missed.
-const AGAIN: Until = Until::Told(DELTA, 7);
 
 /// The desks, how many application messages each hears, and these, each by its type and the trade that it tells; among them
 /// where the venue asks for messages again (35=2).
@@ -220,7 +201,7 @@ fn trade_a_day<
         + Drop,
 >(rt: &R, alloc: Global) -> Result<(Outcome, bool), PlayFault> {
     let (port, opened) = opened_somewhere(rt, alloc)?;
-    let day = Day::new(&CUES, AGAIN);
+    let day = Day::new(Plan::FiveDesks);
     serve_beside(rt, alloc, opened, &day, || {
         play_desks(rt, alloc, port, &day)
     })

@@ -1,6 +1,6 @@
 //! A trade over TCP, by two counterparties of a venue of five.
 
-use crate::cues::{Cue, Day, Until};
+use crate::cues::{Day, Plan};
 use crate::fixture::{Outcome, PlayFault, bytes_of};
 use crate::served::{opened_somewhere, play, serve_beside};
 use fix_dictionary::{
@@ -18,9 +18,6 @@ use std::time::Clock;
 
 /// DELTA is the fourth.
 const DELTA: u16 = 3;
-
-/// DELTA sells once ALPHA, the first, was told that its order is new.
-const CUES: [Cue; 1] = [("11=d1", Until::Told(0, 1))];
 
 /// What ALPHA is told: its order is new, and then 40 of it are filled.
 const REPORTS: &str = "35=8|37=O1|17=E1|150=0|39=0|55=IRS5Y|54=1|151=100|14=0|11=a1|\
@@ -142,7 +139,7 @@ fn trade<
         + Drop,
 >(rt: &R, alloc: Global) -> Result<(Outcome, bool), PlayFault> {
     let (port, opened) = opened_somewhere(rt, alloc)?;
-    let day = Day::new(&CUES, Until::Broken);
+    let day = Day::new(Plan::TwoOrders);
     serve_beside(rt, alloc, opened, &day, || {
         play_to_the_end(rt, alloc, port, &day)
     })
