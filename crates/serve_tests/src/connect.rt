@@ -1,9 +1,10 @@
-//! A counterparty's line over TCP.
+//! A desk's line over TCP.
 ghost use Rattle.std.specs.Prelude.{◌≡◌, []};
 ghost use Rattle.gateway.specs.Said.{IsWithin};
 
-use crate::signal::Signal;
-use crate::watched::{given_of, has_report, past_of};
+use crate::cues::Day;
+use crate::pace::sleep_a_little;
+use crate::watched::{given_of, past_of};
 use gateway::line::{Accept, Line, LineFault, Read};
 use gateway::mem_line::Spoken;
 use gateway::piece::PIECE;
@@ -14,26 +15,24 @@ use std::sync::Wait;
 use std::time::Clock;
 use tcp_line::{Account, Connection};
 
-/// A line that calls at a port of 127.0.0.1, once a signal was given, and tells that it read a report.
+/// How often a line looks whether its message is still held back.
+const MOST_LOOKS: u32 = 50_000;
+
+/// A line that calls at a port of 127.0.0.1; its messages and its calls are held back as the day has it.
 #[derive(Drop)]
 pub struct ConnectLine<'a, N> {
     rt: N,
     alloc: Global,
     port: u16,
     connection: Option<Connection<TcpStream, TcpStream>>,
-    opens: &'a Signal,
-    reported: &'a Signal,
+    day: &'a Day,
+    /// It had a connection, and gave it up.
+    has_broken: bool,
     account: Account,
 }
 
 impl<'a, N: Net<Listener = TcpListener, Stream = TcpStream> + Clock + Drop> ConnectLine<'a, N> {
-    pub fn new(
-        rt: N,
-        alloc: Global,
-        port: u16,
-        opens: &'a Signal,
-        reported: &'a Signal,
-    ) -> ConnectLine<'a, N>
+    pub fn new(rt: N, alloc: Global, port: u16, day: &'a Day) -> ConnectLine<'a, N>
         ensures { ⟦<ConnectLine<'a, N> as Line>⟧.said result ≡ [] }
     {
         ConnectLine {
@@ -41,8 +40,8 @@ impl<'a, N: Net<Listener = TcpListener, Stream = TcpStream> + Clock + Drop> Conn
             alloc,
             port,
             connection: None,
-            opens,
-            reported,
+            day,
+            has_broken: false,
             account: Account::new(),
         }
     }
@@ -55,11 +54,23 @@ impl<'a, N: Net<Listener = TcpListener, Stream = TcpStream> + Clock + Drop> Conn
         Ok(Connection::new(self.alloc, stream, output))
     }
 
+    // Gives up the connection, if there is one, and tells of it.
+    fn give_up(&mut self)
+        ensures { self.new.account ≡ self.old.account }
+    {
+        if self.connection.is_none() {
+            return;
+        }
+        self.connection = None;
+        self.has_broken = true;
+        self.day.broken.give();
+    }
+
     fn next_connection(&mut self) -> Accept
         ensures { self.new.account ≡ self.old.account }
     {
-        self.connection = None;
-        if !self.opens.is_given() {
+        self.give_up();
+        if self.has_broken && !self.day.lets_call_again() {
             return Accept::Quiet;
         }
         match self.connect() {
@@ -78,6 +89,16 @@ impl<'a, N: Net<Listener = TcpListener, Stream = TcpStream> + Clock + Drop> Conn
         match &mut self.connection {
             None => Read::Fault,
             Some(connection) => connection.read(buffer),
+        }
+    }
+
+    // Waits until nothing holds these back, but not for ever.
+    fn wait(&self, bytes: &[u8]) {
+        for _ in 0..MOST_LOOKS {
+            if self.day.lets(bytes) {
+                return;
+            }
+            sleep_a_little(&self.rt);
         }
     }
 
@@ -106,11 +127,6 @@ impl<'a, N: Net<Listener = TcpListener, Stream = TcpStream> + Clock + Drop> Line
 
     fn read<R: Wait>(&mut self, _rt: &R, buffer: &mut [u8; PIECE]) -> Read {
         let answer = self.hear(buffer);
-        if let Read::Got { count } = answer {
-            if has_report(&buffer[..count]) {
-                self.reported.give();
-            }
-        }
         let given = given_of(answer, buffer);
         self.account.note(Spoken::Gave { given });
         answer
@@ -118,6 +134,7 @@ impl<'a, N: Net<Listener = TcpListener, Stream = TcpStream> + Clock + Drop> Line
 
     fn write<R: Wait>(&mut self, _rt: &R, bytes: &[u8]) -> Result<(), LineFault> {
         let past = past_of(bytes);
+        self.wait(bytes);
         match self.give(bytes) {
             Ok(()) => {
                 self.account.note(Spoken::Took { bytes: past });

@@ -19,8 +19,8 @@ use venue_rules::{TrailRow, fixture_instruments};
 use venue_worker::Clock;
 use venue_world::ListTrail;
 
-/// The usual delay between linked orders, in milliseconds.
-const USUAL_DELAY: u64 = 15_000;
+/// The longest delay between linked orders, in milliseconds: no held side comes due while a test plays.
+const LONGEST_DELAY: u64 = 3_600_000;
 
 /// 20250303-14:30:00, in milliseconds since 1970.
 const START: u64 = 1_741_012_200_000;
@@ -33,6 +33,8 @@ pub enum PlayFault {
     NoPort,
     /// There was not a line for each participant.
     Lines,
+    /// A line of a day tells no step.
+    Line,
     Run(RunFault),
     Client(ClientFault),
 }
@@ -92,7 +94,7 @@ fn new_venue(alloc: Global, participants: Participants) -> Result<Venue, AllocEr
     ensures history { IfOk result (λ venue. IsHistory venue no_history) }
     ensures items { IfOk result (λ venue. venue.items ≡ 0) }
 {
-    let Ok(instruments) = fixture_instruments(alloc, USUAL_DELAY) else {
+    let Ok(instruments) = fixture_instruments(alloc, LONGEST_DELAY) else {
         drop(participants);
         return Err(AllocError);
     };

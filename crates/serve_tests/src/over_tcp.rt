@@ -1,14 +1,12 @@
 //! A trade over TCP, by two counterparties of a venue of five.
 
-use crate::connect::ConnectLine;
-use crate::fixture::{Outcome, PlayFault, bytes_of, run_afresh, start};
-use crate::pace::PacedClock;
-use crate::signal::Signal;
-use crate::watched::WatchedLine;
+use crate::cues::{Day, Plan};
+use crate::fixture::{Outcome, PlayFault, bytes_of};
+use crate::served::{opened_somewhere, play, serve_beside};
 use fix_dictionary::{
     App, Body, FixChar, Identifier, Message, NewOrderSingle, Price, Quantity, Side, print_app,
 };
-use sef_client::{ClientFault, Heard, Script, ScriptStep};
+use sef_client::{Heard, Script, ScriptStep};
 use std::alloc::{AllocError, Global};
 use std::mem::drop;
 use std::net::{Net, TcpListener, TcpStream};
@@ -17,20 +15,9 @@ use std::test::*;
 use std::thread;
 use std::thread::Threads;
 use std::time::Clock;
-use tcp_line::{Opened, Outside, SystemClock, TcpGate, TcpLine, open_lines};
-use venue_rules::fixture_participants;
-
-/// The first of ten ports that are tried, each with four more.
-const FIRST_PORT: u16 = 7_300;
-
-const PARTICIPANTS: u16 = 5;
 
 /// DELTA is the fourth.
 const DELTA: u16 = 3;
-
-const TURNS: u64 = 1_000_000;
-
-const CLIENT_TURNS: u64 = 20_000;
 
 /// What ALPHA is told: its order is new, and then 40 of it are filled.
 const REPORTS: &str = "35=8|37=O1|17=E1|150=0|39=0|55=IRS5Y|54=1|151=100|14=0|11=a1|\
@@ -96,114 +83,25 @@ fn is_told(alloc: Global, heard: Heard) -> Result<bool, AllocError> {
     Ok(told.as_slice() == expected.as_slice())
 }
 
-// The lines at the first five ports in a row that are free.
-fn opened_somewhere<
-    R: Net<Listener = TcpListener, Stream = TcpStream> + Threads + Clock + Copy + Drop,
->(rt: &R, alloc: Global) -> Result<(u16, Opened<R>), PlayFault> {
-    for k in 0..10 {
-        let port = FIRST_PORT + 10 * k;
-        if let Ok(opened) = open_lines(rt, alloc, *rt, port, PARTICIPANTS) {
-            return Ok((port, opened));
-        }
-    }
-    Err(PlayFault::NoPort)
-}
-
-type Watched<'a, T> = (WatchedLine<'a, TcpLine<T>>, SystemClock<T>, TcpGate);
-
-// The same lines, which are over once the signal is given.
-fn watched<'a, T: Clock + Drop>(
-    alloc: Global,
-    sessions: Vec<Outside<T>>,
-    unheard: &'a Signal,
-    over: &'a Signal,
-) -> Result<Vec<Watched<'a, T>>, AllocError> {
-    let mut lines = Vec::with_capacity(alloc, sessions.len())?;
-    for (line, clock, gate) in sessions {
-        lines.push((WatchedLine::new(line, unheard, over), clock, gate))?;
-    }
-    Ok(lines)
-}
-
-// Runs a venue of five over these lines, until the signal is given.
-fn serve<R: Threads + Wait + Sync, T: Clock + Send + Drop>(
-    rt: &R,
-    alloc: Global,
-    opened: Opened<T>,
-    over: &Signal,
-) -> Result<Outcome, PlayFault> {
-    let Opened { sessions, worker } = opened;
-    let unheard = Signal::new();
-    let Ok(lines) = watched(alloc, sessions, &unheard, over) else {
-        drop(worker);
-        return Err(PlayFault::NoMemory);
-    };
-    let Ok(participants) = fixture_participants(alloc) else {
-        drop(lines);
-        drop(worker);
-        return Err(PlayFault::NoMemory);
-    };
-    run_afresh(rt, alloc, participants, lines, worker, TURNS)
-}
-
-// What a venue over these lines has, and what this play comes to beside it.
-fn serve_beside<
-    R: Threads + Wait + Sync,
-    T: Clock + Send + Drop,
-    P: FnOnce() -> Result<bool, PlayFault> + Send,
->(
-    rt: &R,
-    alloc: Global,
-    opened: Opened<T>,
-    over: &Signal,
-    play: P,
-) -> Result<(Outcome, bool), PlayFault>
-    requires { P.IsAlwaysCallable play }
-{
-    let (outcome, told) = thread::join(rt, move || serve(rt, alloc, opened, over), play);
-    Ok((outcome?, told?))
-}
-
-// Plays a script over a line to this port, once one signal is given; it gives the other once it read a report.
-fn play<R: Net<Listener = TcpListener, Stream = TcpStream> + Wait + Clock + Copy + Drop>(
-    rt: &R,
-    alloc: Global,
-    script: Script,
-    port: u16,
-    opens: &Signal,
-    reported: &Signal,
-) -> Result<Heard, ClientFault> {
-    let stirred = Signal::new();
-    let mut line = ConnectLine::new(*rt, alloc, port, opens, reported);
-    let mut clock = PacedClock::new(*rt, start(), 0, &stirred);
-    let heard = script.run(rt, alloc, &mut line, &mut clock, CLIENT_TURNS);
-    drop(script);
-    drop(line);
-    heard
-}
-
-// ALPHA buys, and tells that its order is new. Whether it heard what it is to be told.
+// ALPHA buys. Whether it heard what it is to be told.
 fn play_alpha<R: Net<Listener = TcpListener, Stream = TcpStream> + Wait + Clock + Copy + Drop>(
     rt: &R,
     alloc: Global,
     port: u16,
-    is_new: &Signal,
+    day: &Day,
 ) -> Result<bool, PlayFault> {
-    let now = Signal::new();
-    now.give();
-    let heard = play(rt, alloc, alpha(alloc)?, port, &now, is_new)?;
+    let heard = play(rt, alloc, alpha(alloc)?, port, day)?;
     Ok(is_told(alloc, heard)?)
 }
 
-// DELTA sells, once ALPHA's order is new.
+// DELTA sells.
 fn play_delta<R: Net<Listener = TcpListener, Stream = TcpStream> + Wait + Clock + Copy + Drop>(
     rt: &R,
     alloc: Global,
     port: u16,
-    is_new: &Signal,
+    day: &Day,
 ) -> Result<(), PlayFault> {
-    let unheard = Signal::new();
-    let heard = play(rt, alloc, delta(alloc)?, port, is_new, &unheard)?;
+    let heard = play(rt, alloc, delta(alloc)?, port, day)?;
     drop(heard);
     Ok(())
 }
@@ -217,15 +115,14 @@ fn play_to_the_end<
         + Clock
         + Copy
         + Drop,
->(rt: &R, alloc: Global, port: u16, over: &Signal) -> Result<bool, PlayFault> {
-    let is_new = Signal::new();
+>(rt: &R, alloc: Global, port: u16, day: &Day) -> Result<bool, PlayFault> {
     let delta_port = port.saturating_add(DELTA);
     let (told, sold) = thread::join(
         rt,
-        || play_alpha(rt, alloc, port, &is_new),
-        || play_delta(rt, alloc, delta_port, &is_new),
+        || play_alpha(rt, alloc, port, day),
+        || play_delta(rt, alloc, delta_port, day),
     );
-    over.give();
+    day.over.give();
     sold?;
     told
 }
@@ -242,9 +139,9 @@ fn trade<
         + Drop,
 >(rt: &R, alloc: Global) -> Result<(Outcome, bool), PlayFault> {
     let (port, opened) = opened_somewhere(rt, alloc)?;
-    let over = Signal::new();
-    serve_beside(rt, alloc, opened, &over, || {
-        play_to_the_end(rt, alloc, port, &over)
+    let day = Day::new(Plan::TwoOrders);
+    serve_beside(rt, alloc, opened, &day, || {
+        play_to_the_end(rt, alloc, port, &day)
     })
 }
 

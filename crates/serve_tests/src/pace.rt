@@ -14,7 +14,8 @@ use venue_worker::Clock;
 /// How often a gate looks for what it waits for.
 const MOST_LOOKS: u32 = 10_000;
 
-fn sleep_a_little<T: time::Clock>(clock: &T) {
+/// A millisecond.
+pub fn sleep_a_little<T: time::Clock>(clock: &T) {
     thread::sleep(clock, Duration::from_millis(1));
 }
 

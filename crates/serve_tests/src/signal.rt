@@ -1,8 +1,8 @@
-//! What one thread of a test tells another: no more than that something happened.
+//! What one thread of a test tells another: no more than that something happened, and how often.
 
 use std::sync::atomic::{AtomicU64, Ordering};
 
-/// Whether something happened.
+/// How often something happened.
 #[derive(Drop)]
 pub struct Signal {
     mark: AtomicU64,
@@ -16,10 +16,14 @@ impl Signal {
     }
 
     pub fn give(&self) {
-        self.mark.store(1, Ordering::SeqCst);
+        let _ = self.mark.fetch_add(1, Ordering::SeqCst);
     }
 
     pub fn is_given(&self) -> bool {
-        self.mark.load(Ordering::SeqCst) != 0
+        self.times() != 0
+    }
+
+    pub fn times(&self) -> u64 {
+        self.mark.load(Ordering::SeqCst)
     }
 }

@@ -1,4 +1,4 @@
-//! A line of the venue that is watched: it tells that a report was written on it, and is over once it is told so.
+//! A line of the venue that is watched: it tells of each application message that was written on it, and is over once it is told so.
 ghost use Rattle.std.specs.Prelude.{◌≡◌, []};
 ghost use Rattle.gateway.specs.Past.{entries};
 ghost use Rattle.gateway.specs.Said.{IsWithin, given};
@@ -10,9 +10,6 @@ use gateway::past::Past;
 use gateway::piece::{Given, PIECE, Piece};
 use std::sync::Wait;
 use tcp_line::Account;
-
-/// The type of a report, between the ends of two fields.
-const REPORT: &[u8; 6] = b"\x0135=8\x01";
 
 /// These bytes, for contracts alone.
 pub fn past_of(bytes: &[u8]) -> Past<u8>
@@ -40,34 +37,50 @@ pub fn given_of(answer: Read, buffer: &[u8; PIECE]) -> Given
     }
 }
 
-/// Whether a report is among these bytes.
-pub fn has_report(bytes: &[u8]) -> bool {
+// Whether a type of one character is a session's.
+fn is_of_the_session(kind: u8) -> bool {
+    match kind {
+        b'0'..=b'5' => true,
+        b'A' => true,
+        _ => false,
+    }
+}
+
+// Whether these bytes begin with the end of a field and the type of an application message.
+fn begin_with_type(bytes: &[u8]) -> bool {
+    match bytes {
+        [1, b'3', b'5', b'=', kind, end, ..] => *end != 1 || !is_of_the_session(*kind),
+        _ => false,
+    }
+}
+
+// Tells of each application message among these bytes.
+fn tell(bytes: &[u8], told: &Signal) {
     for at in 0..bytes.len() {
-        if bytes[at..].starts_with(REPORT) {
-            return true;
+        if begin_with_type(&bytes[at..]) {
+            told.give();
         }
     }
-    false
 }
 
 /// A line over another one.
 #[derive(Drop)]
 pub struct WatchedLine<'a, L> {
     line: L,
-    /// A report was written.
-    reported: &'a Signal,
+    /// An application message was written.
+    told: &'a Signal,
     /// The line is over.
     over: &'a Signal,
     account: Account,
 }
 
 impl<'a, L: Line + Drop> WatchedLine<'a, L> {
-    pub fn new(line: L, reported: &'a Signal, over: &'a Signal) -> WatchedLine<'a, L>
+    pub fn new(line: L, told: &'a Signal, over: &'a Signal) -> WatchedLine<'a, L>
         ensures { ⟦<WatchedLine<'a, L> as Line>⟧.said result ≡ [] }
     {
         WatchedLine {
             line,
-            reported,
+            told,
             over,
             account: Account::new(),
         }
@@ -109,9 +122,7 @@ impl<'a, L: Line + Drop> Line for WatchedLine<'a, L> {
         let past = past_of(bytes);
         match self.line.write(rt, bytes) {
             Ok(()) => {
-                if has_report(bytes) {
-                    self.reported.give();
-                }
+                tell(bytes, self.told);
                 self.account.note(Spoken::Took { bytes: past });
                 Ok(())
             }
