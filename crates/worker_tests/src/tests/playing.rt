@@ -1,10 +1,11 @@
 //! A day of the worked items: a venue begins where its trail leads, and a worker answers the items that are left.
-ghost use Rattle.std.specs.Prelude.{◌≡◌};
+ghost use Rattle.std.specs.Prelude.{◌≡◌, length};
+ghost use Rattle.intake_seats.specs.Ends.{AreHands, AreTakes, AreUnusedHands, AreUnusedTakes};
 ghost use Rattle.trail_keeper.specs.Written.{LeadsTo};
 
 use super::files::{connect, files};
 use super::items::{ITEMS, LINE, Sent, TRADES, item_of, items_in, moment_of};
-use super::sessions::{Boards, Sessions, make_boards};
+use super::sessions::{Boards, Ends, Sessions, make_boards};
 use audit_trail::Files;
 use gateway::mem_line::MemClock;
 use instruments::Instruments;
@@ -101,37 +102,44 @@ fn answer_each<K: Keep + Drop>(
     Some(ITEMS.len())
 }
 
-// Has a worker answer the items behind the first so many.
-fn answer_rest<S: Alter + Drop>(
+// Has a worker over these boards answer the items behind the first so many.
+fn answer_over<S: Alter + Drop>(
     alloc: Global,
     journal: Journal<S>,
     venue: Venue,
+    boards: &Boards,
+    ends: Ends,
     first: usize,
 ) -> Result<(Journal<S>, Option<usize>), Fail>
     requires leads { LeadsTo journal.rows venue }
+    requires takes { AreTakes boards.now.intake ends.takes.items × AreUnusedTakes ends.takes.items }
+    requires hands { AreHands boards.now.replies ends.hands.items × AreUnusedHands ends.hands.items }
+    requires count { length ends.takes.items ≡ length ends.hands.items }
+    requires sessions { AreHands boards.now.intake ends.session_hands.items × AreTakes boards.now.replies ends.session_takes.items }
 {
-    let Ok(made) = make_boards(alloc) else {
-        drop(venue);
-        return Err(Fail::new("no boards"));
-    };
-    let Boards {
-        intake,
+    let Ends {
         takes,
-        replies,
         hands,
         session_hands,
         session_takes,
-    } = made;
-    let Ok(worker) = Worker::new(alloc, venue, journal, &intake, takes, &replies, hands) else {
+    } = ends;
+    let mut sessions = Sessions {
+        boards,
+        hands: session_hands,
+        takes: session_takes,
+    };
+    let Ok(worker) = Worker::new(
+        alloc,
+        venue,
+        journal,
+        &boards.intake,
+        takes,
+        &boards.replies,
+        hands,
+    ) else {
         return Err(Fail::new("no worker"));
     };
     let mut worker = worker;
-    let mut sessions = Sessions {
-        intake: &intake,
-        hands: session_hands,
-        replies: &replies,
-        takes: session_takes,
-    };
     let answered = answer_each(alloc, &mut worker, &mut sessions, first);
     let Parts {
         venue,
@@ -142,6 +150,22 @@ fn answer_rest<S: Alter + Drop>(
     } = worker.into_parts();
     drop(venue);
     Ok((keeper, answered))
+}
+
+// The same over new boards.
+fn answer_rest<S: Alter + Drop>(
+    alloc: Global,
+    journal: Journal<S>,
+    venue: Venue,
+    first: usize,
+) -> Result<(Journal<S>, Option<usize>), Fail>
+    requires leads { LeadsTo journal.rows venue }
+{
+    let Ok((boards, ends)) = make_boards(alloc) else {
+        drop(venue);
+        return Err(Fail::new("no boards"));
+    };
+    answer_over(alloc, journal, venue, &boards, ends, first)
 }
 
 // How many of the items a journal's trail has.

@@ -10,54 +10,53 @@ use venue_worker::Outgoing;
 /// So many participants.
 const COUNT: usize = 5;
 
-/// Both boards, the worker's ends, and the sessions' ones.
+/// Both boards.
 #[derive(Drop)]
 pub struct Boards {
     pub intake: Board<Item>,
-    pub takes: Vec<TakeSeat<Item>>,
     pub replies: Board<Outgoing>,
+}
+
+/// The worker's ends of both boards, and the sessions' ones.
+#[derive(Drop)]
+pub struct Ends {
+    pub takes: Vec<TakeSeat<Item>>,
     pub hands: Vec<HandSeat<Outgoing>>,
     pub session_hands: Vec<HandSeat<Item>>,
     pub session_takes: Vec<TakeSeat<Outgoing>>,
 }
 
 /// New boards.
-pub fn make_boards(alloc: Global) -> Result<Boards, AllocError>
-    ensures takes { IfOk result (λ b. AreTakes b.intake b.takes.items × AreUnusedTakes b.takes.items) }
-    ensures hands { IfOk result (λ b. AreHands b.replies b.hands.items × AreUnusedHands b.hands.items) }
-    ensures count { IfOk result (λ b. length b.takes.items ≡ length b.hands.items) }
-    ensures sessions { IfOk result (λ b. AreHands b.intake b.session_hands.items × AreTakes b.replies b.session_takes.items) }
+pub fn make_boards(alloc: Global) -> Result<(Boards, Ends), AllocError>
+    ensures takes { IfOk result (λ r. AreTakes r.0.intake r.1.takes.items × AreUnusedTakes r.1.takes.items) }
+    ensures hands { IfOk result (λ r. AreHands r.0.replies r.1.hands.items × AreUnusedHands r.1.hands.items) }
+    ensures count { IfOk result (λ r. length r.1.takes.items ≡ length r.1.hands.items) }
+    ensures sessions { IfOk result (λ r. AreHands r.0.intake r.1.session_hands.items × AreTakes r.0.replies r.1.session_takes.items) }
 {
     let (intake, session_hands, takes) = Board::<Item>::new(alloc, COUNT)?;
     let (replies, hands, session_takes) = Board::<Outgoing>::new(alloc, COUNT)?;
-    Ok(Boards {
-        intake,
+    let boards = Boards { intake, replies };
+    let ends = Ends {
         takes,
-        replies,
         hands,
         session_hands,
         session_takes,
-    })
+    };
+    Ok((boards, ends))
 }
 
-/// The sessions' ends.
+/// The sessions, with their ends of both boards.
 #[derive(Drop)]
 pub struct Sessions<'a> {
-    pub intake: &'a Board<Item>,
+    pub boards: &'a Boards,
     pub hands: Vec<HandSeat<Item>>,
-    pub replies: &'a Board<Outgoing>,
     pub takes: Vec<TakeSeat<Outgoing>>,
-    ghost own_hands: { AreHands intake.now hands.items },
-    ghost own_takes: { AreTakes replies.now takes.items },
+    ghost own_hands: { AreHands boards.now.intake hands.items },
+    ghost own_takes: { AreTakes boards.now.replies takes.items },
 }
 
 // Hands a message over on this seat; `false` where it comes back, or there is no such seat.
-fn hand_over(
-    board: &Board<Item>,
-    hands: &mut Vec<HandSeat<Item>>,
-    place: usize,
-    item: Item,
-) -> bool
+fn hand_over(board: &Board<Item>, hands: &mut Vec<HandSeat<Item>>, place: usize, item: Item) -> bool
     requires { AreHands board.now hands.old.items }
     ensures { AreHands board.now hands.new.items }
 {
@@ -93,14 +92,14 @@ fn collect_at(board: &Board<Outgoing>, takes: &mut Vec<TakeSeat<Outgoing>>, plac
 impl<'a> Sessions<'a> {
     /// A participant's session hands a message over; `false` where it comes back.
     pub fn hand(&mut self, place: usize, item: Item) -> bool {
-        hand_over(self.intake, &mut self.hands, place, item)
+        hand_over(&self.boards.intake, &mut self.hands, place, item)
     }
 
     /// Each session collects what is in its seat. How many replies there were.
     pub fn collect(&mut self) -> usize {
         let mut count = 0usize;
         for place in 0..COUNT {
-            if collect_at(self.replies, &mut self.takes, place) {
+            if collect_at(&self.boards.replies, &mut self.takes, place) {
                 count = count.saturating_add(1);
             }
         }
