@@ -1,0 +1,5 @@
+mod files;
+mod items;
+mod playing;
+mod sessions;
+mod stops;

@@ -1,0 +1,255 @@
+//! A day of the worked items: a venue begins where its trail leads, and a worker answers the items that are left.
+ghost use Rattle.std.specs.Prelude.{◌≡◌, length};
+ghost use Rattle.intake_seats.specs.Ends.{AreHands, AreTakes, AreUnusedHands, AreUnusedTakes};
+ghost use Rattle.trail_keeper.specs.Written.{LeadsTo};
+
+use super::files::{connect, files};
+use super::items::{ITEMS, LINE, Sent, TRADES, item_of, items_in, moment_of};
+use super::sessions::{Boards, Ends, Sessions, make_boards};
+use audit_trail::Files;
+use gateway::mem_line::MemClock;
+use instruments::Instruments;
+use intake_seats::Board;
+use participants::Participants;
+use sef_moment::Moment;
+use sqlite::{Alter, Connection};
+use sqlite_disk::{Disk, Files as Pair};
+use std::alloc::{AllocError, Global};
+use std::mem::drop;
+use std::test::Fail;
+use trade_lines::print_trades;
+use trail_keeper::{Journal, start_trail};
+use venue_core::Venue;
+use venue_rules::{Keep, fixture_instruments, fixture_participants};
+use venue_worker::{Parts, Worker};
+
+/// The usual delay between linked orders, in milliseconds.
+const USUAL_DELAY: u64 = 15_000;
+
+/// So many turns deliver all replies to one item: no participant is owed more.
+const TURNS: usize = 3;
+
+/// What a day came to.
+#[derive(Clone, Copy)]
+pub struct Told {
+    /// So many items were in the trail as it began, if the rows were those of the first items and could be read.
+    pub found: Option<usize>,
+    /// Whether the trades of these were told as they should be.
+    pub is_told: bool,
+    /// So many items were answered at its end, with those that were found; none where an answer was not what it should be.
+    pub answered: Option<usize>,
+}
+
+/// The venue did not begin.
+const NOT_BEGUN: Told = Told {
+    found: None,
+    is_told: false,
+    answered: Some(0),
+};
+
+// Gives the worker one turn at this moment; `false` where the trail refused.
+fn takes_a_turn<K: Keep + Drop>(
+    alloc: Global,
+    worker: &mut Worker<'_, K>,
+    moment: Moment,
+) -> Result<bool, AllocError> {
+    let (ends, _, mut marks) = Board::<()>::new(alloc, 1)?;
+    let mut clock = MemClock::from(moment);
+    Ok(worker.run(&mut clock, &ends, &mut marks, 1).is_ok())
+}
+
+// Hands a message over, and collects what the worker answers: how many replies came before the trail refused.
+fn replies_to<K: Keep + Drop>(
+    alloc: Global,
+    worker: &mut Worker<'_, K>,
+    sessions: &mut Sessions<'_>,
+    sent: &Sent,
+) -> Option<usize> {
+    let item = item_of(alloc, sent)?;
+    if !sessions.hand(sent.from, item) {
+        return None;
+    }
+    let mut count = 0usize;
+    for _ in 0..TURNS {
+        match takes_a_turn(alloc, worker, moment_of(sent)) {
+            Ok(true) => count = count.saturating_add(sessions.collect()),
+            Ok(false) => return Some(count),
+            Err(_) => return None,
+        }
+    }
+    Some(count)
+}
+
+// The items behind the first so many are answered one by one, up to the first that is not: how many are answered then.
+fn answer_each<K: Keep + Drop>(
+    alloc: Global,
+    worker: &mut Worker<'_, K>,
+    sessions: &mut Sessions<'_>,
+    first: usize,
+) -> Option<usize> {
+    for (place, sent) in ITEMS.iter().enumerate() {
+        if place < first {
+            continue;
+        }
+        let count = replies_to(alloc, worker, sessions, sent)?;
+        if count == 0 {
+            return Some(place);
+        }
+        if count != sent.replies {
+            return None;
+        }
+    }
+    Some(ITEMS.len())
+}
+
+// Has a worker over these boards answer the items behind the first so many.
+fn answer_over<S: Alter + Drop>(
+    alloc: Global,
+    journal: Journal<S>,
+    venue: Venue,
+    boards: &Boards,
+    ends: Ends,
+    first: usize,
+) -> Result<(Journal<S>, Option<usize>), Fail>
+    requires leads { LeadsTo journal.rows venue }
+    requires takes { AreTakes boards.now.intake ends.takes.items × AreUnusedTakes ends.takes.items }
+    requires hands { AreHands boards.now.replies ends.hands.items × AreUnusedHands ends.hands.items }
+    requires count { length ends.takes.items ≡ length ends.hands.items }
+    requires sessions { AreHands boards.now.intake ends.session_hands.items × AreTakes boards.now.replies ends.session_takes.items }
+{
+    let Ends {
+        takes,
+        hands,
+        session_hands,
+        session_takes,
+    } = ends;
+    let mut sessions = Sessions {
+        boards,
+        hands: session_hands,
+        takes: session_takes,
+    };
+    let Ok(worker) = Worker::new(
+        alloc,
+        venue,
+        journal,
+        &boards.intake,
+        takes,
+        &boards.replies,
+        hands,
+    ) else {
+        return Err(Fail::new("no worker"));
+    };
+    let mut worker = worker;
+    let answered = answer_each(alloc, &mut worker, &mut sessions, first);
+    let Parts {
+        venue,
+        keeper,
+        queues: _,
+        takes: _,
+        hands: _,
+    } = worker.into_parts();
+    drop(venue);
+    Ok((keeper, answered))
+}
+
+// The same over new boards.
+fn answer_rest<S: Alter + Drop>(
+    alloc: Global,
+    journal: Journal<S>,
+    venue: Venue,
+    first: usize,
+) -> Result<(Journal<S>, Option<usize>), Fail>
+    requires leads { LeadsTo journal.rows venue }
+{
+    let Ok((boards, ends)) = make_boards(alloc) else {
+        drop(venue);
+        return Err(Fail::new("no boards"));
+    };
+    answer_over(alloc, journal, venue, &boards, ends, first)
+}
+
+// How many of the items a journal's trail has.
+fn found_in<S: Alter>(journal: &mut Journal<S>) -> Option<usize>
+    ensures same { journal.new.rows ≡ journal.old.rows }
+{
+    match journal.rows() {
+        Ok(rows) => items_in(rows.as_slice()),
+        Err(_) => None,
+    }
+}
+
+// Whether the trades of a venue are told as they should be after so many of the items.
+fn is_told(alloc: Global, venue: &Venue, items: usize) -> bool {
+    let mut lines = Vec::new(alloc);
+    let wanted = if TRADES <= items { LINE } else { "" };
+    print_trades(alloc, venue, &mut lines).is_ok() && lines.as_slice() == wanted.as_bytes()
+}
+
+// Goes on from where the rows of a journal lead.
+fn go_on<S: Alter + Drop>(
+    alloc: Global,
+    journal: Journal<S>,
+    venue: Venue,
+) -> Result<(Connection<S>, Told), Fail>
+    requires leads { LeadsTo journal.rows venue }
+{
+    let mut journal = journal;
+    let found = found_in(&mut journal);
+    let items = found.unwrap_or(0);
+    let is_told = is_told(alloc, &venue, items);
+    let (journal, answered) = answer_rest(alloc, journal, venue, items)?;
+    Ok((
+        journal.into_connection(),
+        Told {
+            found,
+            is_told,
+            answered,
+        },
+    ))
+}
+
+// Both files, and the market that they tell.
+#[derive(Drop)]
+struct Given {
+    files: Files,
+    participants: Participants,
+    instruments: Instruments,
+}
+
+fn make_given(alloc: Global) -> Result<Given, AllocError> {
+    let files = files(alloc)?;
+    let participants = fixture_participants(alloc)?;
+    let instruments = fixture_instruments(alloc, USUAL_DELAY)?;
+    Ok(Given {
+        files,
+        participants,
+        instruments,
+    })
+}
+
+// Begins where the trail leads that a database keeps, or with an empty one, and goes on.
+fn begin<S: Alter + Drop>(
+    alloc: Global,
+    conn: Connection<S>,
+) -> Result<(Connection<S>, Told), Fail> {
+    let Given {
+        files,
+        participants,
+        instruments,
+    } = make_given(alloc)?;
+    match start_trail(alloc, conn, &files, participants, instruments) {
+        Ok((journal, venue)) => go_on(alloc, journal, venue),
+        Err((_, conn)) => Ok((conn, NOT_BEGUN)),
+    }
+}
+
+/// Plays a day over a trail's files, up to the first item that is not answered.
+pub fn play<D: Disk + Drop>(alloc: Global, pair: Pair<D>) -> Result<(Pair<D>, Told), Fail> {
+    match connect(alloc, pair) {
+        Ok(conn) => {
+            let (conn, told) = begin(alloc, conn)?;
+            Ok((conn.into_store().close(), told))
+        }
+        Err(pair) => Ok((pair, NOT_BEGUN)),
+    }
+}

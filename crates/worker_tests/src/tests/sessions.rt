@@ -1,0 +1,108 @@
+//! The sessions' ends of the two boards of a venue, all on one thread.
+ghost use Rattle.std.specs.Prelude.{◌≡◌, [], None, IfOk, length};
+ghost use Rattle.intake_seats.specs.Ends.{AreHands, AreTakes, AreUnusedHands, AreUnusedTakes, IsSameTaker};
+
+use fix_dictionary::Item;
+use intake_seats::{Board, HandSeat, TakeSeat};
+use std::alloc::{AllocError, Global};
+use venue_worker::Outgoing;
+
+/// So many participants.
+const COUNT: usize = 5;
+
+/// Both boards.
+#[derive(Drop)]
+pub struct Boards {
+    pub intake: Board<Item>,
+    pub replies: Board<Outgoing>,
+}
+
+/// The worker's ends of both boards, and the sessions' ones.
+#[derive(Drop)]
+pub struct Ends {
+    pub takes: Vec<TakeSeat<Item>>,
+    pub hands: Vec<HandSeat<Outgoing>>,
+    pub session_hands: Vec<HandSeat<Item>>,
+    pub session_takes: Vec<TakeSeat<Outgoing>>,
+}
+
+/// New boards.
+pub fn make_boards(alloc: Global) -> Result<(Boards, Ends), AllocError>
+    ensures takes { IfOk result (λ r. AreTakes r.0.intake r.1.takes.items × AreUnusedTakes r.1.takes.items) }
+    ensures hands { IfOk result (λ r. AreHands r.0.replies r.1.hands.items × AreUnusedHands r.1.hands.items) }
+    ensures count { IfOk result (λ r. length r.1.takes.items ≡ length r.1.hands.items) }
+    ensures sessions { IfOk result (λ r. AreHands r.0.intake r.1.session_hands.items × AreTakes r.0.replies r.1.session_takes.items) }
+{
+    let (intake, session_hands, takes) = Board::<Item>::new(alloc, COUNT)?;
+    let (replies, hands, session_takes) = Board::<Outgoing>::new(alloc, COUNT)?;
+    let boards = Boards { intake, replies };
+    let ends = Ends {
+        takes,
+        hands,
+        session_hands,
+        session_takes,
+    };
+    Ok((boards, ends))
+}
+
+/// The sessions, with their ends of both boards.
+#[derive(Drop)]
+pub struct Sessions<'a> {
+    pub boards: &'a Boards,
+    pub hands: Vec<HandSeat<Item>>,
+    pub takes: Vec<TakeSeat<Outgoing>>,
+    ghost own_hands: { AreHands boards.now.intake hands.items },
+    ghost own_takes: { AreTakes boards.now.replies takes.items },
+}
+
+// Hands a message over on this seat; `false` where it comes back, or there is no such seat.
+fn hand_over(board: &Board<Item>, hands: &mut Vec<HandSeat<Item>>, place: usize, item: Item) -> bool
+    requires { AreHands board.now hands.old.items }
+    ensures { AreHands board.now hands.new.items }
+{
+    if hands.len() <= place {
+        return false;
+    }
+    hands[place].hand(board, item).is_ok()
+}
+
+// Takes what is in this seat, and lets it go. Whether there was something.
+fn collect(board: &Board<Outgoing>, take: &mut TakeSeat<Outgoing>) -> bool
+    requires own { take.old.board ≡ board.now }
+    requires free { take.old.in_hand ≡ None }
+    ensures { IsSameTaker take.old take.new × (take.new.in_hand ≡ None) }
+{
+    if take.take(board).is_none() {
+        return false;
+    }
+    take.clear(board)
+}
+
+// Of the seat at this place, if there is one.
+fn collect_at(board: &Board<Outgoing>, takes: &mut Vec<TakeSeat<Outgoing>>, place: usize) -> bool
+    requires { AreTakes board.now takes.old.items }
+    ensures { AreTakes board.now takes.new.items }
+{
+    if takes.len() <= place {
+        return false;
+    }
+    collect(board, &mut takes[place])
+}
+
+impl<'a> Sessions<'a> {
+    /// A participant's session hands a message over; `false` where it comes back.
+    pub fn hand(&mut self, place: usize, item: Item) -> bool {
+        hand_over(&self.boards.intake, &mut self.hands, place, item)
+    }
+
+    /// Each session collects what is in its seat. How many replies there were.
+    pub fn collect(&mut self) -> usize {
+        let mut count = 0usize;
+        for place in 0..COUNT {
+            if collect_at(&self.boards.replies, &mut self.takes, place) {
+                count = count.saturating_add(1);
+            }
+        }
+        count
+    }
+}
