@@ -6,6 +6,7 @@ A line for each crate when it is proved: how much of the whole that was, by the 
 something to judge it by, how long the rest may take. What was built of this very text stays as it is. What the prover says goes to
 out/proving.log. The status is 1 where a crate is refused; then the others that were begun come to their end, and no more are begun.
 """
+import contextlib
 import functools
 import hashlib
 import os
@@ -52,16 +53,19 @@ def toolchain():
     return subprocess.run(["rt", "version"], stdout=subprocess.PIPE, text=True, check=True).stdout
 
 
-@functools.cache
-def text_sum(crate):
-    """A sum of the toolchain and of all that the prover reads of a crate and of those that it uses."""
-    seen = hashlib.sha256(toolchain().encode())
-    for library in USES[crate]:
-        seen.update(f"{library} {text_sum(library) if library in USES else ''}\n".encode())
+def own_sum(crate):
+    """A sum of what the prover reads of a crate, as it stands now."""
+    seen = hashlib.sha256(f"{crate}: {USES[crate]}".encode())
     for file in files_read(crate):
         text = repository.text_of(file)
         seen.update(f"{os.path.relpath(file, repository.ROOT)} {len(text)} {text}".encode())
     return seen.hexdigest()
+
+
+def text_sum(crate, own=own_sum):
+    """A sum of the toolchain and of what the prover reads of a crate and of those below it, by a sum of each of them."""
+    parts = [own(each) for each in [*repository.crates_below(crate, USES), crate]]
+    return hashlib.sha256(f"{toolchain()} {parts}".encode()).hexdigest()
 
 
 def is_program(crate):
@@ -78,8 +82,8 @@ def mark(crate):
     return f"{os.path.dirname(built(crate))}/{crate}.of"
 
 
-def is_up_to_date(crate):
-    return os.path.exists(built(crate)) and os.path.isfile(mark(crate)) and repository.text_of(mark(crate)) == text_sum(crate)
+def is_up_to_date(crate, own):
+    return os.path.exists(built(crate)) and os.path.isfile(mark(crate)) and repository.text_of(mark(crate)) == text_sum(crate, own)
 
 
 def build_words(crate, jobs):
@@ -116,12 +120,14 @@ class Proving:
             above = [self.heights[other] for other in self.heights if crate in self.below[other]]
             self.heights[crate] = self.sizes[crate] + max(above, default=0)
         self.done = set()
+        own = functools.cache(own_sum)
         for crate in crates:
-            if self.below[crate] <= self.done and is_up_to_date(crate):
+            if self.below[crate] <= self.done and is_up_to_date(crate, own):
                 self.done.add(crate)
         self.left = [crate for crate in crates if crate not in self.done]
         self.before = self.share()
         self.checks = {}
+        self.sums = {}
         self.failed = []
         self.log = log
         self.began = time.monotonic()
@@ -135,6 +141,9 @@ class Proving:
             jobs = max(1, free // len(ready))
             self.left.remove(crate)
             os.makedirs(os.path.dirname(built(crate)), exist_ok=True)
+            with contextlib.suppress(FileNotFoundError):
+                os.remove(mark(crate))
+            self.sums[crate] = text_sum(crate)
             how = {"cwd": repository.folder_of(crate), "stdin": subprocess.DEVNULL, "stdout": self.log, "stderr": self.log}
             self.checks[crate] = jobs, subprocess.Popen(build_words(crate, jobs), **how)
 
@@ -148,8 +157,10 @@ class Proving:
                 self.failed.append(crate)
                 print(f"  {crate}: REFUSED", flush=True)
                 continue
-            with open(mark(crate), "w", encoding="utf-8") as it:
-                it.write(text_sum(crate))
+            # (what was altered meanwhile is not what was proved)
+            if text_sum(crate) == self.sums[crate]:
+                with open(mark(crate), "w", encoding="utf-8") as it:
+                    it.write(self.sums[crate])
             self.done.add(crate)
             print(f"  {crate} proved{self.rest()}", flush=True)
 
@@ -178,7 +189,7 @@ def main(programs):
     if proving.failed:
         print(f"refused: {', '.join(proving.failed)}; out/proving.log says why", file=sys.stderr)
         return 1
-    print(f"proved in {minutes(time.monotonic() - proving.began)}")
+    print(f"all is proved, in {minutes(time.monotonic() - proving.began)}")
     return 0
 
 

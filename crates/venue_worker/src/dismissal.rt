@@ -7,25 +7,27 @@ use crate::clock::{Clock, tell};
 use crate::worker::Worker;
 use venue_rules::Keep;
 
-/// After so many rounds in a row in which no session took anything, no more are made. A clock waits in most of them.
-const PATIENCE: u64 = 400;
+/// A participant is cut once no session took anything for so many milliseconds, in which each wrote what it had taken before.
+const QUIET: u64 = 500;
+
+/// Once no session took anything for so many milliseconds, no more rounds are made.
+const PATIENCE: u64 = 30_000;
 
 impl<'a, K: Keep + Drop> Worker<'a, K> {
-    /// Has the sessions end where the trail takes no more rows: each participant is given what it is owed, and then it is cut. So many
-    /// rounds are made at most, each behind an answer of the clock; fewer where each mark is in its seat, or where no session takes
-    /// anything for long.
+    /// Has the sessions end where the trail takes no more rows: each participant is given what it is owed, and is cut a while after. So
+    /// many rounds are made at most, each behind an answer of the clock; fewer where each mark is in its seat, or where no session takes
+    /// anything for half a minute.
     pub fn dismiss<C: Clock>(&mut self, clock: &mut C, rounds: u64)
         ensures only { IsSameElse self.old self.new }
     {
-        let mut idle: u64 = 0;
+        let mut since = clock.now();
         for _ in 0..rounds {
-            let _moment = clock.now();
-            if self.see_all_off(clock) {
-                idle = 0;
-            } else {
-                idle = idle.saturating_add(1);
+            let moment = clock.now();
+            let idle = moment.ms().saturating_sub(since.ms());
+            if self.see_all_off(clock, QUIET <= idle) {
+                since = moment;
             }
-            if PATIENCE < idle || self.are_dismissed() {
+            if PATIENCE <= idle || self.are_dismissed() {
                 return;
             }
         }
@@ -39,24 +41,24 @@ impl<'a, K: Keep + Drop> Worker<'a, K> {
             .all(|queue| queue.is_cut && queue.waiting.is_empty())
     }
 
-    // One delivery to each participant, who is cut where nothing waits for it. Whether a message was handed over.
-    fn see_all_off<C: Clock>(&mut self, clock: &mut C) -> bool
+    // One delivery to each participant, who is first cut where it may be and nothing waits for it. Whether a message was handed over.
+    fn see_all_off<C: Clock>(&mut self, clock: &mut C, may_cut: bool) -> bool
         ensures only { IsSameElse self.old self.new }
     {
         let mut moved = false;
         let count = self.hands.len();
         for j in 0..count {
-            moved |= self.see_off(clock, j);
+            moved |= self.see_off(clock, j, may_cut);
         }
         moved
     }
 
-    // A delivery to a participant, who is cut where nothing waits for it.
-    fn see_off<C: Clock>(&mut self, clock: &mut C, j: usize) -> bool
+    // A delivery to a participant, who is first cut where it may be and nothing waits for it.
+    fn see_off<C: Clock>(&mut self, clock: &mut C, j: usize, may_cut: bool) -> bool
         requires named { j < length self.old.hands }
         ensures only { IsSameElse self.old self.new }
     {
-        if self.is_served(j) {
+        if may_cut && self.is_served(j) {
             self.cut(j);
         }
         let delivered = self.deliver(j);
