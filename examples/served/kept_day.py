@@ -237,6 +237,7 @@ def confined_run(play):
     kept = orders_in(trail)
     lost = [name for name in answered.orders if name not in kept]
     wanted(f"of {len(answered.orders)} orders that were answered without a row", lost, [])
+    wanted("rows of orders that were not answered", [name for name in kept if name not in answered.orders], [])
     trail = os.path.join(play.folder, "short.trail")
     venue = play.start(trail, MANY_TURNS, SHORTEST_LOG)
     said = venue.communicate(timeout=LONGEST_STOP)
