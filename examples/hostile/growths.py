@@ -76,7 +76,7 @@ def side_by_side(work, items):
 def older_trail(folder, version):
     """The sample day as a venue of version 1 or 2 kept it."""
     gone = "later_era|delay" if version == 1 else "later_era"
-    with open(os.path.join(ROOT, "crates", "sef_replay", "data", "day.sql")) as file:
+    with open(os.path.join(ROOT, "examples", "sample_day", "day.sql")) as file:
         lines = [line for line in file if not re.search(f"(TABLE|INTO) ({gone}) ", line)]
     trail = os.path.join(folder, f"version{version}.trail")
     with contextlib.closing(sqlite3.connect(trail)) as database:
@@ -211,7 +211,7 @@ def main():
         market = Market(folder)
         with open(os.path.join(ROOT, "crates", "venue_main", "stdin"), "rb") as file:
             frames = file.read()
-        day = os.path.join(ROOT, "crates", "sef_replay", "data", "day.trail")
+        day = os.path.join(ROOT, "examples", "sample_day", "day.trail")
         older = older_trail(folder, 1)
         Command(library, "check", [venue_main, "check", *market.words()]).play(tries)
         Command(library, "once", [venue_main, "once", *market.words(), "--at", "20250303-14:30:00"], frames).play(tries)
