@@ -2,8 +2,8 @@
 --
 --   In a room (17 CFR 37.9(a)(2), (a)(3)): the request; each recipient, and what it is to the requester and to the others who were
 --   asked; the resting orders shown with the first response; each quote; the hit; the trade.
---   In the book (17 CFR 37.9(b)(1)): the order that rested and the one that entered, what their participants are to each other, whether
---   the two are linked, how long apart they entered; what rested before the one that rested, as the other entered; the trade.
+--   In the book (17 CFR 37.9(b)(1)): the order that rested and the one that entered, each with when it entered and the link that it
+--   carries, what their participants are to each other, whether the two are linked, how long apart they entered; what rested before the one that rested, as the other entered; the trade.
 use Rattle.std.specs.Prelude.{ℕ, ℤ, ◌+◌, ◌-◌, min, Bool, true, false, not, ◌&&◌, ◌||◌, ◌==◌, nat_lt, List, [], ◌++◌, find, Option, Some, None, codes, decimal, bytes_eq, if◌then◌else◌}
 use Rattle.std.specs.List.{flat_map}
 use Rattle.sef_moment.specs.Utc.{greatest}
@@ -17,6 +17,8 @@ use Rattle.venue_rules.specs.Book.{is_same_link}
 use Rattle.venue_rules.specs.Market.{Market}
 use Rattle.venue_rules.specs.declared.trail.TradeFact.{TradeFact}
 use Rattle.trade_lines.specs.Line.{deal}
+use Rattle.trade_evidence.specs.declared.entry.Both.{Both}
+use Rattle.trade_evidence.specs.declared.entry.Entry.{Entry as OrderEntry}
 use Rattle.trade_evidence.specs.declared.finding.Sought.{Sought}
 use Rattle.trade_evidence.specs.declared.finding.Sought.TheVariants.{Request, Order, Fill, OtherFill, Hit, HeldSide, Entry}
 use Rattle.trade_evidence.specs.declared.word.Word.{Word}
@@ -28,6 +30,7 @@ use Rattle.trade_evidence.specs.declared.word.Shown.{Shown}
 use Rattle.trade_evidence.specs.declared.word.Quoted.{Quoted}
 use Rattle.trade_evidence.specs.declared.word.Hit.{Hit as HitSaid}
 use Rattle.trade_evidence.specs.declared.word.Entered.{Entered}
+use Rattle.trade_evidence.specs.declared.word.Linked.{Linked}
 use Rattle.trade_evidence.specs.declared.word.Stood.{Stood}
 use Rattle.trade_evidence.specs.declared.word.Counted.{Counted}
 
@@ -110,15 +113,15 @@ abbrev pub order_of : Option Word → Option ℕ
 order_of None = None
 order_of (Some w) = order_in w
 
-abbrev pub link_said : Said → Option (List ℕ)
+abbrev pub link_said : Said → Option Linked
 link_said (said.Entered e) = e.link
 link_said _ = None
 
-abbrev pub link_in : Word → Option (List ℕ)
+abbrev pub link_in : Word → Option Linked
 link_in w = link_said w.said
 
--- the link of the order that entered
-abbrev pub link_of : Option Word → Option (List ℕ)
+-- the link of the order that entered, with the row of the message that carried it
+abbrev pub link_of : Option Word → Option Linked
 link_of None = None
 link_of (Some w) = link_in w
 
@@ -228,38 +231,6 @@ abbrev pub price_if : Option ℤ → List ℕ
 price_if None = []
 price_if (Some price) = codes " @ " ++ price_text price
 
-abbrev pub order_line : ParticipantFile → Word → Entered → List ℕ
-order_line file w e = codes "order O" ++ (decimal e.order ++ (codes " of " ++ (name_of file w.to ++ (side_text e.side ++ (decimal e.quantity ++ (codes " " ++ (e.symbol ++ (price_if e.price ++ (at_text w.moment ++ row_text w.row)))))))))
-
--- what is said of an order with an identifier, where it has one
-abbrev pub named_line : ℕ → List ℕ → Option (List ℕ) → ℕ → List ℕ
-named_line order said None row = []
-named_line order said (Some id) row = codes "O" ++ (decimal order ++ (said ++ (id ++ row_text row)))
-
-abbrev pub link_line : ℕ → Option (List ℕ) → ℕ → List ℕ
-link_line order link row = named_line order (codes " carries the link ") link row
-
-abbrev pub original_line : ℕ → Option (List ℕ) → ℕ → List ℕ
-original_line order original row = named_line order (codes " takes the place of the order with the identifier ") original row
-
-abbrev pub held_said : ℕ → Word → Said → List ℕ
-held_said order w (said.Held x) = codes "O" ++ (decimal order ++ (codes " was held as the second side of a cross for " ++ (decimal x.delay ++ (codes " ms from " ++ (utc_text w.moment ++ row_text w.row)))))
-held_said order w _ = []
-
-abbrev pub held_line : ℕ → Word → List ℕ
-held_line order w = held_said order w w.said
-
-abbrev pub hold_of : ℕ → Option Word → List ℕ
-hold_of order None = []
-hold_of order (Some hold) = held_line order hold
-
--- what enters at a tick was held before
-abbrev pub hold_lines : List Word → Word → Entered → List ℕ
-hold_lines words w e = if e.at_tick then hold_of e.order (find (is_sought (HeldSide w.to e.id)) words) else []
-
-unfoldable pub entry_lines : ParticipantFile → List Word → Word → Entered → List ℕ
-entry_lines file words w e = order_line file w e ++ (link_line e.order e.link w.row ++ (original_line e.order e.original w.row ++ hold_lines words w e))
-
 abbrev pub held_until_said : Word → Said → ℕ
 held_until_said w (said.Held x) = min (w.moment + x.delay) greatest
 held_until_said w _ = w.moment
@@ -276,6 +247,53 @@ moment_of t (Some hold) = held_until hold
 abbrev pub entry_moment : List Word → Word → Entered → ℕ
 entry_moment words w e = if e.at_tick then moment_of w.moment (find (is_sought (HeldSide w.to e.id)) words) else w.moment
 
+abbrev pub entry_said : List Word → Word → Said → Option OrderEntry
+entry_said words w (said.Entered e) = Some (record { row = w.row; to = w.to; moment = entry_moment words w e; entered = e })
+entry_said words w _ = None
+
+abbrev pub entry_in : List Word → Word → Option OrderEntry
+entry_in words w = entry_said words w w.said
+
+-- the entry of an order: the row that tells it, whose the order is, when it entered, and what was said of it
+abbrev pub entry_of : List Word → Option Word → Option OrderEntry
+entry_of words None = None
+entry_of words (Some w) = entry_in words w
+
+abbrev pub order_line : ParticipantFile → OrderEntry → List ℕ
+order_line file x = codes "order O" ++ (decimal x.entered.order ++ (codes " of " ++ (name_of file x.to ++ (side_text x.entered.side ++ (decimal x.entered.quantity ++ (codes " " ++ (x.entered.symbol
+    ++ (price_if x.entered.price ++ (at_text x.moment ++ row_text x.row)))))))))
+
+-- what is said of an order with an identifier
+abbrev pub named_line : ℕ → List ℕ → List ℕ → ℕ → List ℕ
+named_line order said id row = codes "O" ++ (decimal order ++ (said ++ (id ++ row_text row)))
+
+-- the link of an order, where it has one: the row is that of the message that carried it, which may be one whose order's place it takes
+abbrev pub link_line : ℕ → Option Linked → List ℕ
+link_line order None = []
+link_line order (Some l) = named_line order (codes " carries the link ") l.link l.row
+
+abbrev pub original_line : ℕ → Option (List ℕ) → ℕ → List ℕ
+original_line order None row = []
+original_line order (Some id) row = named_line order (codes " takes the place of the order with the identifier ") id row
+
+abbrev pub held_said : ℕ → Word → Said → List ℕ
+held_said order w (said.Held x) = codes "O" ++ (decimal order ++ (codes " was held as the second side of a cross for " ++ (decimal x.delay ++ (codes " ms from " ++ (utc_text w.moment ++ row_text w.row)))))
+held_said order w _ = []
+
+abbrev pub held_line : ℕ → Word → List ℕ
+held_line order w = held_said order w w.said
+
+abbrev pub hold_of : ℕ → Option Word → List ℕ
+hold_of order None = []
+hold_of order (Some hold) = held_line order hold
+
+-- what enters at a tick was held before
+abbrev pub hold_lines : List Word → OrderEntry → List ℕ
+hold_lines words x = if x.entered.at_tick then hold_of x.entered.order (find (is_sought (HeldSide x.to x.entered.id)) words) else []
+
+unfoldable pub entry_lines : ParticipantFile → List Word → OrderEntry → List ℕ
+entry_lines file words x = order_line file x ++ (link_line x.entered.order x.entered.link ++ (original_line x.entered.order x.entered.original x.row ++ hold_lines words x))
+
 abbrev pub apart_line : ℕ → ℕ → ℕ → List ℕ
 apart_line earlier later row = codes "entered " ++ (decimal (later - earlier) ++ (codes " ms apart" ++ row_text row))
 
@@ -283,13 +301,19 @@ apart_line earlier later row = codes "entered " ++ (decimal (later - earlier) ++
 abbrev pub are_linked : ParticipantFile → ℕ → Option (List ℕ) → ℕ → Option (List ℕ) → Bool
 are_linked file one link other other_link = one == other || (related file one other || is_same_link link other_link)
 
+abbrev pub link_id : Option Linked → Option (List ℕ)
+link_id None = None
+link_id (Some l) = Some l.link
+
 abbrev pub linked_text : Bool → List ℕ
 linked_text true = codes " are linked"
 linked_text false = codes " are not linked"
 
-abbrev pub linked_line : ParticipantFile → Word → Entered → Word → Entered → ℕ → List ℕ
-linked_line file old resting new entering row =
-    codes "O" ++ (decimal resting.order ++ (codes " and O" ++ (decimal entering.order ++ (linked_text (are_linked file old.to resting.link new.to entering.link) ++ row_text row))))
+abbrev pub entries_linked : ParticipantFile → OrderEntry → OrderEntry → Bool
+entries_linked file one other = are_linked file one.to (link_id one.entered.link) other.to (link_id other.entered.link)
+
+abbrev pub linked_line : ParticipantFile → Both → List ℕ
+linked_line file b = codes "O" ++ (decimal b.resting.entered.order ++ (codes " and O" ++ (decimal b.entering.entered.order ++ (linked_text (entries_linked file b.resting b.entering) ++ row_text b.row))))
 
 abbrev pub stood_side : Side → List ℕ
 stood_side Buy = codes " with a bid of "
@@ -315,32 +339,20 @@ abbrev pub standing_lines : List Word → List ℕ
 standing_lines words = flat_map standing_line words
 
 -- of both orders together
-unfoldable pub together_lines : ParticipantFile → List Word → Word → Entered → Word → Entered → ℕ → List ℕ
-together_lines file words old resting new entering row = pair_line file old.to new.to row ++ (linked_line file old resting new entering row
-    ++ (apart_line (entry_moment words old resting) (entry_moment words new entering) row ++ standing_lines words))
+unfoldable pub together_lines : ParticipantFile → List Word → Both → List ℕ
+together_lines file words b = pair_line file b.resting.to b.entering.to b.row ++ (linked_line file b ++ (apart_line b.resting.moment b.entering.moment b.row ++ standing_lines words))
 
 -- the order that rested and the one that entered
-abbrev pub both_lines : ParticipantFile → List Word → Word → Entered → Word → Entered → ℕ → List ℕ
-both_lines file words old resting new entering row = entry_lines file words old resting ++ (entry_lines file words new entering ++ together_lines file words old resting new entering row)
+abbrev pub both_lines : ParticipantFile → List Word → Both → List ℕ
+both_lines file words b = entry_lines file words b.resting ++ (entry_lines file words b.entering ++ together_lines file words b)
 
-abbrev pub entered_with : ParticipantFile → List Word → Word → Entered → Word → Said → ℕ → List ℕ
-entered_with file words old resting new (said.Entered entering) row = both_lines file words old resting new entering row
-entered_with file words old resting new _ row = []
-
-abbrev pub entered_both : ParticipantFile → List Word → Word → Said → Word → ℕ → List ℕ
-entered_both file words old (said.Entered resting) new row = entered_with file words old resting new new.said row
-entered_both file words old _ new row = []
-
-abbrev pub entries_lines : ParticipantFile → List Word → Word → Word → ℕ → List ℕ
-entries_lines file words old new row = entered_both file words old old.said new row
-
-abbrev pub two_orders : ParticipantFile → List Word → Option Word → Option Word → ℕ → List ℕ
-two_orders file words None new row = []
-two_orders file words (Some old) None row = []
-two_orders file words (Some old) (Some new) row = entries_lines file words old new row
+abbrev pub two_orders : ParticipantFile → List Word → Option OrderEntry → Option OrderEntry → ℕ → List ℕ
+two_orders file words None entering row = []
+two_orders file words (Some resting) None row = []
+two_orders file words (Some resting) (Some entering) row = both_lines file words (record { resting = resting; entering = entering; row = row })
 
 unfoldable pub orders_lines : ParticipantFile → List Word → ℕ → ℕ → ℕ → List ℕ
-orders_lines file words resting entering row = two_orders file words (find (is_sought (Order resting)) words) (find (is_sought (Order entering)) words) row
+orders_lines file words resting entering row = two_orders file words (entry_of words (find (is_sought (Order resting)) words)) (entry_of words (find (is_sought (Order entering)) words)) row
 
 abbrev pub other_of : ParticipantFile → List Word → ℕ → Option ℕ → ℕ → List ℕ
 other_of file words entering None row = []

@@ -17,44 +17,51 @@ use Rattle.venue_rules.specs.declared.replies.What.TheVariants as what
 use Rattle.trade_evidence.specs.declared.came.Came.{Came}
 use Rattle.trade_evidence.specs.declared.came.Came.TheVariants as came
 use Rattle.trade_evidence.specs.declared.came.Crossed.{Crossed}
+use Rattle.trade_evidence.specs.declared.word.Linked.{Linked}
 use Rattle.trade_evidence.specs.declared.word.Said.{Said}
 use Rattle.trade_evidence.specs.declared.word.Said.TheVariants as said
 use Rattle.trade_evidence.specs.declared.word.Word.{Word}
 use Rattle.trade_evidence.specs.declared.finding.Sought.TheVariants.{Entry}
 use Rattle.trade_evidence.specs.Lines.{is_sought, link_of}
 
+-- the link that a message carries at its row
+abbrev pub link_at : ℕ → Option (List ℕ) → Option Linked
+link_at row None = None
+link_at row (Some link) = Some (record { link = link; row = row })
+
 -- the link of the order that a participant has entered under an identifier
-abbrev pub link_known : List Word → ℕ → List ℕ → Option (List ℕ)
+abbrev pub link_known : List Word → ℕ → List ℕ → Option Linked
 link_known words who id = link_of (find (is_sought (Entry who id)) words)
 
--- What of a participant's message tells of the replies to it, after what was said before; what takes an order's place has its link.
-unfoldable pub came_in : List Instrument → List Word → ℕ → App → Came
-came_in xs words who (QuoteRequest d) = came.Request (record { requester = who; request = d.request_id })
-came_in xs words who (Quote d) = came.Quote
-came_in xs words who (QuoteResponse d) = came.Response d.quote_id
-came_in xs words who (NewOrderSingle d) = came.Order (record { price = d.price; link = d.link_id })
-came_in xs words who (OrderCancelReplaceRequest d) = came.Order (record { price = d.price; link = link_known words who d.original_id })
-came_in xs words who (NewOrderCross d) = came.Cross (record { first = d.first.order_id; second = d.second.order_id; price = d.price; delay = delay_of xs (instrument_of xs d.symbol) })
-came_in xs words who (QuoteCancel d) = came.Other
-came_in xs words who (QuoteStatusReport d) = came.Other
-came_in xs words who (QuoteRequestReject d) = came.Other
-came_in xs words who (OrderCancelRequest d) = came.Other
-came_in xs words who (ExecutionReport d) = came.Other
-came_in xs words who (OrderCancelReject d) = came.Other
-came_in xs words who (MarketDataRequest d) = came.Other
-came_in xs words who (MarketDataSnapshot d) = came.Other
-came_in xs words who (MarketDataRequestReject d) = came.Other
-came_in xs words who (BusinessMessageReject d) = came.Other
-came_in xs words who (Unsupported kind) = came.Other
+-- What of a participant's message at a row tells of the replies to it, after what was said before; what takes an order's place has its
+-- link, with the row of the message that carried it.
+unfoldable pub came_in : List Instrument → List Word → ℕ → ℕ → App → Came
+came_in xs words row who (QuoteRequest d) = came.Request (record { requester = who; request = d.request_id })
+came_in xs words row who (Quote d) = came.Quote
+came_in xs words row who (QuoteResponse d) = came.Response d.quote_id
+came_in xs words row who (NewOrderSingle d) = came.Order (record { price = d.price; link = link_at row d.link_id })
+came_in xs words row who (OrderCancelReplaceRequest d) = came.Order (record { price = d.price; link = link_known words who d.original_id })
+came_in xs words row who (NewOrderCross d) = came.Cross (record { first = d.first.order_id; second = d.second.order_id; price = d.price; delay = delay_of xs (instrument_of xs d.symbol) })
+came_in xs words row who (QuoteCancel d) = came.Other
+came_in xs words row who (QuoteStatusReport d) = came.Other
+came_in xs words row who (QuoteRequestReject d) = came.Other
+came_in xs words row who (OrderCancelRequest d) = came.Other
+came_in xs words row who (ExecutionReport d) = came.Other
+came_in xs words row who (OrderCancelReject d) = came.Other
+came_in xs words row who (MarketDataRequest d) = came.Other
+came_in xs words row who (MarketDataSnapshot d) = came.Other
+came_in xs words row who (MarketDataRequestReject d) = came.Other
+came_in xs words row who (BusinessMessageReject d) = came.Other
+came_in xs words row who (Unsupported kind) = came.Other
 
--- the price that a message gives its orders, and the link that its order carries (583)
+-- the price that a message gives its orders, and the link of its order (583)
 
 abbrev pub price_in : Came → Option ℤ
 price_in (came.Order o) = o.price
 price_in (came.Cross x) = x.price
 price_in _ = None
 
-abbrev pub link_in : Came → Option (List ℕ)
+abbrev pub link_in : Came → Option Linked
 link_in (came.Order o) = o.link
 link_in _ = None
 

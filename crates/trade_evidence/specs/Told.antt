@@ -23,20 +23,20 @@ use Rattle.trade_evidence.specs.Lines.{evidence}
 use Rattle.trade_evidence.specs.Said.{came_in, words_of}
 use Rattle.trade_evidence.specs.Standing.{stood_at}
 
--- what came as a message, or at a tick, after these words
-abbrev pub came_at : List Instrument → List Word → Option Taken → Came
-came_at xs words (Some taken) = came_in xs words taken.from taken.item.app
-came_at xs words None = came.Tick
+-- what came at a row as a message, or as a tick, after these words
+abbrev pub came_at : List Instrument → List Word → ℕ → Option Taken → Came
+came_at xs words row (Some taken) = came_in xs words row taken.from taken.item.app
+came_at xs words row None = came.Tick
 
 -- and with an input
-abbrev pub came_of : Market → List Word → Input → Came
-came_of m words (Message taken t) = came_at m.instruments words (Some taken)
-came_of m words (Tick t) = came_at m.instruments words None
+abbrev pub came_of : Market → List Word → ℕ → Input → Came
+came_of m words row (Message taken t) = came_at m.instruments words row (Some taken)
+came_of m words row (Tick t) = came_at m.instruments words row None
 
 -- What is said at a row, after these words: where the trade with this number is made there, what rested before the order that it met;
 -- and then the answer of the rules to the input that the row tells.
 abbrev pub words_at : Market → History → ℕ → List Word → TrailRow → Input → List Word
-words_at m h number words r i = stood_at m h number r.n r.moment (answer_input m h i).replies ++ words_of r.n r.moment (came_of m words i) (answer_input m h i).replies
+words_at m h number words r i = stood_at m h number r.n r.moment (answer_input m h i).replies ++ words_of r.n r.moment (came_of m words r.n i) (answer_input m h i).replies
 
 -- these words, and what is said behind them at rows, one after another, from a history on
 abbrev pub words_from : Market → History → ℕ → List Word → List TrailRow → List Input → List Word

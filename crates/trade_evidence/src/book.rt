@@ -1,14 +1,14 @@
 //! The evidence for a trade in the book.
 
-ghost use Rattle.std.specs.Prelude.{◌≡◌, ◌++◌, find, option_map, OnOk};
+ghost use Rattle.std.specs.Prelude.{◌≡◌, ◌++◌, OnOk};
 ghost use Rattle.venue_rules.specs.Book.{is_same_link};
-ghost use Rattle.trade_evidence.specs.Lines.{apart_line, are_linked, book_lines, both_lines, entries_lines, entry_lines, entry_moment, held_line, held_until, hold_lines, is_sought, linked_line, linked_text, named_line, order_line, orders_lines, price_if, side_text, together_lines};
-ghost use Rattle.trade_evidence.specs.declared.finding.Sought.TheVariants.{HeldSide};
+ghost use Rattle.trade_evidence.specs.Lines.{apart_line, are_linked, book_lines, both_lines, entries_linked, entry_lines, held_line, hold_lines, link_id, link_line, linked_line, linked_text, named_line, order_line, original_line, orders_lines, price_if, side_text, together_lines};
 
-use crate::finding::{Sought, filled_order, find_word};
+use crate::entry::{Both, Entry, entry_of, hold_of};
+use crate::finding::{Sought, filled_order};
 use crate::rested::append_standing;
 use crate::room::{append_at, append_moment, append_pair, append_quantity, append_row};
-use crate::word::{Entered, Said, Word};
+use crate::word::{Linked, Said, Word};
 use fix_dictionary::{Identifier, Price, Side};
 use participants::{Participants, Who};
 use sef_moment::Moment;
@@ -44,45 +44,64 @@ fn append_order(
     alloc: Global,
     text: &mut Vec<u8>,
     participants: &Participants,
-    word: &Word,
-    entered: &Entered,
+    entry: &Entry,
 ) -> Result<(), AllocError>
-    ensures { OnOk result (text.new.items ≡ text.old.items ++ order_line participants.now word.now entered.now) }
+    ensures { OnOk result (text.new.items ≡ text.old.items ++ order_line participants.now entry.now) }
 {
-    let name = name_at(participants, word.to);
+    let entered = &entry.entered;
+    let name = name_at(participants, entry.to);
     append_number(text, b"order O", entered.order)?;
     append(text, &[b" of ", name])?;
     let side = side_text(entered.side);
     append_quantity(text, side, entered.quantity.get(), &entered.symbol)?;
     append_price_if(alloc, text, entered.price)?;
-    append_at(text, word.moment, word.row)
+    append_at(text, entry.moment, entry.row)
 }
 
-/// Appends what is said of an order with an identifier, if it has one.
+/// Appends what is said of an order with an identifier.
 fn append_named(
     text: &mut Vec<u8>,
     order: u64,
     said: &[u8],
-    id: &Option<Identifier>,
+    id: &Identifier,
     row: u64,
 ) -> Result<(), AllocError>
     ensures { OnOk result (text.new.items ≡ text.old.items ++ named_line order said.now id.now row) }
 {
-    match id {
-        Some(id) => {
-            append_number(text, b"O", order)?;
-            append(text, &[said, id.as_slice()])?;
-            append_row(text, row)
-        }
+    append_number(text, b"O", order)?;
+    append(text, &[said, id.as_slice()])?;
+    append_row(text, row)
+}
+
+/// Appends the link of an order, if it has one, at the row of the message that carried it.
+fn append_link(text: &mut Vec<u8>, order: u64, link: &Option<Linked>) -> Result<(), AllocError>
+    ensures { OnOk result (text.new.items ≡ text.old.items ++ link_line order link.now) }
+{
+    match link {
+        Some(linked) => append_named(text, order, b" carries the link ", &linked.link, linked.row),
         None => Ok(()),
     }
 }
 
-/// The word that an order was held, if it entered at a tick.
-fn hold_of<'a>(words: &'a [Word], word: &Word, entered: &Entered) -> Option<&'a Word>
-    ensures { option_map (λ w. w.now) result ≡ find (is_sought (HeldSide word.now.to entered.now.id)) words.now }
+/// Appends whose place an order takes, if it takes one.
+fn append_original(
+    text: &mut Vec<u8>,
+    order: u64,
+    original: &Option<Identifier>,
+    row: u64,
+) -> Result<(), AllocError>
+    ensures { OnOk result (text.new.items ≡ text.old.items ++ original_line order original.now row) }
 {
-    find_word(words, &Sought::HeldSide(word.to, entered.id))
+    match original {
+        Some(id) => append_named(
+            text,
+            order,
+            b" takes the place of the order with the identifier ",
+            id,
+            row,
+        ),
+        None => Ok(()),
+    }
 }
 
 /// Appends that an order was held, and from when on and how long.
@@ -105,19 +124,14 @@ fn append_held(text: &mut Vec<u8>, order: u64, word: &Word) -> Result<(), AllocE
 }
 
 /// Appends that an order was held before it entered, if it entered at a tick.
-fn append_hold(
-    text: &mut Vec<u8>,
-    words: &[Word],
-    word: &Word,
-    entered: &Entered,
-) -> Result<(), AllocError>
-    ensures { OnOk result (text.new.items ≡ text.old.items ++ hold_lines words.now word.now entered.now) }
+fn append_hold(text: &mut Vec<u8>, words: &[Word], entry: &Entry) -> Result<(), AllocError>
+    ensures { OnOk result (text.new.items ≡ text.old.items ++ hold_lines words.now entry.now) }
 {
-    if !entered.at_tick {
+    if !entry.entered.at_tick {
         return Ok(());
     }
-    match hold_of(words, word, entered) {
-        Some(hold) => append_held(text, entered.order, hold),
+    match hold_of(words, entry.to, &entry.entered) {
+        Some(hold) => append_held(text, entry.entered.order, hold),
         None => Ok(()),
     }
 }
@@ -129,40 +143,15 @@ fn append_entry(
     text: &mut Vec<u8>,
     participants: &Participants,
     words: &[Word],
-    word: &Word,
-    entered: &Entered,
+    entry: &Entry,
 ) -> Result<(), AllocError>
-    ensures { OnOk result (text.new.items ≡ text.old.items ++ entry_lines participants.now words.now word.now entered.now) }
+    ensures { OnOk result (text.new.items ≡ text.old.items ++ entry_lines participants.now words.now entry.now) }
 {
-    append_order(alloc, text, participants, word, entered)?;
-    let link = b" carries the link ";
-    append_named(text, entered.order, link, &entered.link, word.row)?;
-    let original = b" takes the place of the order with the identifier ";
-    append_named(text, entered.order, original, &entered.original, word.row)?;
-    append_hold(text, words, word, entered)
-}
-
-/// When a held side entered: where its delay was over.
-fn held_moment(hold: &Word) -> Moment
-    ensures { result ≡ held_until hold.now }
-{
-    match &hold.said {
-        Said::Held(held) => hold.moment.plus(held.delay),
-        _ => hold.moment,
-    }
-}
-
-/// When an order entered.
-fn entry_moment(words: &[Word], word: &Word, entered: &Entered) -> Moment
-    ensures { result ≡ entry_moment words.now word.now entered.now }
-{
-    if !entered.at_tick {
-        return word.moment;
-    }
-    match hold_of(words, word, entered) {
-        Some(hold) => held_moment(hold),
-        None => word.moment,
-    }
+    let order = entry.entered.order;
+    append_order(alloc, text, participants, entry)?;
+    append_link(text, order, &entry.entered.link)?;
+    append_original(text, order, &entry.entered.original, entry.row)?;
+    append_hold(text, words, entry)
 }
 
 /// Appends how long apart two orders entered.
@@ -206,6 +195,28 @@ fn are_linked(
         || (participants.related(one, other) || is_same_link(link, other_link))
 }
 
+/// The identifier of a link.
+fn link_id(link: &Option<Linked>) -> Option<Identifier>
+    ensures { result ≡ link_id link.now }
+{
+    match link {
+        Some(linked) => Some(linked.link),
+        None => None,
+    }
+}
+
+fn entries_linked(participants: &Participants, one: &Entry, other: &Entry) -> bool
+    ensures { result ≡ entries_linked participants.now one.now other.now }
+{
+    are_linked(
+        participants,
+        one.to,
+        &link_id(&one.entered.link),
+        other.to,
+        &link_id(&other.entered.link),
+    )
+}
+
 fn linked_text(linked: bool) -> &'static [u8]
     ensures { result.now ≡ linked_text linked }
 {
@@ -220,25 +231,15 @@ fn linked_text(linked: bool) -> &'static [u8]
 fn append_linked(
     text: &mut Vec<u8>,
     participants: &Participants,
-    rested: &Word,
-    resting: &Entered,
-    entered: &Word,
-    entering: &Entered,
-    row: u64,
+    both: &Both,
 ) -> Result<(), AllocError>
-    ensures { OnOk result (text.new.items ≡ text.old.items ++ linked_line participants.now rested.now resting.now entered.now entering.now row) }
+    ensures { OnOk result (text.new.items ≡ text.old.items ++ linked_line participants.now both.now) }
 {
-    let linked = are_linked(
-        participants,
-        rested.to,
-        &resting.link,
-        entered.to,
-        &entering.link,
-    );
-    append_number(text, b"O", resting.order)?;
-    append_number(text, b" and O", entering.order)?;
+    let linked = entries_linked(participants, &both.resting, &both.entering);
+    append_number(text, b"O", both.resting.entered.order)?;
+    append_number(text, b" and O", both.entering.entered.order)?;
     append(text, &[linked_text(linked)])?;
-    append_row(text, row)
+    append_row(text, both.row)
 }
 
 /// Appends the lines of both orders together, and of what rested before the resting one.
@@ -248,19 +249,19 @@ fn append_together(
     text: &mut Vec<u8>,
     participants: &Participants,
     words: &[Word],
-    rested: &Word,
-    resting: &Entered,
-    entered: &Word,
-    entering: &Entered,
-    row: u64,
+    both: &Both,
 ) -> Result<(), AllocError>
-    ensures { OnOk result (text.new.items ≡ text.old.items ++ together_lines participants.now words.now rested.now resting.now entered.now entering.now row) }
+    ensures { OnOk result (text.new.items ≡ text.old.items ++ together_lines participants.now words.now both.now) }
 {
-    append_pair(text, participants, rested.to, entered.to, row)?;
-    append_linked(text, participants, rested, resting, entered, entering, row)?;
-    let earlier = entry_moment(words, rested, resting);
-    let later = entry_moment(words, entered, entering);
-    append_apart(text, earlier, later, row)?;
+    append_pair(
+        text,
+        participants,
+        both.resting.to,
+        both.entering.to,
+        both.row,
+    )?;
+    append_linked(text, participants, both)?;
+    append_apart(text, both.resting.moment, both.entering.moment, both.row)?;
     append_standing(alloc, text, words)
 }
 
@@ -270,58 +271,13 @@ fn append_both(
     text: &mut Vec<u8>,
     participants: &Participants,
     words: &[Word],
-    rested: &Word,
-    resting: &Entered,
-    entered: &Word,
-    entering: &Entered,
-    row: u64,
+    both: &Both,
 ) -> Result<(), AllocError>
-    ensures { OnOk result (text.new.items ≡ text.old.items ++ both_lines participants.now words.now rested.now resting.now entered.now entering.now row) }
+    ensures { OnOk result (text.new.items ≡ text.old.items ++ both_lines participants.now words.now both.now) }
 {
-    append_entry(alloc, text, participants, words, rested, resting)?;
-    append_entry(alloc, text, participants, words, entered, entering)?;
-    append_together(
-        alloc,
-        text,
-        participants,
-        words,
-        rested,
-        resting,
-        entered,
-        entering,
-        row,
-    )
-}
-
-/// Appends the lines of two entries.
-fn append_entries(
-    alloc: Global,
-    text: &mut Vec<u8>,
-    participants: &Participants,
-    words: &[Word],
-    rested: &Word,
-    entered: &Word,
-    row: u64,
-) -> Result<(), AllocError>
-    ensures { OnOk result (text.new.items ≡ text.old.items ++ entries_lines participants.now words.now rested.now entered.now row) }
-{
-    match &rested.said {
-        Said::Entered(resting) => match &entered.said {
-            Said::Entered(entering) => append_both(
-                alloc,
-                text,
-                participants,
-                words,
-                rested,
-                resting,
-                entered,
-                entering,
-                row,
-            ),
-            _ => Ok(()),
-        },
-        _ => Ok(()),
-    }
+    append_entry(alloc, text, participants, words, &both.resting)?;
+    append_entry(alloc, text, participants, words, &both.entering)?;
+    append_together(alloc, text, participants, words, both)
 }
 
 /// Appends the lines of two orders.
@@ -337,12 +293,17 @@ fn append_orders(
 ) -> Result<(), AllocError>
     ensures { OnOk result (text.new.items ≡ text.old.items ++ orders_lines participants.now words.now resting entering row) }
 {
-    match find_word(words, &Sought::Order(resting)) {
+    match entry_of(words, resting) {
         None => Ok(()),
-        Some(rested) => match find_word(words, &Sought::Order(entering)) {
+        Some(resting) => match entry_of(words, entering) {
             None => Ok(()),
-            Some(entered) => {
-                append_entries(alloc, text, participants, words, rested, entered, row)
+            Some(entering) => {
+                let both = Both {
+                    resting,
+                    entering,
+                    row,
+                };
+                append_both(alloc, text, participants, words, &both)
             }
         },
     }

@@ -2,10 +2,10 @@
 
 ghost use Rattle.std.specs.Prelude.{◌≡◌};
 ghost use Rattle.instruments.specs.Listing.{delay_of, instrument_of};
-ghost use Rattle.trade_evidence.specs.Said.{came_in, link_known};
+ghost use Rattle.trade_evidence.specs.Said.{came_in, link_at, link_known};
 
 use crate::finding::{Sought, link_of};
-use crate::word::Word;
+use crate::word::{Linked, Word};
 use fix_dictionary::{App, Identifier, Price};
 use instruments::Instruments;
 use participants::Who;
@@ -21,7 +21,7 @@ pub struct Requested {
 #[derive(Clone, Copy)]
 pub struct Ordered {
     pub price: Option<Price>,
-    pub link: Option<Identifier>,
+    pub link: Option<Linked>,
 }
 
 /// A cross: the identifiers of both sides, their price, and how long the second is held, in milliseconds.
@@ -56,17 +56,27 @@ fn delay_for(instruments: &Instruments, symbol: &Identifier) -> u64
     }
 }
 
+/// The link that a message carries at its row, if it does.
+fn link_at(row: u64, link: Option<Identifier>) -> Option<Linked>
+    ensures { result ≡ link_at row link }
+{
+    match link {
+        Some(link) => Some(Linked { link, row }),
+        None => None,
+    }
+}
+
 /// The link of the order that a participant has entered under an identifier (11); none where there was none.
-fn link_known(words: &[Word], who: Who, id: Identifier) -> Option<Identifier>
+fn link_known(words: &[Word], who: Who, id: Identifier) -> Option<Linked>
     ensures { result ≡ link_known words.now who id }
 {
     link_of(words, &Sought::Entry(who, id))
 }
 
-/// What a message of a participant is, after what was said before it.
+/// What a message of a participant at a row is, after what was said before it.
 #[tactic(auto, unfolding(crate::specs::Said::came_in))]
-pub fn came_in(instruments: &Instruments, words: &[Word], from: Who, app: &App) -> Came
-    ensures { result ≡ came_in instruments.now words.now from app.now }
+pub fn came_in(instruments: &Instruments, words: &[Word], row: u64, from: Who, app: &App) -> Came
+    ensures { result ≡ came_in instruments.now words.now row from app.now }
 {
     match app {
         App::QuoteRequest(request) => Came::Request(Requested {
@@ -77,7 +87,7 @@ pub fn came_in(instruments: &Instruments, words: &[Word], from: Who, app: &App) 
         App::QuoteResponse(response) => Came::Response(response.quote_id),
         App::NewOrderSingle(order) => Came::Order(Ordered {
             price: order.price,
-            link: order.link_id,
+            link: link_at(row, order.link_id),
         }),
         App::OrderCancelReplaceRequest(order) => Came::Order(Ordered {
             price: order.price,

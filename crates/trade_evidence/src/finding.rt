@@ -3,7 +3,7 @@
 ghost use Rattle.std.specs.Prelude.{◌≡◌, find, option_map};
 ghost use Rattle.trade_evidence.specs.Lines.{enters, fills, fills_other, hits, holds, is_asked, is_entry, is_sought, link_in, link_of, order_in, order_of, row_of};
 
-use crate::word::{Said, Word};
+use crate::word::{Linked, Said, Word};
 use fix_dictionary::Identifier;
 use participants::Who;
 
@@ -144,7 +144,7 @@ pub fn row_of(words: &[Word], sought: &Sought) -> u64
     }
 }
 
-fn link_in(word: &Word) -> Option<Identifier>
+fn link_in(word: &Word) -> Option<Linked>
     ensures { result ≡ link_in word.now }
 {
     match &word.said {
@@ -154,7 +154,7 @@ fn link_in(word: &Word) -> Option<Identifier>
 }
 
 /// The link of the order that entered, if one is found.
-pub fn link_of(words: &[Word], sought: &Sought) -> Option<Identifier>
+pub fn link_of(words: &[Word], sought: &Sought) -> Option<Linked>
     ensures { result ≡ link_of (find (is_sought sought.now) words.now) }
 {
     match find_word(words, sought) {

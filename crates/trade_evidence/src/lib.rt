@@ -3,6 +3,7 @@
 
 mod book;
 mod came;
+mod entry;
 mod evidence;
 mod finding;
 mod gathering;

@@ -5,7 +5,7 @@ ghost use Rattle.trade_evidence.specs.Said.{asked_in, entered_in, filled_in, hel
 
 use crate::came::{Came, Crossed};
 use crate::word::{
-    Asked, Counted, Entered, Filled, Held, Hit, Pictured, Quoted, Said, Shown, Stood, Word,
+    Asked, Counted, Entered, Filled, Held, Hit, Linked, Pictured, Quoted, Said, Shown, Stood, Word,
 };
 use fix_dictionary::{Amount, Identifier, Price, Quantity, Side};
 use participants::Who;
@@ -30,8 +30,8 @@ fn price_in(came: &Came) -> Option<Price>
     }
 }
 
-/// The link that an order carries.
-fn link_in(came: &Came) -> Option<Identifier>
+/// The link of an order.
+fn link_in(came: &Came) -> Option<Linked>
     ensures { result ≡ link_in came.now }
 {
     match came {
@@ -200,6 +200,7 @@ pub(crate) fn push_word(words: &mut Vec<Word>, word: Word) -> Result<(), AllocEr
     let _quoted: Option<Quoted> = None;
     let _hit: Option<Hit> = None;
     let _entered: Option<Entered> = None;
+    let _linked: Option<Linked> = None;
     let _held: Option<Held> = None;
     let _filled: Option<Filled> = None;
     let _stood: Option<Stood> = None;

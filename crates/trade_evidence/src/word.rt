@@ -53,6 +53,13 @@ pub struct Hit {
     pub quote: Identifier,
 }
 
+/// A link (583), and the row of the message that carried it.
+#[derive(Clone, Copy)]
+pub struct Linked {
+    pub link: Identifier,
+    pub row: u64,
+}
+
 /// An order entered the book.
 #[derive(Clone, Copy)]
 pub struct Entered {
@@ -63,8 +70,8 @@ pub struct Entered {
     pub quantity: Amount,
     /// none where the order was a held side, which enters at a tick
     pub price: Option<Price>,
-    /// the link that it carries (583), or that the order had whose place it takes
-    pub link: Option<Identifier>,
+    /// the link that it carries, or that the order had whose place it takes
+    pub link: Option<Linked>,
     /// the identifier (41) of the order whose place it takes
     pub original: Option<Identifier>,
     pub at_tick: bool,

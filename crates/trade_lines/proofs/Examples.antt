@@ -1,5 +1,5 @@
 -- Worked lines: trades in the book, and in a room with nothing and with an order shown.
-use Rattle.std.proofs.Common.{◌≡◌, refl, pos, negsuc, List, [], ◌∷◌, None, Some, codes}
+use Rattle.std.proofs.Common.{◌≡◌, refl, pos, negsuc, [], ◌∷◌, None, Some, codes}
 use Rattle.std.specs.Fmt.{digits}
 use Rattle.venue_rules.specs.Fixture.{fixture_instruments, fixture_participants}
 use Rattle.venue_rules.specs.Market.{Market}

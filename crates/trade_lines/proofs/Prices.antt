@@ -1,5 +1,5 @@
 -- What stands in a price's field.
-use Rattle.std.proofs.Common.{◌≡◌, ◌++◌, ◌∷◌, ◌+◌, ◌-◌, ◌≤◌, ◌∙◌, [], ℕ, List, length, decimal, drop, take, ap, sym, subst, arith, refl}
+use Rattle.std.proofs.Common.{◌≡◌, ◌++◌, ◌∷◌, ◌+◌, ◌-◌, ◌≤◌, ◌∙◌, [], ℕ, List, length, ap, sym, subst, arith, refl}
 use Rattle.std.specs.Fmt.{digits}
 use Rattle.std.proofs.lemmas.List.{length_push, take_at}
 use Rattle.fix_fields.specs.Fields.{field_text}

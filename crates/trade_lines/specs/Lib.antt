@@ -1,3 +1,4 @@
--- the line of a trade, and its row
+-- the line of a trade, and its row, and what is written of a day
 pub mod Line
 pub mod Table
+pub mod Printing

@@ -1,10 +1,10 @@
 //! The lines that tell the trades of a day, each with what its room was, for who looks whether it was made lawfully.
 #![tactic(auto)]
 
+mod form;
 mod line;
 mod printing;
 mod table;
 
 pub use line::{append, append_deal, append_number, append_price, name_at};
-pub use printing::{PrintFault, print_trades};
-pub use table::print_table;
+pub use printing::{PrintFault, print_table, print_trades};

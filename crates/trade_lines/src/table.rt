@@ -1,23 +1,22 @@
-//! The trades of a venue's day, written as a table for a spreadsheet: comma-separated values (RFC 4180).
+//! The row of one trade, and the names of its fields, in a table for a spreadsheet: comma-separated values (RFC 4180).
 ghost use Rattle.std.specs.Prelude.{◌≡◌, ◌∷◌, [], ◌++◌, IfOk, OnOk, decimal, option_copied};
-ghost use Rattle.std.specs.Io.KnownBytes.{Appends};
 ghost use Rattle.csv.specs.Records.{fields_of, partial_of};
 ghost use Rattle.csv.specs.Writing.{row_text};
 ghost use Rattle.fix_fields.specs.Forms.{price_text};
 ghost use Rattle.venue_rules.specs.Facts.{History};
 ghost use Rattle.venue_core.specs.Standing.{IsHistory};
-ghost use Rattle.trade_lines.specs.Table.{deal_fields, field_names, kind, place_fields, room_fields, setup, trade_fields, trade_row, trade_rows, trade_table};
+ghost use Rattle.trade_lines.specs.Table.{deal_fields, field_names, kind, place_fields, room_fields, setup, trade_fields, trade_row};
 ghost use Rattle.trade_lines.specs.Line.{listed, shown_text};
 ghost use Rattle.participants.specs.Relations.{name_of};
 
-use crate::line::{append_asked, append_number, append_price, append_shown, name_at, symbol_at};
-use crate::printing::{PrintFault, room_of};
+use crate::line::{
+    append_asked, append_number, append_price, append_shown, name_at, room_of, symbol_at,
+};
 use csv::{ByteRecord, Terminator, WriterBuilder};
 use fix_dictionary::Price;
 use instruments::Instruments;
 use participants::{Participants, Who};
 use std::alloc::{AllocError, Global};
-use std::io::Write;
 use venue_core::Venue;
 use venue_rules::{RoomFact, ShownOrder, TradeFact};
 
@@ -210,26 +209,23 @@ fn row_bytes(alloc: Global, row: &ByteRecord) -> Result<Vec<u8>, AllocError>
     }
 }
 
-/// Writes a row.
-fn print_row<W: Write>(alloc: Global, row: &ByteRecord, writer: &mut W) -> Result<(), PrintFault>
-    ensures { OnOk result (Appends (W.contents writer.old) (W.contents writer.new) (row_text setup (fields_of row.now))) }
+/// The text of the names.
+pub(crate) fn names_text(alloc: Global) -> Result<Vec<u8>, AllocError>
+    ensures { IfOk result (λ text. text.items ≡ row_text setup field_names) }
 {
-    let bytes = row_bytes(alloc, row)?;
-    match writer.write_all(&bytes) {
-        Ok(()) => Ok(()),
-        Err(_) => Err(PrintFault::Output),
-    }
+    let names = field_names(alloc)?;
+    row_bytes(alloc, &names)
 }
 
-/// Writes the row of one trade.
+/// Makes the row of a trade; the bytes of before go.
 #[tactic(auto, unfolding(crate::specs::Table::trade_row))]
-fn print_trade<W: Write>(
+pub(crate) fn make_row(
     alloc: Global,
     venue: &Venue,
     trade: &TradeFact,
-    writer: &mut W,
-) -> Result<(), PrintFault>
-    ensures { (h : History) → IsHistory venue.now h → OnOk result (Appends (W.contents writer.old) (W.contents writer.new) (trade_row venue.now.market h trade.now)) }
+    text: &mut Vec<u8>,
+) -> Result<(), AllocError>
+    ensures { (h : History) → IsHistory venue.now h → OnOk result (text.new.items ≡ trade_row venue.now.market h trade.now) }
 {
     let room = room_of(venue, trade.room);
     let row = trade_fields(
@@ -239,26 +235,6 @@ fn print_trade<W: Write>(
         trade,
         room,
     )?;
-    print_row(alloc, &row, writer)
-}
-
-/// Writes a row for each trade of the day, in their order.
-fn print_rows<W: Write>(alloc: Global, venue: &Venue, writer: &mut W) -> Result<(), PrintFault>
-    ensures { (h : History) → IsHistory venue.now h → OnOk result (Appends (W.contents writer.old) (W.contents writer.new) (trade_rows venue.now.market h)) }
-{
-    for trade in venue.trades() {
-        print_trade(alloc, venue, trade, writer)?;
-    }
+    *text = row_bytes(alloc, &row)?;
     Ok(())
-}
-
-/// Writes the names of the fields, `trade,kind,instrument,quantity,price,buyer,seller,room,asked,first,shown`, and then a row for each
-/// trade of the day, in their order: `T1,book,IRS5Y,60,2.5,ALPHA,BETA,,,,`. Of one that came about in a room the last four fields tell
-/// what was asked of whom and shown: `R1,"BETA,GAMMA,DELTA",Q1,O2x30`. Each row ends in CR LF.
-pub fn print_table<W: Write>(alloc: Global, venue: &Venue, writer: &mut W) -> Result<(), PrintFault>
-    ensures { (h : History) → IsHistory venue.now h → OnOk result (Appends (W.contents writer.old) (W.contents writer.new) (trade_table venue.now.market h)) }
-{
-    let names = field_names(alloc)?;
-    print_row(alloc, &names, writer)?;
-    print_rows(alloc, venue, writer)
 }

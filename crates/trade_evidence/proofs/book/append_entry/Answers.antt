@@ -6,9 +6,9 @@ use Rattle.trade_evidence.proofs.book.append_entry.Goals as goal
 pub returns : goal.returns
 unfolding entry_lines
 returns c =
-    let w = c.args.word.now in
-    let x = c.args.entered.now in
+    let w = c.args.entry.now in
+    let x = w.entered in
     on_ok_weaker c.append_hold.result
-    (λ e. four _ _ _ _ _ (order_line c.args.participants.now w x) (link_line x.order x.link w.row) (original_line x.order x.original w.row) (hold_lines c.args.words.now w x) c.in_ok-append_order.ensures
-    c.in_ok-append_named.ensures c.in_ok-append_named-2.ensures e)
+    (λ e. four _ _ _ _ _ (order_line c.args.participants.now w) (link_line x.order x.link) (original_line x.order x.original w.row) (hold_lines c.args.words.now w) c.in_ok-append_order.ensures
+    c.in_ok-append_link.ensures c.in_ok-append_original.ensures e)
     c.append_hold.ensures

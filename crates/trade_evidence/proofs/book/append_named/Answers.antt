@@ -2,5 +2,5 @@ use Rattle.std.proofs.Common.{◌∙◌, append-nil, append_assoc}
 use Rattle.std.proofs.lemmas.Result.{on_ok_weaker}
 use Rattle.trade_evidence.proofs.book.append_named.Goals as goal
 
-pub returns-in_ok-append-in-Some : goal.returns-in_ok-append-in-Some
-returns-in_ok-append-in-Some c = rw c.in-Some.is (on_ok_weaker c.append_row.result (λ e. e ∙ simp (c.in_ok-append-in-Some.ensures, c.in_ok-append_number-in-Some.ensures, c.as_slice.ensures.value, append-nil, append_assoc)) c.append_row.ensures)
+pub returns : goal.returns
+returns c = (on_ok_weaker c.append_row.result (λ e. e ∙ simp (c.in_ok-append.ensures, c.in_ok-append_number.ensures, c.as_slice.ensures.value, append-nil, append_assoc)) c.append_row.ensures)

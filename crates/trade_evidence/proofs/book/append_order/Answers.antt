@@ -6,8 +6,8 @@ use Rattle.trade_evidence.proofs.book.append_order.Goals as goal
 
 pub returns : goal.returns
 returns c =
-    let w = c.args.word.now in
-    let x = c.args.entered.now in
+    let w = c.args.entry.now in
+    let x = w.entered in
     on_ok_weaker c.append_at.result
     (λ e. nine _ _ _ _ _ _ (codes "order O") (decimal x.order) (codes " of ") _ _ _ _ _ _ (codes " " ++ x.symbol) (price_if x.price) (at_text w.moment ++ row_text w.row) c.in_ok-append_number.ensures
     c.in_ok-append.ensures c.name_at-name.ensures c.in_ok-append_quantity.ensures c.side_text-side.ensures (ap decimal c.get.ensures.value) c.in_ok-append_price_if.ensures e)

@@ -1,4 +1,4 @@
-use Rattle.std.proofs.Common.{◌≡◌, ◌++◌, ◌≤◌, ◌∙◌, [], List, ℕ, length, ap, sym, subst, append-nil, OnOk}
+use Rattle.std.proofs.Common.{◌≡◌, ◌++◌, ◌≤◌, ◌∙◌, List, ℕ, length, ap, sym, subst, append-nil, OnOk}
 use Rattle.fix_fields.specs.Forms.{price_text}
 use Rattle.trade_lines.specs.Line.{value_in}
 use Rattle.trade_lines.proofs.Prices.{has_length, has_value}
