@@ -19,10 +19,28 @@ const LONGEST: u64 = 100;
 const MANY_PROCESSORS: usize = 4;
 
 /// How many turns that found nothing a thread makes before it waits.
-pub fn spins<R: Threads>(rt: &R) -> u64 {
-    match thread::available_parallelism(rt) {
-        Ok(count) if count.get() >= MANY_PROCESSORS => 200,
-        _ => 20,
+#[derive(Clone, Copy)]
+pub struct Spins {
+    /// The worker's. Nobody hands it anything while a session reads a piece of a long run of messages and takes it apart, or between one
+    /// order and the next of a desk that waits for each answer; where there are processors enough it is awake then.
+    pub worker: u64,
+    /// A session's.
+    pub session: u64,
+}
+
+impl Spins {
+    /// By how many processors there are.
+    pub fn of<R: Threads>(rt: &R) -> Spins {
+        match thread::available_parallelism(rt) {
+            Ok(count) if count.get() >= MANY_PROCESSORS => Spins {
+                worker: 1_000,
+                session: 200,
+            },
+            _ => Spins {
+                worker: 20,
+                session: 20,
+            },
+        }
     }
 }
 

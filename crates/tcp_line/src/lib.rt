@@ -13,7 +13,7 @@ mod opening;
 
 pub use account::Account;
 pub use activity::Activity;
-pub use bell::{Bell, Sleeper, spins};
+pub use bell::{Bell, Sleeper, Spins};
 pub use clocks::{SystemClock, WorkerClock};
 pub use connection::Connection;
 pub use gate::TcpGate;

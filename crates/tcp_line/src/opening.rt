@@ -2,7 +2,7 @@
 ghost use Rattle.std.specs.Prelude.{◌≡◌, ◌≤◌, ◌<◌, ◌+◌, ◌^◌, IfOk, length};
 
 use crate::activity::Activity;
-use crate::bell::{Bell, Sleeper, spins};
+use crate::bell::{Bell, Sleeper, Spins};
 use crate::clocks::{SystemClock, WorkerClock};
 use crate::gate::TcpGate;
 use crate::line::TcpLine;
@@ -34,13 +34,20 @@ pub fn open_lines<
     requires ports { port + count ≤ 2 ^ 16 }
     ensures count { IfOk result (λ opened. length opened.sessions.items ≡ count) }
 {
-    let spins = spins(rt);
+    let spins = Spins::of(rt);
     let start = Moment::of_ms(0).unwrap();
-    let at_worker = Sleeper::new(rt, alloc, spins)?;
+    let at_worker = Sleeper::new(rt, alloc, spins.worker)?;
     let mut sessions = Vec::with_capacity(alloc, count as usize)?;
     let mut bells = Vec::with_capacity(alloc, count as usize)?;
     for k in 0..count {
-        let (outside, bell) = open_line(rt, alloc, clock, port + k, spins, at_worker.bell()?)?;
+        let (outside, bell) = open_line(
+            rt,
+            alloc,
+            clock,
+            port + k,
+            spins.session,
+            at_worker.bell()?,
+        )?;
         sessions.push(outside)?;
         bells.push(bell)?;
     }
