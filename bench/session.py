@@ -1,11 +1,11 @@
-"""Writes what a counterparty sends, and times session_bench and cksum over it in turn."""
+"""Writes what a counterparty sends, and times lower_transcript, which feeds it to a session, and cksum over it in turn."""
 
 import os
 import subprocess
 import sys
 import time
 
-PROGRAM = "crates/session_bench/out/session_bench"
+PROGRAM = "crates/lower_transcript/out/lower_transcript"
 SENT = "52=20250303-14:30:00|"
 LOGON = ("A", "98=0|108=30|1137=9|")
 OTHERS = (
@@ -38,15 +38,16 @@ def timed(words, path):
 
 def main():
     frames, place = int(sys.argv[1]), sys.argv[2]
-    path = os.path.join(place, "session_bench.fix")
+    path = os.path.join(place, "session.fix")
     sent, orders = stream(frames)
     with open(path, "wb") as file:
         file.write(sent)
-    # builds it where it is not built
-    subprocess.run(["rt", "run"], cwd="crates/session_bench", check=True, stdin=subprocess.DEVNULL, capture_output=True)
+    # builds it where it is not built, and plays its transcript
+    with open("crates/lower_transcript/stdin", "rb") as file:
+        subprocess.run(["rt", "run"], cwd="crates/lower_transcript", check=True, stdin=file, capture_output=True)
     best = {}
     for _ in range(TURNS):
-        for name, words in (("session", [PROGRAM]), ("cksum", ["cksum"])):
+        for name, words in (("session", [PROGRAM, "feed"]), ("cksum", ["cksum"])):
             seconds, said = timed(words, path)
             if name == "session":
                 assert said.startswith(f"frames: {frames}, orders: {orders}, "), said

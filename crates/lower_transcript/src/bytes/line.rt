@@ -1,0 +1,117 @@
+//! The lines of a transcript.
+
+use crate::bytes::cutting::ask_frames;
+use crate::bytes::fields::{add_numbers, ask_fields};
+use crate::bytes::moments::ask_moments;
+use crate::bytes::state::{State, Trouble};
+use crate::bytes::writing::tell_written;
+use crate::refusals::Refusals;
+use anyhow::{Result, bail, ensure};
+use std::alloc::{AllocError, Global};
+
+// What a line does to the text, if it is one that does.
+fn write_text(state: &mut State, word: &str, rest: &str) -> Result<bool, Trouble> {
+    match word {
+        "times" => {
+            let (times, bytes) = rest.split_once(' ').unwrap_or((rest, ""));
+            match times.parse::<u32>() {
+                Ok(times) => state.add_times(times, bytes)?,
+                Err(_) => return Ok(false),
+            }
+        }
+        "byte" => match rest.parse::<u8>() {
+            Ok(byte) => state.text.extend_from_slice(&[byte])?,
+            Err(_) => return Ok(false),
+        },
+        "numbers" => match rest.parse::<u64>() {
+            Ok(count) => add_numbers(count, &mut state.text)?,
+            Err(_) => return Ok(false),
+        },
+        _ => return Ok(false),
+    }
+    Ok(true)
+}
+
+// Makes a call, and appends what is answered; false where it is no call.
+fn ask(
+    alloc: Global,
+    state: &mut State,
+    word: &str,
+    rest: &str,
+    told: &mut Vec<u8>,
+) -> Result<bool, Trouble> {
+    if word == "written" {
+        tell_written(alloc, told)?;
+        return Ok(true);
+    }
+    if ask_moments(alloc, word, rest, told)? || ask_fields(alloc, state, word, rest, told)? {
+        return Ok(true);
+    }
+    ask_frames(alloc, state, word, rest, told)
+}
+
+// Plays a line, and appends it with what is answered; false where it is no call. Behind each call a new text begins.
+fn play_once(
+    alloc: Global,
+    state: &mut State,
+    line: &str,
+    told: &mut Vec<u8>,
+) -> Result<bool, Trouble> {
+    told.extend_from_slice(line.as_bytes())?;
+    told.extend_from_slice(b"\n")?;
+    if line.is_empty() {
+        return Ok(true);
+    }
+    if line.starts_with('#') {
+        *state = State::new(alloc);
+        return Ok(true);
+    }
+    let (word, rest) = line.split_once(' ').unwrap_or((line, ""));
+    if write_text(state, word, rest)? {
+        return Ok(true);
+    }
+    let known = ask(alloc, state, word, rest, told)?;
+    state.text.clear();
+    Ok(known)
+}
+
+// Plays a line, once more where a growth was refused, after the text was put back as it was.
+fn play_line(
+    alloc: Global,
+    state: &mut State,
+    line: &str,
+    told: &mut Vec<u8>,
+    refusals: &mut Refusals,
+) -> Result<()> {
+    if line.starts_with("  ") {
+        return Ok(());
+    }
+    let (answers, text) = (told.len(), state.text.len());
+    let mut played = play_once(alloc, state, line, told);
+    if let Err(Trouble::NoMemory) = played {
+        refusals.one_more()?;
+        told.truncate(answers);
+        state.text.truncate(text);
+        played = play_once(alloc, state, line, told);
+    }
+    match played {
+        Ok(known) => ensure!(known, "no call: {line}"),
+        Err(Trouble::NoMemory) => return Err(AllocError.into()),
+        Err(Trouble::Changed) => bail!("a refused call changed what was to stay"),
+    }
+    Ok(())
+}
+
+/// Appends the lines of a part, with what is answered.
+pub fn play_lines(
+    alloc: Global,
+    lines: &str,
+    told: &mut Vec<u8>,
+    refusals: &mut Refusals,
+) -> Result<()> {
+    let mut state = State::new(alloc);
+    for line in lines.lines() {
+        play_line(alloc, &mut state, line, told, refusals)?;
+    }
+    Ok(())
+}

@@ -1,0 +1,5 @@
+//! What the dictionary answers.
+
+pub mod line;
+mod reading;
+mod telling;

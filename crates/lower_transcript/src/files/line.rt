@@ -1,0 +1,194 @@
+//! The lines of a transcript.
+
+use crate::files::asking::{ask_instruments, ask_participants};
+use crate::files::telling::{tell_count, tell_fault};
+use crate::files::texts::Files;
+use crate::refusals::Refusals;
+use anyhow::{Result, ensure};
+use instruments::{FileFault as InstrumentFault, Instruments};
+use participants::{FileFault, Participants};
+use std::alloc::{AllocError, Global};
+
+// Reads the text as a file of participants, and begins a new one.
+fn read_participants(
+    alloc: Global,
+    files: &mut Files,
+    told: &mut Vec<u8>,
+) -> Result<(), AllocError> {
+    match Participants::read(alloc, &files.text) {
+        Ok(file) => {
+            tell_count(alloc, file.len(), "participants", told)?;
+            files.participants = Some(file);
+        }
+        Err(FileFault::NoMemory) => return Err(AllocError),
+        Err(fault) => tell_fault(alloc, &fault, told)?,
+    }
+    files.text.clear();
+    Ok(())
+}
+
+// Reads the text as a file of instruments, and begins a new one.
+fn read_instruments(
+    alloc: Global,
+    files: &mut Files,
+    told: &mut Vec<u8>,
+) -> Result<(), AllocError> {
+    match Instruments::read(alloc, &files.text) {
+        Ok(file) => {
+            tell_count(alloc, file.len(), "instruments", told)?;
+            files.instruments = Some(file);
+        }
+        Err(InstrumentFault::NoMemory) => return Err(AllocError),
+        Err(fault) => tell_fault(alloc, &fault, told)?,
+    }
+    files.text.clear();
+    Ok(())
+}
+
+// Appends so many participants to the text, from P000 on.
+fn add_participants(alloc: Global, count: u32, text: &mut Vec<u8>) -> Result<(), AllocError> {
+    for k in 0..count {
+        let entry = format!(in alloc; "[[participant]]\nname = \"P{k:03}\"\n")?;
+        text.extend_from_slice(entry.as_bytes())?;
+    }
+    Ok(())
+}
+
+// Appends so many instruments to the text, from I000 on.
+fn add_instruments(alloc: Global, count: u32, text: &mut Vec<u8>) -> Result<(), AllocError> {
+    for k in 0..count {
+        let entry = format!(in alloc;
+            "[[instrument]]\nsymbol = \"I{k:03}\"\ntick = 1\nleast = 1\nrfq_life = 1\n"
+        )?;
+        text.extend_from_slice(entry.as_bytes())?;
+    }
+    Ok(())
+}
+
+// What a line does to the text, if it is one that does.
+fn write_text(
+    alloc: Global,
+    files: &mut Files,
+    word: &str,
+    rest: &str,
+) -> Result<bool, AllocError> {
+    match word {
+        "|" => {
+            files.text.extend_from_slice(rest.as_bytes())?;
+            files.text.push(b'\n')?
+        }
+        "+" => files.text.extend_from_slice(rest.as_bytes())?,
+        "byte" => match rest.parse::<u8>() {
+            Ok(byte) => files.text.push(byte)?,
+            Err(_) => return Ok(false),
+        },
+        "keep" => files.keep(alloc, rest)?,
+        "add" => files.add(rest)?,
+        "more_participants" => match rest.parse::<u32>() {
+            Ok(count) => add_participants(alloc, count, &mut files.text)?,
+            Err(_) => return Ok(false),
+        },
+        "more_instruments" => match rest.parse::<u32>() {
+            Ok(count) => add_instruments(alloc, count, &mut files.text)?,
+            Err(_) => return Ok(false),
+        },
+        _ => return Ok(false),
+    }
+    Ok(true)
+}
+
+// What is read from the text, if the line asks for it.
+fn read_text(
+    alloc: Global,
+    files: &mut Files,
+    line: &str,
+    told: &mut Vec<u8>,
+) -> Result<bool, AllocError> {
+    match line {
+        "read participants" => read_participants(alloc, files, told)?,
+        "read instruments" => read_instruments(alloc, files, told)?,
+        _ => return Ok(false),
+    }
+    Ok(true)
+}
+
+// What the files that were read answer to a line, if one does.
+fn ask(
+    alloc: Global,
+    files: &Files,
+    word: &str,
+    rest: &str,
+    told: &mut Vec<u8>,
+) -> Result<bool, AllocError> {
+    if let Some(file) = &files.participants {
+        if ask_participants(alloc, file, word, rest, told)? {
+            return Ok(true);
+        }
+    }
+    match &files.instruments {
+        Some(file) => ask_instruments(alloc, file, word, rest, told),
+        None => Ok(false),
+    }
+}
+
+// Plays a line, and appends it with what is answered; false where it is no call.
+fn play_once(
+    alloc: Global,
+    files: &mut Files,
+    line: &str,
+    told: &mut Vec<u8>,
+) -> Result<bool, AllocError> {
+    told.extend_from_slice(line.as_bytes())?;
+    told.push(b'\n')?;
+    if line.is_empty() || line.starts_with('#') {
+        return Ok(true);
+    }
+    if read_text(alloc, files, line, told)? {
+        return Ok(true);
+    }
+    let (word, rest) = line.split_once(' ').unwrap_or((line, ""));
+    if write_text(alloc, files, word, rest)? {
+        return Ok(true);
+    }
+    ask(alloc, files, word, rest, told)
+}
+
+// Plays a line, once more where a growth was refused. A refused call changes nothing but the text that it was to write,
+// which is put back.
+fn play_line(
+    alloc: Global,
+    files: &mut Files,
+    line: &str,
+    told: &mut Vec<u8>,
+    refusals: &mut Refusals,
+) -> Result<()> {
+    if line.starts_with("  ") {
+        return Ok(());
+    }
+    let (answers, text) = (told.len(), files.text.len());
+    let known = match play_once(alloc, files, line, told) {
+        Ok(known) => known,
+        Err(AllocError) => {
+            refusals.one_more()?;
+            told.truncate(answers);
+            files.text.truncate(text);
+            play_once(alloc, files, line, told)?
+        }
+    };
+    ensure!(known, "no call: {line}");
+    Ok(())
+}
+
+/// Appends the lines of a part, with what is answered.
+pub fn play_lines(
+    alloc: Global,
+    lines: &str,
+    told: &mut Vec<u8>,
+    refusals: &mut Refusals,
+) -> Result<()> {
+    let mut files = Files::new(alloc);
+    for line in lines.lines() {
+        play_line(alloc, &mut files, line, told, refusals)?;
+    }
+    Ok(())
+}

@@ -1,0 +1,6 @@
+//! What a session has numbered.
+
+mod adding;
+pub mod line;
+mod looking;
+mod telling;

@@ -1,0 +1,96 @@
+//! The lines of a transcript.
+
+use crate::refusals::Refusals;
+use crate::store::adding::add;
+use crate::store::looking::look;
+use crate::store::telling::tell_line;
+use crate::texts::{times_in, write_again};
+use anyhow::{Result, bail, ensure};
+use resend_store::{Store, StoreFault};
+use std::alloc::{AllocError, Global};
+
+// Makes a call, and appends what is answered; false where it is no call.
+fn ask(
+    alloc: Global,
+    store: &mut Store,
+    call: &str,
+    told: &mut Vec<u8>,
+) -> Result<bool, AllocError> {
+    let (word, rest) = call.split_once(' ').unwrap_or((call, ""));
+    match add(alloc, store, word, rest) {
+        Ok(true) => return Ok(true),
+        Ok(false) => {}
+        Err(StoreFault::Full) => {
+            tell_line(b"the numbers are spent", told)?;
+            return Ok(true);
+        }
+        Err(StoreFault::Eras) => {
+            tell_line(b"the eras are spent", told)?;
+            return Ok(true);
+        }
+        Err(StoreFault::NoMemory) => return Err(AllocError),
+    }
+    look(alloc, store, word, rest, told)
+}
+
+// Makes a call, once more where a growth was refused, after the store was compared with what it was.
+fn ask_again(
+    alloc: Global,
+    store: &mut Store,
+    call: &str,
+    told: &mut Vec<u8>,
+    refusals: &mut Refusals,
+) -> Result<()> {
+    let (answers, era, number) = (told.len(), store.era(), store.next_number());
+    let mut known = ask(alloc, store, call, told);
+    if known.is_err() {
+        refusals.one_more()?;
+        if store.era() != era || store.next_number() != number {
+            bail!("a refused call changed the store");
+        }
+        told.truncate(answers);
+        known = ask(alloc, store, call, told);
+    }
+    ensure!(known?, "no call: {call}");
+    Ok(())
+}
+
+// Plays a line, and appends it with what is answered.
+fn play_line(
+    alloc: Global,
+    store: &mut Store,
+    line: &str,
+    told: &mut Vec<u8>,
+    refusals: &mut Refusals,
+) -> Result<()> {
+    if line.starts_with("  ") {
+        return Ok(());
+    }
+    write_again("", line, told, refusals)?;
+    if line.is_empty() {
+        return Ok(());
+    }
+    if line.starts_with('#') {
+        *store = Store::new(alloc);
+        return Ok(());
+    }
+    let (times, call) = times_in(line);
+    for _ in 0..times {
+        ask_again(alloc, store, call, told, refusals)?;
+    }
+    Ok(())
+}
+
+/// Appends the lines of a part, with what is answered.
+pub fn play_lines(
+    alloc: Global,
+    lines: &str,
+    told: &mut Vec<u8>,
+    refusals: &mut Refusals,
+) -> Result<()> {
+    let mut store = Store::new(alloc);
+    for line in lines.lines() {
+        play_line(alloc, &mut store, line, told, refusals)?;
+    }
+    Ok(())
+}

@@ -1,0 +1,70 @@
+//! Texts that stand in more than one part of a transcript.
+
+use crate::refusals::Refusals;
+use anyhow::Result;
+use fix_dictionary::{App, DictFault, read_app};
+use fix_fields::{FieldFault, split};
+use std::alloc::{AllocError, Global};
+
+/// Appends bytes with one byte in the place of another.
+pub fn append_with(bytes: &[u8], old: u8, new: u8, out: &mut Vec<u8>) -> Result<(), AllocError> {
+    for byte in bytes {
+        out.push(if *byte == old { new } else { *byte })?;
+    }
+    Ok(())
+}
+
+/// A text's bytes, with SOH for `|`.
+pub fn bytes_in(alloc: Global, text: &str) -> Result<Vec<u8>, AllocError> {
+    let mut bytes = Vec::new(alloc);
+    append_with(text.as_bytes(), b'|', 1, &mut bytes)?;
+    Ok(bytes)
+}
+
+/// The application message whose fields a text has, with `|` for SOH.
+pub fn app_in(alloc: Global, text: &str) -> Result<Option<App>, AllocError> {
+    let body = bytes_in(alloc, text)?;
+    let fields = match split(alloc, &body) {
+        Ok(fields) => fields,
+        Err(FieldFault::NoMemory) => return Err(AllocError),
+        Err(_) => return Ok(None),
+    };
+    match read_app(alloc, &fields) {
+        Ok(app) => Ok(Some(app)),
+        Err(DictFault::NoMemory) => Err(AllocError),
+        Err(_) => Ok(None),
+    }
+}
+
+/// How often a line says that its call is made, and the call.
+pub fn times_in(line: &str) -> (u32, &str) {
+    let Some((times, call)) = line
+        .strip_prefix("times ")
+        .and_then(|rest| rest.split_once(' '))
+    else {
+        return (1, line);
+    };
+    (times.parse::<u32>().unwrap_or(1), call)
+}
+
+fn write(words: &str, line: &str, told: &mut Vec<u8>) -> Result<(), AllocError> {
+    told.extend_from_slice(words.as_bytes())?;
+    told.extend_from_slice(line.as_bytes())?;
+    told.extend_from_slice(b"\n")
+}
+
+/// Appends words and a line, once more where a growth was refused.
+pub fn write_again(
+    words: &str,
+    line: &str,
+    told: &mut Vec<u8>,
+    refusals: &mut Refusals,
+) -> Result<()> {
+    let before = told.len();
+    if write(words, line, told).is_ok() {
+        return Ok(());
+    }
+    refusals.one_more()?;
+    told.truncate(before);
+    Ok(write(words, line, told)?)
+}

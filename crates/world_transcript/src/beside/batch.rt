@@ -1,0 +1,106 @@
+//! Messages in batches.
+
+use crate::beside::apart::{Apart, play as play_apart};
+use crate::beside::sent::{Sent, sent_in};
+use crate::beside::times::{Spent, Times, since};
+use crate::beside::together::{Together, play as play_together};
+use anyhow::{Result, ensure};
+use sef_moment::Moment;
+use std::time::Instant;
+
+/// How many messages are timed together.
+const BATCH: usize = 100;
+
+/// What is played: the world, and beside it the sessions and the venue apart.
+#[derive(Drop)]
+pub(crate) struct Stage {
+    pub(crate) together: Together,
+    pub(crate) apart: Apart,
+    pub(crate) moment: Moment,
+    pub(crate) played: Played,
+    pub(crate) times: Times,
+}
+
+/// How much was played.
+#[derive(Clone, Copy)]
+pub(crate) struct Played {
+    pub(crate) frames: u64,
+    pub(crate) replies: u64,
+    /// The bytes that the sessions wrote.
+    pub(crate) written: u64,
+}
+
+// A batch goes through the sessions and the venue apart.
+fn apart(
+    rt: &HostRuntime,
+    stage: &mut Stage,
+    batch: &mut Vec<Sent>,
+    written: &mut Vec<u8>,
+    spent: &mut Spent,
+) -> Result<()> {
+    for place in 0..batch.len() {
+        play_apart(
+            rt,
+            &mut stage.apart,
+            &mut batch[place],
+            stage.moment,
+            written,
+            spent,
+        )?;
+    }
+    Ok(())
+}
+
+// A batch goes through the world.
+fn together(
+    rt: &HostRuntime,
+    stage: &mut Stage,
+    batch: &[Sent],
+    written: &mut Vec<u8>,
+    spent: &mut Spent,
+) -> Result<()> {
+    let start = Instant::now(rt)?;
+    for sent in batch {
+        play_together(&mut stage.together, sent, stage.moment, written)?;
+    }
+    spent.world = since(rt, start)?;
+    Ok(())
+}
+
+fn count(played: &mut Played, batch: &[Sent], written: &[u8]) {
+    played.frames = played.frames.saturating_add(batch.len() as u64);
+    played.written = played.written.saturating_add(written.len() as u64);
+    for sent in batch {
+        played.replies = played.replies.saturating_add(sent.told.len() as u64);
+    }
+}
+
+// A batch goes apart and then through the world, which must write the same.
+fn play(rt: &HostRuntime, stage: &mut Stage, batch: &mut Vec<Sent>) -> Result<()> {
+    let mut spent = Spent::nothing();
+    let mut wanted = Vec::new(rt.alloc());
+    apart(rt, stage, batch, &mut wanted, &mut spent)?;
+    let mut written = Vec::new(rt.alloc());
+    together(rt, stage, batch, &mut written, &mut spent)?;
+    ensure!(written == wanted, "the world wrote otherwise");
+    count(&mut stage.played, batch, &written);
+    stage.times.add(spent, batch.len())?;
+    Ok(())
+}
+
+fn is_full(batch: &[Sent]) -> bool {
+    batch.len() >= BATCH
+}
+
+/// Plays the frames of these lines, so many at a time.
+pub(crate) fn play_all(rt: &HostRuntime, stage: &mut Stage, lines: &str) -> Result<()> {
+    let mut batch = Vec::new(rt.alloc());
+    for line in lines.lines() {
+        batch.push(sent_in(rt.alloc(), line)?)?;
+        if is_full(&batch) {
+            play(rt, stage, &mut batch)?;
+            batch.clear();
+        }
+    }
+    play(rt, stage, &mut batch)
+}

@@ -1,0 +1,140 @@
+//! Frames through the world, and beside that through the sessions alone and the venue alone.
+
+use crate::beside::apart::Apart;
+use crate::beside::batch::{Played, Stage, play_all};
+use crate::beside::market::Market;
+use crate::beside::sessions::Sessions;
+use crate::beside::times::Times;
+use crate::beside::together::{Together, resume_all};
+use crate::texts::bytes_in;
+use anyhow::{Result, anyhow, bail};
+use participants::Participants;
+use sef_moment::Moment;
+use std::alloc::{AllocError, Global};
+use std::str;
+use venue_core::Venue;
+use venue_rules::fixture_instruments;
+use venue_world::{ListTrail, World};
+
+/// The moment of all, in milliseconds: 3 March 2025, 14:30 UTC.
+const START: u64 = 1_741_012_200_000;
+
+/// The delay between linked orders, in milliseconds.
+const DELAY: u64 = 15_000;
+
+fn participants_of(alloc: Global, file: &str) -> Result<Participants> {
+    Ok(Participants::read(alloc, file.as_bytes())?)
+}
+
+fn new_world(alloc: Global, participants: Participants) -> Result<Together, AllocError> {
+    let instruments = fixture_instruments(alloc, DELAY)?;
+    World::new(alloc, participants, instruments, ListTrail::new(alloc))
+}
+
+// A world of these participants, with each line up.
+fn together_of(alloc: Global, file: &str, t: Moment) -> Result<Together> {
+    let mut world = new_world(alloc, participants_of(alloc, file)?)?;
+    if let Err(fault) = resume_all(&mut world, t) {
+        drop(world);
+        return Err(fault);
+    }
+    Ok(world)
+}
+
+// Their sessions, with each line up, and a venue.
+fn apart_of(alloc: Global, file: &str, t: Moment) -> Result<Apart> {
+    let participants = participants_of(alloc, file)?;
+    let sessions = Sessions::open(alloc, &participants, t)?;
+    let instruments = fixture_instruments(alloc, DELAY)?;
+    let venue = Venue::open(alloc, participants, instruments)?;
+    Ok(Apart {
+        sessions,
+        market: Market::of(venue),
+    })
+}
+
+fn stage_of(alloc: Global, file: &str) -> Result<Stage> {
+    let Some(moment) = Moment::of_ms(START) else {
+        return Err(anyhow!("no moment"));
+    };
+    let together = together_of(alloc, file, moment)?;
+    let apart = match apart_of(alloc, file, moment) {
+        Ok(apart) => apart,
+        Err(fault) => {
+            drop(together);
+            return Err(fault);
+        }
+    };
+    Ok(Stage {
+        together,
+        apart,
+        moment,
+        played: Played {
+            frames: 0,
+            replies: 0,
+            written: 0,
+        },
+        times: Times::new(alloc),
+    })
+}
+
+fn counts_of(alloc: Global, played: Played) -> Result<String, AllocError> {
+    format!(in alloc;
+        "frames: {}, replies: {}, bytes written: {}",
+        played.frames, played.replies, played.written
+    )
+}
+
+fn with_times(alloc: Global, counts: &str, times: &Times) -> Result<String, AllocError> {
+    let middle = times.middle(alloc)?;
+    format!(in alloc;
+        "{counts}\nworld {} sessions {} venue {}",
+        middle.world, middle.sessions, middle.venue
+    )
+}
+
+// Plays these lines, and says what came of it.
+fn play(rt: &HostRuntime, stage: &mut Stage, lines: &str, is_timed: bool) -> Result<String> {
+    play_all(rt, stage, lines)?;
+    let counts = counts_of(rt.alloc(), stage.played)?;
+    if !is_timed {
+        return Ok(counts);
+    }
+    Ok(with_times(rt.alloc(), counts.as_str(), &stage.times)?)
+}
+
+/// How many frames and replies there were and how many bytes were written; where it is timed, on a line behind that also how many
+/// nanoseconds a frame took. A participant file comes first, an empty line, and then a line for each frame.
+pub(crate) fn told_of(rt: &HostRuntime, input: &str, is_timed: bool) -> Result<String> {
+    let Some((file, lines)) = input.split_once("\n\n") else {
+        bail!("no empty line after the participant file");
+    };
+    let mut stage = stage_of(rt.alloc(), file)?;
+    let told = play(rt, &mut stage, lines, is_timed);
+    drop(stage);
+    told
+}
+
+// The lines that tell no answer.
+fn asked_in(alloc: Global, lines: &str) -> Result<String, AllocError> {
+    let mut asked = String::new(alloc);
+    for line in lines.lines() {
+        if !line.starts_with("  ") {
+            asked.push_str(line)?;
+            asked.push('\n')?;
+        }
+    }
+    Ok(asked)
+}
+
+/// Appends the lines of a part, and below them how many frames and replies there were and how many bytes were written.
+pub(crate) fn play_part(rt: &HostRuntime, lines: &str, told: &mut Vec<u8>) -> Result<()> {
+    let asked = asked_in(rt.alloc(), lines)?;
+    told.extend_from_slice(asked.as_bytes())?;
+    let bytes = bytes_in(rt.alloc(), asked.as_str())?;
+    let counts = told_of(rt, str::from_utf8(&bytes)?, false)?;
+    told.extend_from_slice(b"  ")?;
+    told.extend_from_slice(counts.as_bytes())?;
+    told.extend_from_slice(b"\n")?;
+    Ok(())
+}

@@ -1,0 +1,231 @@
+//! The lines of a transcript.
+
+use crate::venue::market::Market;
+use crate::venue::message::{Sent, moment_in};
+use crate::venue::reading::{tell_room, tell_trades};
+use crate::venue::stage::Stage;
+use sef_moment::Moment;
+use std::alloc::{AllocError, Global};
+use std::mem;
+
+/// Why a line is not answered.
+#[derive(Drop, Clone, Copy, PartialEq)]
+pub enum Trouble {
+    /// It tells no call.
+    NoCall,
+    /// The files of the market are refused.
+    NoFile,
+    NoMemory,
+}
+
+impl From<AllocError> for Trouble {
+    fn from(_error: AllocError) -> Trouble {
+        Trouble::NoMemory
+    }
+}
+
+// The market that is told, the venue that is played, and whether a refused call is made once more.
+#[derive(Drop)]
+struct Play {
+    market: Market,
+    stage: Stage,
+    again: bool,
+}
+
+impl Play {
+    // A new venue, on the market that is told.
+    fn open(&mut self, alloc: Global) -> Result<(), Trouble> {
+        let stage = Stage::open(alloc, &self.market)?;
+        drop(mem::replace(&mut self.stage, stage));
+        Ok(())
+    }
+}
+
+// Who sends what, as `ALPHA 35=..`.
+fn sent_in(text: &str) -> Result<Sent<'_>, Trouble> {
+    match text.split_once(' ') {
+        Some((from, text)) => Ok(Sent { from, text }),
+        None => Err(Trouble::NoCall),
+    }
+}
+
+// A tick or a message at a moment.
+fn take(
+    alloc: Global,
+    play: &mut Play,
+    after: &str,
+    text: &str,
+    told: &mut Vec<u8>,
+) -> Result<(), Trouble> {
+    let moment = moment_in(after)?;
+    if text == "tick" {
+        return play.stage.tick(alloc, moment, told);
+    }
+    play.stage.send(alloc, moment, sent_in(text)?, 0, told)
+}
+
+// One message of a line of many, once more where a growth was refused.
+fn send_one(
+    alloc: Global,
+    play: &mut Play,
+    moment: Moment,
+    sent: Sent<'_>,
+    place: u32,
+    told: &mut Vec<u8>,
+) -> Result<(), Trouble> {
+    let before = told.len();
+    let first = play.stage.send(alloc, moment, sent, place, told);
+    if !play.again || first != Err(Trouble::NoMemory) {
+        return first;
+    }
+    told.truncate(before);
+    play.stage.send(alloc, moment, sent, place, told)
+}
+
+// Messages at one moment, as `200 0 ALPHA 35=D|11=a*|..`; the answers to the last of them stay.
+fn take_many(
+    alloc: Global,
+    play: &mut Play,
+    text: &str,
+    told: &mut Vec<u8>,
+) -> Result<(), Trouble> {
+    let (count, text) = text.split_once(' ').ok_or(Trouble::NoCall)?;
+    let (after, text) = text.split_once(' ').ok_or(Trouble::NoCall)?;
+    let Ok(count) = count.parse::<u32>() else {
+        return Err(Trouble::NoCall);
+    };
+    let moment = moment_in(after)?;
+    let sent = sent_in(text)?;
+    let before = told.len();
+    for place in 0..count {
+        told.truncate(before);
+        send_one(alloc, play, moment, sent, place, told)?;
+    }
+    Ok(())
+}
+
+// Whether a held side is due.
+fn tell_due(play: &Play, after: &str, told: &mut Vec<u8>) -> Result<(), Trouble> {
+    let due = play.stage.venue().due(moment_in(after)?);
+    let text = if due { "  yes\n" } else { "  no\n" };
+    told.extend_from_slice(text.as_bytes())?;
+    Ok(())
+}
+
+// The room of a number.
+fn tell_numbered(
+    alloc: Global,
+    play: &Play,
+    number: &str,
+    told: &mut Vec<u8>,
+) -> Result<(), Trouble> {
+    let Ok(number) = number.parse::<u64>() else {
+        return Err(Trouble::NoCall);
+    };
+    tell_room(alloc, play.stage.venue(), number, told)?;
+    Ok(())
+}
+
+// Makes the call of a line, and appends what is answered.
+fn call(alloc: Global, play: &mut Play, line: &str, told: &mut Vec<u8>) -> Result<(), Trouble> {
+    let (word, rest) = line.split_once(' ').unwrap_or((line, ""));
+    match word {
+        "again" => play.again = true,
+        "market" => play.market = Market::new(alloc)?,
+        "participants" => play.market.add_participants(alloc, rest)?,
+        "related" => play.market.add_related(alloc, rest)?,
+        "instrument" => play.market.add_instrument(alloc, rest)?,
+        "open" => play.open(alloc)?,
+        "number" => play.stage.number_from(rest)?,
+        "due" => tell_due(play, rest, told)?,
+        "trades" => tell_trades(alloc, play.stage.venue(), told)?,
+        "room" => tell_numbered(alloc, play, rest, told)?,
+        "times" => take_many(alloc, play, rest, told)?,
+        _ => take(alloc, play, word, rest, told)?,
+    }
+    Ok(())
+}
+
+// Makes the call of a line, once more where a growth was refused and that is to be done.
+fn call_again(
+    alloc: Global,
+    play: &mut Play,
+    line: &str,
+    told: &mut Vec<u8>,
+) -> Result<(), Trouble> {
+    let before = told.len();
+    let first = call(alloc, play, line, told);
+    if !play.again || first != Err(Trouble::NoMemory) {
+        return first;
+    }
+    told.truncate(before);
+    call(alloc, play, line, told)
+}
+
+fn tell_trouble(trouble: Trouble, told: &mut Vec<u8>) -> Result<(), AllocError> {
+    let text = match trouble {
+        Trouble::NoCall => "  no call\n",
+        Trouble::NoFile => "  file refused\n",
+        Trouble::NoMemory => "  no memory\n",
+    };
+    told.extend_from_slice(text.as_bytes())
+}
+
+fn write_line(line: &str, told: &mut Vec<u8>) -> Result<(), AllocError> {
+    told.reserve(line.len().saturating_add(1))?;
+    told.extend_from_slice(line.as_bytes())?;
+    told.push(b'\n')?;
+    Ok(())
+}
+
+// Appends a line, once more where a growth was refused.
+fn write(line: &str, told: &mut Vec<u8>) -> Result<(), AllocError> {
+    if write_line(line, told).is_ok() {
+        return Ok(());
+    }
+    write_line(line, told)
+}
+
+// Plays a line, and appends it with what is answered; a line that tells an answer is passed over.
+fn play_line(
+    alloc: Global,
+    play: &mut Play,
+    line: &str,
+    told: &mut Vec<u8>,
+) -> Result<(), AllocError> {
+    if line.starts_with("  ") {
+        return Ok(());
+    }
+    write(line, told)?;
+    if line.is_empty() || line.starts_with('#') {
+        return Ok(());
+    }
+    match call_again(alloc, play, line, told) {
+        Ok(()) => Ok(()),
+        Err(trouble) => tell_trouble(trouble, told),
+    }
+}
+
+fn play_lines(
+    alloc: Global,
+    play: &mut Play,
+    lines: &str,
+    told: &mut Vec<u8>,
+) -> Result<(), AllocError> {
+    for line in lines.lines() {
+        play_line(alloc, play, line, told)?;
+    }
+    Ok(())
+}
+
+/// Appends the lines of a part, with what the venue answers.
+pub fn play_part(alloc: Global, lines: &str, told: &mut Vec<u8>) -> Result<(), AllocError> {
+    let mut play = Play {
+        market: Market::new(alloc)?,
+        stage: Stage::new(alloc)?,
+        again: false,
+    };
+    let played = play_lines(alloc, &mut play, lines, told);
+    drop(play);
+    played
+}
