@@ -3,7 +3,7 @@
 use crate::failure::{Failure, Stop};
 use crate::form::Form;
 use clap::error::ErrorKind;
-use clap::{Arg, ArgAction, Command, Error};
+use clap::{Arg, ArgAction, ArgMatches, Command, Error};
 use std::alloc::{AllocError, Global};
 use std::{env, io};
 
@@ -23,10 +23,16 @@ pub enum Task {
 /// What the process's words ask for.
 pub fn task_given(rt: &HostRuntime) -> Result<Task, Failure> {
     let words = words_given(rt)?;
-    match task_in(rt.alloc(), &words) {
+    let task = task_in(rt.alloc(), &words);
+    drop(words);
+    match task {
         Ok(Some(task)) => Ok(task),
         Ok(None) => Err(Failure::CommandLine),
-        Err(error) => answer_to_error(rt, &error),
+        Err(error) => {
+            let answer = answer_to_error(rt, &error);
+            drop(error);
+            answer
+        }
     }
 }
 
@@ -53,61 +59,103 @@ const EXAMPLES: &str = "Examples:
 
 Read from a copy of the file and of its log (day.trail-wal), if there is one. docs/COMPLIANCE.md explains what is printed.";
 
-fn program<'a>(alloc: Global) -> Result<Command<'a>, AllocError> {
+/// A word that names nothing but itself.
+fn flag<'a>(alloc: Global, name: &'a str, help: &'a str) -> Arg<'a> {
+    Arg::new(alloc, name)
+        .long(name)
+        .help(help)
+        .action(ArgAction::SetTrue)
+}
+
+fn with_trail<'a>(alloc: Global, command: Command<'a>) -> Result<Command<'a>, AllocError> {
     let trail = Arg::new(alloc, "trail")
         .value_name("TRAIL")
         .help("The file that keeps the trail")
         .required(true)
         .action(ArgAction::Set);
-    let migrate = Arg::new(alloc, "migrate")
-        .long("migrate")
-        .help("First makes a trail of version 1 or 2 into one of version 3, in the file itself")
-        .action(ArgAction::SetTrue);
-    let csv = Arg::new(alloc, "csv")
-        .long("csv")
-        .help("Prints the trades as comma-separated values, for a spreadsheet")
-        .action(ArgAction::SetTrue);
+    command.arg(trail)
+}
+
+fn with_migrate<'a>(alloc: Global, command: Command<'a>) -> Result<Command<'a>, AllocError> {
+    command.arg(flag(
+        alloc,
+        "migrate",
+        "First makes a trail of version 1 or 2 into one of version 3, in the file itself",
+    ))
+}
+
+fn with_csv<'a>(alloc: Global, command: Command<'a>) -> Result<Command<'a>, AllocError> {
+    command.arg(flag(
+        alloc,
+        "csv",
+        "Prints the trades as comma-separated values, for a spreadsheet",
+    ))
+}
+
+fn with_trade<'a>(alloc: Global, command: Command<'a>) -> Result<Command<'a>, AllocError> {
     let trade = Arg::new(alloc, "trade")
         .long("trade")
         .value_name("TRADE")
         .help("Prints the evidence for this trade alone, as T1")
         .action(ArgAction::Set);
-    Command::new(alloc, "sef_replay")
+    command.arg(trade)
+}
+
+/// The program's own command. (Each word is added by a function of its own: where several wait in one function, a proof tells at each `?`
+/// what becomes of all.)
+fn program<'a>(alloc: Global) -> Result<Command<'a>, AllocError> {
+    let command = Command::new(alloc, "sef_replay")
         .about(
             "Prints the trades of the day that a trail keeps, one line each, or the evidence for one",
         )
-        .after_help(EXAMPLES)
-        .arg(trail)?
-        .arg(migrate)?
-        .arg(csv)?
-        .arg(trade)
+        .after_help(EXAMPLES);
+    let command = with_trail(alloc, command)?;
+    let command = with_migrate(alloc, command)?;
+    let command = with_csv(alloc, command)?;
+    with_trade(alloc, command)
 }
 
 /// What these words ask for, if they ask for anything.
 fn task_in(alloc: Global, words: &[String]) -> Result<Option<Task>, Error> {
     let matches = program(alloc)?.try_get_matches_from(words)?;
-    let Some(path) = matches.get_str("trail") else {
+    let task = task_of(alloc, &matches);
+    drop(matches);
+    Ok(task?)
+}
+
+fn task_of(alloc: Global, given: &ArgMatches<'_>) -> Result<Option<Task>, AllocError> {
+    let Some(path) = given.get_str("trail") else {
         return Ok(None);
     };
-    let path = String::from_str(alloc, path)?;
-    let migrates = matches.get_flag("migrate");
-    let form = if matches.get_flag("csv") {
+    let migrates = given.get_flag("migrate");
+    let form = form_of(given);
+    match given.get_str("trade") {
+        Some(_) if migrates || form == Form::Table => Ok(None),
+        Some(word) => Ok(Some(trade_of(alloc, path, word)?)),
+        None => Ok(Some(printing_of(String::from_str(alloc, path)?, migrates, form))),
+    }
+}
+
+fn form_of(given: &ArgMatches<'_>) -> Form {
+    if given.get_flag("csv") {
         Form::Table
     } else {
         Form::Lines
-    };
-    let Some(word) = matches.get_str("trade") else {
-        return Ok(Some(if migrates {
-            Task::Migrate { path, form }
-        } else {
-            Task::Print { path, form }
-        }));
-    };
-    if migrates || form == Form::Table {
-        return Ok(None);
     }
+}
+
+fn trade_of(alloc: Global, path: &str, word: &str) -> Result<Task, AllocError> {
+    let path = String::from_str(alloc, path)?;
     let word = String::from_str(alloc, word)?;
-    Ok(Some(Task::Trade { path, word }))
+    Ok(Task::Trade { path, word })
+}
+
+fn printing_of(path: String, migrates: bool, form: Form) -> Task {
+    if migrates {
+        Task::Migrate { path, form }
+    } else {
+        Task::Print { path, form }
+    }
 }
 
 /// Help is printed where it was asked for; other words are refused.

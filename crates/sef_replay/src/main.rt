@@ -9,7 +9,6 @@ mod market;
 mod migrating;
 mod printing;
 mod replaying;
-mod rows;
 mod trade;
 
 use command_line::{Task, task_given};
@@ -17,7 +16,9 @@ pub use failure::{Failure, Stop};
 pub use form::Form;
 pub use migrating::print_migrated;
 pub use printing::print_day;
-use sqlite::Connection;
+use sqlite::{Alter, Connection};
+use std::alloc::Global;
+use std::io::Write;
 use std::process::ExitCode;
 pub use trade::{print_trade, trade_number};
 
@@ -30,22 +31,37 @@ enum Wanted {
     Trade(u64),
 }
 
+/// Prints what is wanted of the trail that a database keeps, and gives the database up.
+fn print_wanted<S: Alter + Drop, W: Write>(
+    alloc: Global,
+    conn: Connection<S>,
+    wanted: Wanted,
+    writer: &mut W,
+) -> Result<(), Failure> {
+    let printed = match wanted {
+        Wanted::Day(form) => print_day(alloc, conn, form, writer),
+        Wanted::MigratedDay(form) => print_migrated(alloc, conn, form, writer),
+        Wanted::Trade(number) => print_trade(alloc, conn, number, writer),
+    };
+    match printed {
+        Ok(conn) => {
+            drop(conn);
+            Ok(())
+        }
+        Err((failure, conn)) => {
+            drop(conn);
+            Err(failure)
+        }
+    }
+}
+
 /// Prints what is wanted of the trail at a path. The file is looked at before, so that none is made where there is none, and none that is
 /// no database is touched.
 fn print_trail(rt: &HostRuntime, path: &str, wanted: Wanted) -> Result<(), Failure> {
     file::look_at(rt, path)?;
-    let conn = match Connection::open(rt, path) {
-        Ok(conn) => conn,
-        Err(error) => return Err(Failure::from(error)),
-    };
-    let printed = match wanted {
-        Wanted::Day(form) => print_day(rt.alloc(), conn, form, &mut rt.stdout()),
-        Wanted::MigratedDay(form) => print_migrated(rt.alloc(), conn, form, &mut rt.stdout()),
-        Wanted::Trade(number) => print_trade(rt.alloc(), conn, number, &mut rt.stdout()),
-    };
-    match printed {
-        Ok(_) => Ok(()),
-        Err((failure, _)) => Err(failure),
+    match Connection::open(rt, path) {
+        Ok(conn) => print_wanted(rt.alloc(), conn, wanted, &mut rt.stdout()),
+        Err(error) => Err(Failure::from(error)),
     }
 }
 

@@ -8,9 +8,7 @@ ghost use Rattle.audit_trail.specs.Trail.{kept_rows, store};
 ghost use Rattle.sef_replay.specs.Trade.{IsRefusalOf, IsTradeFailureOf, TellsTradeKept, TellsTradeOf, UnlessTold};
 
 use crate::failure::{Failure, Stop};
-use crate::market::market_kept;
-use crate::replaying::rows_of;
-use crate::rows::check_rows;
+use crate::replaying::{KeptDay, day_kept};
 use audit_trail::Trail;
 use itoa::Buffer;
 use sqlite::{Alter, Connection};
@@ -53,17 +51,21 @@ fn print_kept<S: Alter, W: Write>(
     ensures unwritten { IfErr result (λ failure. UnlessTold failure (Keeps (W.contents writer.old) (W.contents writer.new))) }
     ensures crash { Survives (store S.Store trail.old) (store S.Store trail.new) (λ _. ⊥) }
 {
-    let (participants, instruments) = market_kept(alloc, trail.files(), trail.delays())?;
-    let rows = rows_of(trail)?;
-    check_rows(alloc, rows.as_slice())?;
-    match print_evidence(
+    let KeptDay {
+        participants,
+        instruments,
+        rows,
+    } = day_kept(alloc, trail)?;
+    let told = print_evidence(
         alloc,
         participants,
         instruments,
         rows.as_slice(),
         number,
         writer,
-    ) {
+    );
+    drop(rows);
+    match told {
         Ok(()) => Ok(()),
         Err(EvidenceFault::Memory) => Err(Failure::Stopped(Stop::Memory)),
         Err(EvidenceFault::Output) => Err(Failure::Stopped(Stop::Output)),
