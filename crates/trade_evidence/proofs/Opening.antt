@@ -16,7 +16,6 @@ use Rattle.venue_rules.specs.declared.facts.Entry.{Entry}
 use Rattle.venue_rules.specs.declared.facts.Fact.{Fact}
 use Rattle.venue_rules.specs.declared.facts.Fact.TheVariants.{Asked, Traded}
 use Rattle.venue_rules.specs.declared.facts.HeldSide.{HeldSide}
-use Rattle.venue_rules.specs.declared.facts.OrderFact.{OrderFact}
 use Rattle.venue_rules.specs.declared.facts.Room.{Room}
 use Rattle.venue_rules.specs.declared.facts.RoomQuote.{RoomQuote}
 use Rattle.venue_rules.specs.declared.refusals.ChangeRefusal.TheVariants.{HeldSide as IsHeldSide}
@@ -24,7 +23,7 @@ use Rattle.venue_rules.specs.Answer.{Answer, Sender, first_of}
 use Rattle.venue_rules.specs.Answers.{answer_app}
 use Rattle.venue_rules.specs.Book.{Fill, fills, filled}
 use Rattle.venue_rules.specs.Changes.{Named, IsResting, IsHeld, IsUnknown, named, standing, answer_cancel_of, answer_replace_of, cancel_refusals, held_replace_refusals, replace_refusals, replace_refused, cancelled, held_cancelled, replaced, replacement}
-use Rattle.venue_rules.specs.Crosses.{answer_cross, cross_accepted, cross_refusals, side_order, first_side, due_refusals, answer_due}
+use Rattle.venue_rules.specs.Crosses.{answer_cross, cross_accepted, cross_refusals, side_order, first_side, due_refusals}
 use Rattle.venue_rules.specs.Delay.{due}
 use Rattle.venue_rules.specs.Entering.{entering, entry_facts, trade_of}
 use Rattle.venue_rules.specs.Facts.{History, room_in}
@@ -32,10 +31,10 @@ use Rattle.venue_rules.specs.Market.{Market}
 use Rattle.venue_rules.specs.MarketData.{answer_market_data, market_data_refusals, market_data}
 use Rattle.venue_rules.specs.Orders.{accepted, answer_order, order_asked, order_refusals}
 use Rattle.venue_rules.specs.Quotes.{answer_quote_of, quote_refusals, quote_accepted}
-use Rattle.venue_rules.specs.Responses.{answer_response, answer_response_to, answer_response_in, answer_hit, answer_hit_at, response_refusals, kind_refusals, room_traded, taken_side, price_for}
+use Rattle.venue_rules.specs.Responses.{answer_response, answer_response_to, answer_response_in, answer_hit, answer_hit_at, response_refusals, kind_refusals, taken_side, price_for}
 use Rattle.venue_rules.specs.Rooms.{find_room, find_quote, room_by_number}
 use Rattle.venue_rules.specs.Run.{Input, Message, Tick, answer_input, answer_due_of}
-use Rattle.venue_rules.specs.Withdrawals.{answer_withdrawal_of, withdraw_one, withdrawn_or, withdrawn_all, not_found}
+use Rattle.venue_rules.specs.Withdrawals.{answer_withdrawal_of, withdraw_one, withdrawn_or, not_found}
 
 -- no fact of the list opens a room
 abbrev NoRoom : List Fact → Type 0

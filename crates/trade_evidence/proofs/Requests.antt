@@ -1,12 +1,11 @@
 -- The words of a day have the request of the room of each trade that came about in one.
-use Rattle.std.proofs.Common.{◌≡◌, refl, sym, ap, subst, ◌∙◌, ℕ, zero, suc, ◌+◌, ◌-◌, ◌<◌, ◌==◌, Bool, true, false, cond, if◌then◌else◌, List, [], ◌∷◌, ◌++◌, map, length, find, flat_map, filter_map, slice_get, Option, Some, None, is_some, IsSome, eq-eqb, eqb-true, arith}
+use Rattle.std.proofs.Common.{◌≡◌, refl, sym, ap, subst, ◌∙◌, ℕ, zero, suc, ◌+◌, ◌-◌, ◌<◌, ◌==◌, Bool, true, false, cond, if◌then◌else◌, List, [], ◌∷◌, ◌++◌, map, length, find, filter_map, slice_get, Option, Some, None, is_some, IsSome, eq-eqb, eqb-true, arith}
 use Rattle.std.specs.List.{enumerate_from}
 use Rattle.std.proofs.lemmas.Bool.{true≢false}
 use Rattle.fix_dictionary.specs.declared.messages.App.{App}
 use Rattle.fix_dictionary.specs.declared.messages.App.TheVariants.{QuoteRequest, Quote, QuoteCancel, QuoteResponse, QuoteStatusReport, QuoteRequestReject, NewOrderSingle, OrderCancelRequest, OrderCancelReplaceRequest, NewOrderCross, ExecutionReport, OrderCancelReject, MarketDataRequest, MarketDataSnapshot, MarketDataRequestReject, BusinessMessageReject, Unsupported}
 use Rattle.instruments.specs.declared.instruments.Instrument.{Instrument}
 use Rattle.instruments.specs.Listing.{symbol_of}
-use Rattle.participants.specs.ParticipantFile.{ParticipantFile}
 use Rattle.venue_rules.specs.declared.facts.Fact.{Fact}
 use Rattle.venue_rules.specs.declared.facts.Fact.TheVariants as fact
 use Rattle.venue_rules.specs.declared.facts.Place.{Place}
@@ -33,7 +32,7 @@ use Rattle.trade_evidence.specs.declared.word.Said.{Said}
 use Rattle.trade_evidence.specs.declared.word.Said.TheVariants as said
 use Rattle.trade_evidence.specs.declared.word.Word.{Word}
 use Rattle.trade_evidence.specs.Found.{HasRequest}
-use Rattle.trade_evidence.specs.Lines.{is_asked_said, is_sought, request_line, room_found_said, room_lines, room_of as lines_of_room, room_word}
+use Rattle.trade_evidence.specs.Lines.{is_asked_said, is_sought, room_found_said, room_of as lines_of_room}
 use Rattle.trade_evidence.specs.Said.{came_in, word, words_in, words_of}
 use Rattle.trade_evidence.specs.Standing.{stood_at}
 use Rattle.trade_evidence.specs.Told.{came_of, numbered_in, trade_numbered, words_at, words_from, words_told}
