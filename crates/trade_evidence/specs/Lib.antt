@@ -6,3 +6,7 @@ pub mod Standing
 pub mod Told
 -- the lines of the evidence for a trade
 pub mod Lines
+-- what is found of a trade
+pub mod Found
+-- what every day keeps
+pub mod Laws

@@ -13,6 +13,7 @@ ghost use Rattle.trade_evidence.specs.declared.evidence.EvidenceFault.TheVariant
 use crate::book::append_book;
 use crate::finding::{Sought, row_of};
 use crate::gathering::gather;
+use crate::laws::each_room_trade_has_its_request;
 use crate::room::{append_room, append_row};
 use crate::word::Word;
 use instruments::Instruments;
@@ -140,6 +141,7 @@ fn evidence_in(
     ensures refused { IfErr result (λ fault. fault ≡ NoTrade → HasNoTrade venue.old.market rows.now number) }
 {
     rows_tell_their_inputs();
+    each_room_trade_has_its_request();
     let words = gather(alloc, venue, rows, number)?;
     let Some(trade) = trade_numbered(venue, number) else {
         return Err(EvidenceFault::NoTrade);

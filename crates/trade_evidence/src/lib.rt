@@ -7,6 +7,7 @@ mod entry;
 mod evidence;
 mod finding;
 mod gathering;
+mod laws;
 mod rested;
 mod room;
 mod said;
@@ -14,3 +15,4 @@ mod standing;
 mod word;
 
 pub use evidence::{EvidenceFault, print_evidence};
+pub use laws::each_room_trade_has_its_request;
