@@ -166,13 +166,16 @@ pub fn start_all<
     ensures started { IfOk result (λ handles. map (λ h. begun h.promise.turns h.promise.start.value) handles.items ≡ map (λ s. begun turns s) starts.items) }
 {
     let Ok(mut handles) = Vec::with_capacity(alloc, starts.len()) else {
+        drop(starts);
         return Err(RunFault::NoMemory);
     };
     for start in starts {
         let Some(handle) = start_session(scope, rt, start, intake, replies, ends, turns) else {
+            drop(handles);
             return Err(RunFault::NoThread);
         };
         if handles.push(handle).is_err() {
+            drop(handles);
             return Err(RunFault::NoMemory);
         }
     }

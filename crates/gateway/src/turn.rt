@@ -230,7 +230,7 @@ impl<L: Line> SessionThread<L> {
             }
             Some(Outgoing::Message(app)) => {
                 if self.session.send(app.get(), t).is_err() {
-                    let _ = self.take.put_back(replies, Outgoing::Message(app));
+                    drop(self.take.put_back(replies, Outgoing::Message(app)));
                     return Collect::Refused;
                 }
                 self.take.clear(replies);

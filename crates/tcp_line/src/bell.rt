@@ -15,7 +15,7 @@ const BELL: Token = Token(0);
 /// How many milliseconds a thread waits at most. A wake-up that were lost would cost this, and nothing else.
 const LONGEST: u64 = 100;
 
-/// With so many processors a thread spins longer before it waits.
+/// With so many processors the worker spins longer before it waits.
 const MANY_PROCESSORS: usize = 4;
 
 /// How many turns that found nothing a thread makes before it waits.
@@ -24,22 +24,20 @@ pub struct Spins {
     /// The worker's. Nobody hands it anything while a session reads a piece of a long run of messages and takes it apart, or between one
     /// order and the next of a desk that waits for each answer; where there are processors enough it is awake then.
     pub worker: u64,
-    /// A session's.
+    /// A session's, in which the worker answers a message.
     pub session: u64,
 }
 
 impl Spins {
     /// By how many processors there are.
     pub fn of<R: Threads>(rt: &R) -> Spins {
-        match thread::available_parallelism(rt) {
-            Ok(count) if count.get() >= MANY_PROCESSORS => Spins {
-                worker: 1_000,
-                session: 200,
-            },
-            _ => Spins {
-                worker: 20,
-                session: 20,
-            },
+        let worker = match thread::available_parallelism(rt) {
+            Ok(count) if count.get() >= MANY_PROCESSORS => 1_000,
+            _ => 50,
+        };
+        Spins {
+            worker,
+            session: 200,
         }
     }
 }
