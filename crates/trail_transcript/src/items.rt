@@ -98,10 +98,13 @@ pub fn row_of(play: &mut Play, n: u64, sent: &Sent, era: u32) -> Result<TrailRow
     ensures { IfOk result (λ row. row.n ≡ n) }
 {
     let moment = moment_of(sent)?;
+    let Ok(place) = u32::try_from(sent.from) else {
+        return Err(anyhow!("no such participant"));
+    };
     let text = copy_text(play, sent.text)?;
     Ok(TrailRow {
         n,
-        who: (sent.from as u32).saturating_add(1),
+        who: place.saturating_add(1),
         era,
         number: sent.number,
         moment,
