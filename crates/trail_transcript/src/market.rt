@@ -1,0 +1,72 @@
+//! The market of the worked rows, and an empty database.
+
+use crate::play::Play;
+use anyhow::Result;
+use audit_trail::{FileText, Files};
+use instruments::Instruments;
+use participants::Participants;
+use sqlite::{Connection, MemStore};
+use std::alloc::{AllocError, Global};
+use venue_rules::{fixture_instruments, fixture_participants};
+
+const PARTICIPANTS: &str =
+    "venue = \"SEF\"\n[[participant]]\nname = \"ALPHA\"\n[[participant]]\nname = \"BETA\"\n[[participant]]\nname = \"GAMMA\"\n[[participant]]\nname = \"DELTA\"\n[[participant]]\nname = \"EPSILON\"\n[[related]]\na = \"BETA\"\nb = \"GAMMA\"\n";
+
+const INSTRUMENTS: &str =
+    "[[instrument]]\nsymbol = \"IRS5Y\"\ntick = 2500\nleast = 1\nrfq_life = 30\n[[instrument]]\nsymbol = \"BASIS1Y\"\ntick = 2500\nleast = 1\nrfq_life = 30\n";
+
+/// The usual delay between linked orders, in milliseconds.
+const USUAL_DELAY: u64 = 15_000;
+
+// The texts of both files.
+fn make_files(alloc: Global) -> Result<Files, AllocError> {
+    let participants = Vec::from_slice(alloc, PARTICIPANTS.as_bytes())?;
+    let instruments = Vec::from_slice(alloc, INSTRUMENTS.as_bytes())?;
+    Ok(Files {
+        participants: FileText::from_vec(participants),
+        instruments: FileText::from_vec(instruments),
+    })
+}
+
+/// The texts of both files, made once more where a growth was refused.
+pub fn files(play: &mut Play) -> Result<Files> {
+    if let Ok(files) = make_files(play.alloc) {
+        return Ok(files);
+    }
+    play.refused()?;
+    Ok(make_files(play.alloc)?)
+}
+
+/// What both files tell.
+#[derive(Drop)]
+pub struct Market {
+    pub participants: Participants,
+    pub instruments: Instruments,
+}
+
+fn make_market(alloc: Global) -> Result<Market, AllocError> {
+    let participants = fixture_participants(alloc)?;
+    let instruments = fixture_instruments(alloc, USUAL_DELAY)?;
+    Ok(Market {
+        participants,
+        instruments,
+    })
+}
+
+/// What both files tell, made once more where a growth was refused.
+pub fn both_read(play: &mut Play) -> Result<Market> {
+    if let Ok(market) = make_market(play.alloc) {
+        return Ok(market);
+    }
+    play.refused()?;
+    Ok(make_market(play.alloc)?)
+}
+
+/// An empty database in memory, made once more where a growth was refused.
+pub fn empty(play: &mut Play) -> Result<Connection<MemStore>> {
+    if let Ok(conn) = Connection::open_in_memory(play.alloc) {
+        return Ok(conn);
+    }
+    play.refused()?;
+    Ok(Connection::open_in_memory(play.alloc)?)
+}
