@@ -1,5 +1,6 @@
-use Rattle.std.proofs.Common.{◌≡◌, refl, sym, ap, ◌∙◌, ℕ, zero, suc, ◌+◌, ◌-◌, ◌*◌, ◌≤◌, ◌<◌, Bool, true, false, cond, ◌&&◌, ◌==◌, nat_lt, List, [], ◌∷◌, map, filter, length, get_or, set, arith, if◌then◌else◌}
-use Rattle.std.specs.List.{insert}
+use Rattle.std.proofs.Common.{◌≡◌, refl, sym, ap, subst, ◌∙◌, ℕ, zero, suc, ◌+◌, ◌-◌, ◌*◌, ◌≤◌, ◌<◌, Bool, true, false, cond, not, ◌&&◌, ◌==◌, nat_lt, List, [], ◌∷◌, filter, Some, length, get_or, set, arith, if◌then◌else◌}
+use Rattle.std.specs.List.{insert, remove}
+use Rattle.std.proofs.Math.Numerals.{one-add}
 use Rattle.std.proofs.lemmas.Bool.{eq-eqb}
 use Rattle.std.proofs.lemmas.Bool.Decides.{nat_tests}
 use Rattle.std.proofs.lemmas.List.Edits.{length-insert, get_or-insert_at}
@@ -8,7 +9,12 @@ use Rattle.fix_dictionary.specs.declared.values.Side.TheVariants.{Buy, Sell}
 use Rattle.venue_rules.specs.declared.facts.Entry.{Entry}
 use Rattle.venue_rules.specs.Book.{Resting, is_better, is_day, is_side, rests}
 use Rattle.price_book.specs.declared.ladder.Ladder.{Ladder}
-use Rattle.price_book.specs.Live.{seen_slot, is_live, ranked_live, whole_order, entered, reduced, without, Ledger, Absent, IsPlaceOf}
+use Rattle.price_book.specs.declared.row.Row.{Row}
+use Rattle.price_book.specs.Rows.{row_of, rows_of, AreRanked, IsRow, behind, put_last, cut_at}
+use Rattle.price_book.specs.Numbered.{numbered}
+use Rattle.price_book.proofs.Numbers.{Found, numbered-some}
+use Rattle.price_book.proofs.Ranking.{rank-put, row-found, rows-reduced, rows-without, cut-length, are-ranked, stands}
+use Rattle.price_book.specs.Live.{is_live, ranked_live, whole_order, entered, reduced, without, Ledger, Absent, IsPlaceOf}
 use Rattle.price_book.specs.Ladders.{rank_last}
 use Rattle.price_book.specs.Rungs.{rung, rung_of, held, AreOrdered, Lacks, IsLadder, lower, AreLadders}
 use Rattle.price_book.proofs.Living.{other-number, same-number}
@@ -33,32 +39,32 @@ rungs-rise low (l ∷ ls) (suc i) (suc j) d o h k = rungs-rise (rung_of l + 1) l
 
 -- what a ladder holds
 
-pub held-at : (low n : ℕ) (ls : List Ladder) (k : ℕ) (d : Ladder) → AreOrdered low ls → k < length ls → n ≡ rung_of (get_or ls k d) → held n ls ≡ map seen_slot (get_or ls k d).orders.items
+pub held-at : (low n : ℕ) (ls : List Ladder) (k : ℕ) (d : Ladder) → AreOrdered low ls → k < length ls → n ≡ rung_of (get_or ls k d) → held n ls ≡ (get_or ls k d).rows.items
 held-at low n [] k d o h e = absurd (omega (arith, h))
-held-at low n (l ∷ ls) zero d o h e = ap (λ b. if b then map seen_slot l.orders.items else held n ls) (eq-eqb n (rung_of l) e)
+held-at low n (l ∷ ls) zero d o h e = ap (λ b. if b then l.rows.items else held n ls) (eq-eqb n (rung_of l) e)
 held-at low n (l ∷ ls) (suc k) d o h e =
     let later : rung_of l + 1 ≤ rung_of (get_or ls k d) = rung-least (rung_of l + 1) ls k d o.1 (omega (arith, h)) in
-    ap (λ b. if b then map seen_slot l.orders.items else held n ls) (above (rung_of l) n (omega (arith, later, e))) ∙ held-at (rung_of l + 1) n ls k d o.1 (omega (arith, h)) e
+    ap (λ b. if b then l.rows.items else held n ls) (above (rung_of l) n (omega (arith, later, e))) ∙ held-at (rung_of l + 1) n ls k d o.1 (omega (arith, h)) e
 
 pub held-lacks : (n : ℕ) (ls : List Ladder) → Lacks n ls → held n ls ≡ []
 held-lacks n [] a = refl
-held-lacks n (l ∷ ls) a = ap (λ b. if b then map seen_slot l.orders.items else held n ls) a.0 ∙ held-lacks n ls a.1
+held-lacks n (l ∷ ls) a = ap (λ b. if b then l.rows.items else held n ls) a.0 ∙ held-lacks n ls a.1
 
 never : (b : Bool) → b ≡ true → b ≡ false → ⊥
 never true h k = cc
 never false h k = cc
 
 -- a ladder changes where it stands
-pub held-set : (low : ℕ) (ls : List Ladder) (k : ℕ) (t d : Ladder) (m : ℕ) → AreOrdered low ls → k < length ls → rung_of t ≡ rung_of (get_or ls k d) → held m (set ls k t) ≡ (if m == rung_of t then map seen_slot t.orders.items else held m ls)
+pub held-set : (low : ℕ) (ls : List Ladder) (k : ℕ) (t d : Ladder) (m : ℕ) → AreOrdered low ls → k < length ls → rung_of t ≡ rung_of (get_or ls k d) → held m (set ls k t) ≡ (if m == rung_of t then t.rows.items else held m ls)
 held-set low [] k t d m o h e = absurd (omega (arith, h))
 held-set low (l ∷ ls) zero t d m o h e = by (m == rung_of t) (ap (λ n. m == n) e)
   where
-    by : (b : Bool) → b ≡ (m == rung_of l) → (if b then map seen_slot t.orders.items else held m ls) ≡ (if b then map seen_slot t.orders.items else (if m == rung_of l then map seen_slot l.orders.items else held m ls))
+    by : (b : Bool) → b ≡ (m == rung_of l) → (if b then t.rows.items else held m ls) ≡ (if b then t.rows.items else (if m == rung_of l then l.rows.items else held m ls))
     by true f = refl
-    by false f = ap (λ c. if c then map seen_slot l.orders.items else held m ls) f
+    by false f = ap (λ c. if c then l.rows.items else held m ls) f
 held-set low (l ∷ ls) (suc k) t d m o h e = by (m == rung_of l) (m == rung_of t) refl refl (held-set (rung_of l + 1) ls k t d m o.1 (omega (arith, h)) e)
   where
-    by : (b c : Bool) → (m == rung_of l) ≡ b → (m == rung_of t) ≡ c → held m (set ls k t) ≡ (if m == rung_of t then map seen_slot t.orders.items else held m ls) → (if b then map seen_slot l.orders.items else held m (set ls k t)) ≡ (if c then map seen_slot t.orders.items else (if b then map seen_slot l.orders.items else held m ls))
+    by : (b c : Bool) → (m == rung_of l) ≡ b → (m == rung_of t) ≡ c → held m (set ls k t) ≡ (if m == rung_of t then t.rows.items else held m ls) → (if b then l.rows.items else held m (set ls k t)) ≡ (if c then t.rows.items else (if b then l.rows.items else held m ls))
     by true true f g ih =
         let later : rung_of l + 1 ≤ rung_of (get_or ls k d) = rung-least (rung_of l + 1) ls k d o.1 (omega (arith, h)) in
         absurd (clash (same-number m (rung_of l) f) (same-number m (rung_of t) g) later)
@@ -66,7 +72,7 @@ held-set low (l ∷ ls) (suc k) t d m o h e = by (m == rung_of l) (m == rung_of 
         clash : m ≡ rung_of l → m ≡ rung_of t → rung_of l + 1 ≤ rung_of (get_or ls k d) → ⊥
         clash a b later = omega (arith, a, b, later, e)
     by true false f g ih = refl
-    by false c f g ih = ih ∙ ap (λ q. if q then map seen_slot t.orders.items else held m ls) g
+    by false c f g ih = ih ∙ ap (λ q. if q then t.rows.items else held m ls) g
 
 pub ordered-set : (low : ℕ) (ls : List Ladder) (k : ℕ) (t d : Ladder) → AreOrdered low ls → k < length ls → rung_of t ≡ rung_of (get_or ls k d) → AreOrdered low (set ls k t)
 ordered-set low [] k t d o h e = absurd (omega (arith, h))
@@ -121,18 +127,18 @@ lacks-there low n (l ∷ ls) o h = by (nat_lt (rung_of l) n) refl h (lacks-there
         (apart (rung_of l) n off, lacks-below (rung_of l + 1) n ls (omega (arith, up)) o.1)
 
 -- a ladder more
-pub held-insert : (n : ℕ) (ls : List Ladder) (t : Ladder) (m : ℕ) → Lacks n ls → rung_of t ≡ n → held m (insert ls (lower n ls) t) ≡ (if m == n then map seen_slot t.orders.items else held m ls)
-held-insert n [] t m a e = ap (λ k. if m == k then map seen_slot t.orders.items else []) e
+pub held-insert : (n : ℕ) (ls : List Ladder) (t : Ladder) (m : ℕ) → Lacks n ls → rung_of t ≡ n → held m (insert ls (lower n ls) t) ≡ (if m == n then t.rows.items else held m ls)
+held-insert n [] t m a e = ap (λ k. if m == k then t.rows.items else []) e
 held-insert n (l ∷ ls) t m a e = by (nat_lt (rung_of l) n) (held-insert n ls t m a.1 e)
   where
-    over : (b c : Bool) (xs ys zs : List Resting) → (m == rung_of l) ≡ b → (m == n) ≡ c → (if b then xs else (if c then ys else zs)) ≡ (if c then ys else (if b then xs else zs))
+    over : (b c : Bool) (xs ys zs : List Row) → (m == rung_of l) ≡ b → (m == n) ≡ c → (if b then xs else (if c then ys else zs)) ≡ (if c then ys else (if b then xs else zs))
     over true true xs ys zs f g = absurd (never (n == rung_of l) (eq-eqb n (rung_of l) (sym (same-number m n g) ∙ same-number m (rung_of l) f)) a.0)
     over true false xs ys zs f g = refl
     over false c xs ys zs f g = refl
 
-    by : (b : Bool) → held m (insert ls (lower n ls) t) ≡ (if m == n then map seen_slot t.orders.items else held m ls) → held m (insert (l ∷ ls) (if b then suc (lower n ls) else 0) t) ≡ (if m == n then map seen_slot t.orders.items else held m (l ∷ ls))
-    by true ih = ap (λ hs. if m == rung_of l then map seen_slot l.orders.items else hs) ih ∙ over (m == rung_of l) (m == n) (map seen_slot l.orders.items) (map seen_slot t.orders.items) (held m ls) refl refl
-    by false ih = ap (λ k. if m == k then map seen_slot t.orders.items else held m (l ∷ ls)) e
+    by : (b : Bool) → held m (insert ls (lower n ls) t) ≡ (if m == n then t.rows.items else held m ls) → held m (insert (l ∷ ls) (if b then suc (lower n ls) else 0) t) ≡ (if m == n then t.rows.items else held m (l ∷ ls))
+    by true ih = ap (λ hs. if m == rung_of l then l.rows.items else hs) ih ∙ over (m == rung_of l) (m == n) (l.rows.items) (t.rows.items) (held m ls) refl refl
+    by false ih = ap (λ k. if m == k then t.rows.items else held m (l ∷ ls)) e
 
 pub ordered-insert : (low n : ℕ) (ls : List Ladder) (t : Ladder) → AreOrdered low ls → low ≤ n → Lacks n ls → rung_of t ≡ n → AreOrdered low (insert ls (lower n ls) t)
 ordered-insert low n [] t o h a e = (omega (arith, h, e), tt)
@@ -145,8 +151,8 @@ ordered-insert low n (l ∷ ls) t o h a e = by (nat_lt (rung_of l) n) refl (λ l
         let off : n ≡ rung_of l → ⊥ = λ s. never (n == rung_of l) (eq-eqb n (rung_of l) s) a.0 in
         (omega (arith, h, e), (omega (arith, up, off, e), o.1))
 
-pub held-opened : (n : ℕ) (ls : List Ladder) (t : Ladder) (m : ℕ) → Lacks n ls → rung_of t ≡ n → t.orders.items ≡ [] → held m (insert ls (lower n ls) t) ≡ held m ls
-held-opened n ls t m a e none = held-insert n ls t m a e ∙ ap (λ xs. if m == n then map seen_slot xs else held m ls) none ∙ by (m == n) refl
+pub held-opened : (n : ℕ) (ls : List Ladder) (t : Ladder) (m : ℕ) → Lacks n ls → rung_of t ≡ n → t.rows.items ≡ [] → held m (insert ls (lower n ls) t) ≡ held m ls
+held-opened n ls t m a e none = held-insert n ls t m a e ∙ ap (λ xs. if m == n then xs else held m ls) none ∙ by (m == n) refl
   where
     by : (b : Bool) → (m == n) ≡ b → (if b then [] else held m ls) ≡ held m ls
     by true f = sym (ap (λ k. held k ls) (same-number m n f) ∙ held-lacks n ls a)
@@ -156,23 +162,23 @@ pub opened-there : (n : ℕ) (ls : List Ladder) (t : Ladder) → rung_of t ≡ n
 opened-there n ls t e = (omega (arith, length-insert ls (lower n ls) t (lower-bound n ls), lower-bound n ls), λ d. ap rung_of (get_or-insert_at ls (lower n ls) t d (lower-bound n ls)) ∙ e)
 
 -- the orders of a ladder change where it stands
-pub held-changed : (f : List Resting → List Resting) (n : ℕ) (ls : List Ladder) (k : ℕ) (l t : Ladder) (m : ℕ) → AreOrdered 0 ls → IsLadder n ls k → l ≡ get_or ls k l → rung_of t ≡ rung_of l → map seen_slot t.orders.items ≡ f (map seen_slot l.orders.items) → held m (set ls k t) ≡ (if m == n then f (held m ls) else held m ls)
+pub held-changed : (f : List Row → List Row) (n : ℕ) (ls : List Ladder) (k : ℕ) (l t : Ladder) (m : ℕ) → AreOrdered 0 ls → IsLadder n ls k → l ≡ get_or ls k l → rung_of t ≡ rung_of l → t.rows.items ≡ f (l.rows.items) → held m (set ls k t) ≡ (if m == n then f (held m ls) else held m ls)
 held-changed f n ls k l t m o at is e change =
     let own : rung_of l ≡ n = ap rung_of is ∙ at.1 l in
-    held-set 0 ls k t l m o at.0 (e ∙ ap rung_of is) ∙ ap (λ r. if m == r then map seen_slot t.orders.items else held m ls) (e ∙ own) ∙ by (m == n) refl
+    held-set 0 ls k t l m o at.0 (e ∙ ap rung_of is) ∙ ap (λ r. if m == r then t.rows.items else held m ls) (e ∙ own) ∙ by (m == n) refl
   where
-    by : (b : Bool) → (m == n) ≡ b → (if b then map seen_slot t.orders.items else held m ls) ≡ (if b then f (held m ls) else held m ls)
-    by true g = change ∙ ap f (ap (λ (q : Ladder). map seen_slot q.orders.items) is ∙ sym (held-at 0 m ls k l o at.0 (same-number m n g ∙ sym (at.1 l))))
+    by : (b : Bool) → (m == n) ≡ b → (if b then t.rows.items else held m ls) ≡ (if b then f (held m ls) else held m ls)
+    by true g = change ∙ ap f (ap (λ (q : Ladder). q.rows.items) is ∙ sym (held-at 0 m ls k l o at.0 (same-number m n g ∙ sym (at.1 l))))
     by false g = refl
 
 pub ordered-changed : (n : ℕ) (ls : List Ladder) (k : ℕ) (l t : Ladder) → AreOrdered 0 ls → IsLadder n ls k → l ≡ get_or ls k l → rung_of t ≡ rung_of l → AreOrdered 0 (set ls k t)
 ordered-changed n ls k l t o at is e = ordered-set 0 ls k t l o at.0 (e ∙ ap rung_of is)
 
 -- what a ladder that was found holds
-pub held-there : (n : ℕ) (ls : List Ladder) (k : ℕ) (l : Ladder) → AreOrdered 0 ls → IsLadder n ls k → l ≡ get_or ls k l → held n ls ≡ map seen_slot l.orders.items
-held-there n ls k l o at is = held-at 0 n ls k l o at.0 (sym (at.1 l)) ∙ ap (λ (q : Ladder). map seen_slot q.orders.items) (sym is)
+pub held-there : (n : ℕ) (ls : List Ladder) (k : ℕ) (l : Ladder) → AreOrdered 0 ls → IsLadder n ls k → l ≡ get_or ls k l → held n ls ≡ l.rows.items
+held-there n ls k l o at is = held-at 0 n ls k l o at.0 (sym (at.1 l)) ∙ ap (λ (q : Ladder). q.rows.items) (sym is)
 
-pub held-none : (n : ℕ) (f : List Resting → List Resting) (ls : List Ladder) (m : ℕ) → f [] ≡ [] → Lacks n ls → held m ls ≡ (if m == n then f (held m ls) else held m ls)
+pub held-none : (n : ℕ) (f : List Row → List Row) (ls : List Ladder) (m : ℕ) → f [] ≡ [] → Lacks n ls → held m ls ≡ (if m == n then f (held m ls) else held m ls)
 held-none n f ls m none a = by (m == n) refl
   where
     by : (b : Bool) → (m == n) ≡ b → held m ls ≡ (if b then f (held m ls) else held m ls)
@@ -241,17 +247,23 @@ same-side y x Sell Sell h = refl
 same-side y x Buy Sell h = absurd (grind (arith, nat_tests))
 same-side y x Sell Buy h = absurd (grind (arith, nat_tests))
 
+same-instrument : (y x : ℕ) (t s : Side) → (rung y t == rung x s) ≡ true → y ≡ x
+same-instrument y x Buy Buy h = grind (arith, nat_tests)
+same-instrument y x Sell Sell h = grind (arith, nat_tests)
+same-instrument y x Buy Sell h = absurd (grind (arith, nat_tests))
+same-instrument y x Sell Buy h = absurd (grind (arith, nat_tests))
+
 -- the ladders after an entry, a trade and a removal are those of the orders
 
-pub ladders-entered : (rs : List Resting) (e : Entry) (before after : List Ladder) → is_live (whole_order e) ≡ true → AreLadders rs before → ((m : ℕ) → held m after ≡ (if m == rung e.order.instrument e.order.side then rank_last e.order.side (whole_order e) (held m before) else held m before)) → AreLadders (entered e rs) after
+pub ladders-entered : (rs : List Resting) (e : Entry) (before after : List Ladder) → is_live (whole_order e) ≡ true → AreLadders rs before → ((m : ℕ) → held m after ≡ (if m == rung e.order.instrument e.order.side then put_last e.order.side (row_of (whole_order e)) (held m before) else held m before)) → AreLadders (entered e rs) after
 ladders-entered rs e before after live are change x side =
-    change (rung x side) ∙ ap (λ hs. if rung x side == rung e.order.instrument e.order.side then rank_last e.order.side (whole_order e) hs else hs) (are x side)
+    change (rung x side) ∙ ap (λ hs. if rung x side == rung e.order.instrument e.order.side then put_last e.order.side (row_of (whole_order e)) hs else hs) (are x side)
     ∙ by (rung x side == rung e.order.instrument e.order.side) refl
-    ∙ ap (λ b. cond b (rank_last side (whole_order e) (ranked_live x side rs)) (ranked_live x side rs)) (sym (own-rung x side (whole_order e) live))
-    ∙ sym (ladder-entered x side e rs)
+    ∙ ap (λ b. rows_of (cond b (rank_last side (whole_order e) (ranked_live x side rs)) (ranked_live x side rs))) (sym (own-rung x side (whole_order e) live))
+    ∙ ap rows_of (sym (ladder-entered x side e rs))
   where
-    by : (b : Bool) → (rung x side == rung e.order.instrument e.order.side) ≡ b → (if b then rank_last e.order.side (whole_order e) (ranked_live x side rs) else ranked_live x side rs) ≡ cond b (rank_last side (whole_order e) (ranked_live x side rs)) (ranked_live x side rs)
-    by true h = ap (λ s. rank_last s (whole_order e) (ranked_live x side rs)) (sym (same-side x e.order.instrument side e.order.side h))
+    by : (b : Bool) → (rung x side == rung e.order.instrument e.order.side) ≡ b → (if b then put_last e.order.side (row_of (whole_order e)) (rows_of (ranked_live x side rs)) else rows_of (ranked_live x side rs)) ≡ rows_of (cond b (rank_last side (whole_order e) (ranked_live x side rs)) (ranked_live x side rs))
+    by true h = ap (λ s. put_last s (row_of (whole_order e)) (rows_of (ranked_live x side rs))) (sym (same-side x e.order.instrument side e.order.side h)) ∙ sym (rank-put side (whole_order e) (ranked_live x side rs))
     by false h = refl
 
 elsewhere : (n low : ℕ) (rs : List Resting) (k : ℕ) (d : Resting) (p : Resting → Bool) → Ledger low rs → k < length rs → (get_or rs k d).entry.number ≡ n → p (get_or rs k d) ≡ false → Absent n (filter p rs)
@@ -282,60 +294,79 @@ absent-elsewhere n k rs r x side l at is off =
     let none : rests x side (get_or rs k r) ≡ false = ap (rests x side) (sym is) ∙ own-rung x side r live ∙ off in
     absent-ranked n side (filter (rests x side) rs) (elsewhere n 0 rs k r (rests x side) l at.0 (at.1 r) none)
 
-pub ladders-reduced : (n q k : ℕ) (rs : List Resting) (r : Resting) (before after : List Ladder) → Ledger 0 rs → IsPlaceOf n rs k → r ≡ get_or rs k r → AreLadders rs before → ((m : ℕ) → held m after ≡ (if m == rung r.entry.order.instrument r.entry.order.side then reduced n q (held m before) else held m before)) → AreLadders (reduced n q rs) after
-ladders-reduced n q k rs r before after l at is are change x side =
-    change (rung x side) ∙ ap (λ hs. if rung x side == rung r.entry.order.instrument r.entry.order.side then reduced n q hs else hs) (are x side)
-    ∙ by (rung x side == rung r.entry.order.instrument r.entry.order.side) refl
-    ∙ sym (ladder-reduced n q 0 x side rs l)
-  where
-    by : (b : Bool) → (rung x side == rung r.entry.order.instrument r.entry.order.side) ≡ b → (if b then reduced n q (ranked_live x side rs) else ranked_live x side rs) ≡ reduced n q (ranked_live x side rs)
-    by true h = refl
-    by false h = sym (reduced-absent n q (ranked_live x side rs) (absent-elsewhere n k rs r x side l at is h))
+-- an order stands on its own side
+pub stands-there : (n : ℕ) (rs : List Resting) (r : Resting) → Ledger 0 rs → numbered n rs ≡ Some r → Found n (ranked_live r.entry.order.instrument r.entry.order.side rs) r
+stands-there n rs r l some =
+    let f : Found n rs r = numbered-some n rs r some in
+    let live : is_live r ≡ true = ap is_live f.here ∙ live-at 0 rs f.at r l f.place.0 in
+    stands n r.entry.order.instrument r.entry.order.side rs r l some (own-rung r.entry.order.instrument r.entry.order.side r live ∙ eq-eqb (rung r.entry.order.instrument r.entry.order.side) (rung r.entry.order.instrument r.entry.order.side) refl)
 
-pub ladders-without : (n k : ℕ) (rs : List Resting) (r : Resting) (before after : List Ladder) → Ledger 0 rs → IsPlaceOf n rs k → r ≡ get_or rs k r → AreLadders rs before → ((m : ℕ) → held m after ≡ (if m == rung r.entry.order.instrument r.entry.order.side then without n (held m before) else held m before)) → AreLadders (without n rs) after
-ladders-without n k rs r before after l at is are change x side =
-    change (rung x side) ∙ ap (λ hs. if rung x side == rung r.entry.order.instrument r.entry.order.side then without n hs else hs) (are x side)
+pub row-there : (n : ℕ) (rs : List Resting) (r : Resting) (ls : List Ladder) → Ledger 0 rs → (some : numbered n rs ≡ Some r) → AreLadders rs ls → (k : ℕ) × IsRow n r.entry.order.price (held (rung r.entry.order.instrument r.entry.order.side) ls) k
+row-there n rs r ls l some are =
+    let f = stands-there n rs r l some in
+    (f.at, rw (are r.entry.order.instrument r.entry.order.side) (row-found n (ranked_live r.entry.order.instrument r.entry.order.side rs) f.at r f.place f.here))
+
+pub ranked-there : (x : ℕ) (side : Side) (rs : List Resting) (ls : List Ladder) → Ledger 0 rs → AreLadders rs ls → AreRanked side (held (rung x side) ls)
+ranked-there x side rs ls l are = rw (are x side) (are-ranked x side rs l)
+
+-- what becomes of it there becomes of it alone
+changed-alone : (n : ℕ) (rs : List Resting) (r : Resting) (f : List Resting → List Resting) (g : List Row → List Row) (ls : List Ladder) → Ledger 0 rs → numbered n rs ≡ Some r → ((ss : List Resting) → Absent n ss → f ss ≡ ss) → rows_of (f (ranked_live r.entry.order.instrument r.entry.order.side rs)) ≡ g (rows_of (ranked_live r.entry.order.instrument r.entry.order.side rs)) → AreLadders rs ls → (x : ℕ) (side : Side) → (if rung x side == rung r.entry.order.instrument r.entry.order.side then g (held (rung x side) ls) else held (rung x side) ls) ≡ rows_of (f (ranked_live x side rs))
+changed-alone n rs r f g ls l some none own are x side =
+    ap (λ hs. if rung x side == rung r.entry.order.instrument r.entry.order.side then g hs else hs) (are x side)
     ∙ by (rung x side == rung r.entry.order.instrument r.entry.order.side) refl
-    ∙ sym (ladder-without n 0 x side rs l)
   where
-    by : (b : Bool) → (rung x side == rung r.entry.order.instrument r.entry.order.side) ≡ b → (if b then without n (ranked_live x side rs) else ranked_live x side rs) ≡ without n (ranked_live x side rs)
-    by true h = refl
-    by false h = sym (without-absent n (ranked_live x side rs) (absent-elsewhere n k rs r x side l at is h))
+    there : Found n rs r
+    there = numbered-some n rs r some
+
+    by : (b : Bool) → (rung x side == rung r.entry.order.instrument r.entry.order.side) ≡ b → (if b then g (rows_of (ranked_live x side rs)) else rows_of (ranked_live x side rs)) ≡ rows_of (f (ranked_live x side rs))
+    by true h =
+        subst (λ y. g (rows_of (ranked_live y side rs)) ≡ rows_of (f (ranked_live y side rs))) (sym (same-instrument x r.entry.order.instrument side r.entry.order.side h))
+        (subst (λ t. g (rows_of (ranked_live r.entry.order.instrument t rs)) ≡ rows_of (f (ranked_live r.entry.order.instrument t rs))) (sym (same-side x r.entry.order.instrument side r.entry.order.side h)) (sym own))
+    by false h = ap rows_of (sym (none (ranked_live x side rs) (absent-elsewhere n there.at rs r x side l there.place there.here h)))
+
+pub ladders-reduced : (n q : ℕ) (rs : List Resting) (r : Resting) (before after : List Ladder) → Ledger 0 rs → numbered n rs ≡ Some r → q < r.left → AreLadders rs before → ((k m : ℕ) → IsRow n r.entry.order.price (held (rung r.entry.order.instrument r.entry.order.side) before) k → held m after ≡ (if m == rung r.entry.order.instrument r.entry.order.side then cut_at k q (held m before) else held m before)) → AreLadders (reduced n q rs) after
+ladders-reduced n q rs r before after l some more are change x side =
+    let f = stands-there n rs r l some in
+    let is : IsRow n r.entry.order.price (held (rung r.entry.order.instrument r.entry.order.side) before) f.at = rw (are r.entry.order.instrument r.entry.order.side) (row-found n (ranked_live r.entry.order.instrument r.entry.order.side rs) f.at r f.place f.here) in
+    change f.at (rung x side) is
+    ∙ changed-alone n rs r (reduced n q) (cut_at f.at q) before l some (reduced-absent n q) (rows-reduced n q (ranked_live r.entry.order.instrument r.entry.order.side rs) f.at r f.place f.here more) are x side
+    ∙ ap rows_of (sym (ladder-reduced n q 0 x side rs l))
+
+pub ladders-without : (n : ℕ) (rs : List Resting) (r : Resting) (before after : List Ladder) → Ledger 0 rs → numbered n rs ≡ Some r → AreLadders rs before → ((k m : ℕ) → IsRow n r.entry.order.price (held (rung r.entry.order.instrument r.entry.order.side) before) k → held m after ≡ (if m == rung r.entry.order.instrument r.entry.order.side then remove (held m before) k else held m before)) → AreLadders (without n rs) after
+ladders-without n rs r before after l some are change x side =
+    let f = stands-there n rs r l some in
+    let is : IsRow n r.entry.order.price (held (rung r.entry.order.instrument r.entry.order.side) before) f.at = rw (are r.entry.order.instrument r.entry.order.side) (row-found n (ranked_live r.entry.order.instrument r.entry.order.side rs) f.at r f.place f.here) in
+    change f.at (rung x side) is
+    ∙ changed-alone n rs r (without n) (λ rows. remove rows f.at) before l some (without-absent n) (rows-without n (ranked_live r.entry.order.instrument r.entry.order.side rs) f.at f.place) are x side
+    ∙ ap rows_of (sym (ladder-without n 0 x side rs l))
 
 -- no more orders than before
 
-pub reduced-fewer : (n q : ℕ) (rs : List Resting) → length (reduced n q rs) ≤ length rs
-reduced-fewer n q [] = omega arith
-reduced-fewer n q (r ∷ rs) = by (n == r.entry.number) (nat_lt q r.left) (reduced-fewer n q rs)
-  where
-    by : (b c : Bool) → length (reduced n q rs) ≤ length rs → length (if b then (if c then record { entry = r.entry; left = r.left - q } ∷ rs else rs) else r ∷ reduced n q rs) ≤ length (r ∷ rs)
-    by true true h = omega arith
-    by true false h = omega arith
-    by false c h = omega (arith, h)
+remove-fewer : (rows : List Row) (k : ℕ) → length (remove rows k) ≤ length rows
+remove-fewer [] zero = omega arith
+remove-fewer [] (suc k) = omega arith
+remove-fewer (r ∷ rows) zero = omega arith
+remove-fewer (r ∷ rows) (suc k) = omega (arith, remove-fewer rows k)
 
-pub without-fewer : (n : ℕ) (rs : List Resting) → length (without n rs) ≤ length rs
-without-fewer n [] = omega arith
-without-fewer n (r ∷ rs) = by (n == r.entry.number) (without-fewer n rs)
+pub held-gone : (b : Bool) (rows : List Row) (k : ℕ) → length (if b then remove rows k else rows) ≤ length rows
+held-gone true rows k = remove-fewer rows k
+held-gone false rows k = omega arith
+
+pub held-cut : (b : Bool) (rows : List Row) (k q : ℕ) → length (if b then cut_at k q rows else rows) ≤ length rows
+held-cut true rows k q = omega (arith, cut-length k q rows)
+held-cut false rows k q = omega arith
+
+pub put-more : (side : Side) (row : Row) (rows : List Row) → length (put_last side row rows) ≡ length rows + 1
+put-more side row [] = refl
+put-more side row (s ∷ ss) = by (is_better side row.price s.price) (put-more side row ss)
   where
-    by : (b : Bool) → length (without n rs) ≤ length rs → length (if b then rs else r ∷ without n rs) ≤ length (r ∷ rs)
+    by : (b : Bool) → length (put_last side row ss) ≡ length ss + 1 → length (insert (s ∷ ss) (cond (not b) (1 + behind side row.price ss) 0) row) ≡ length (s ∷ ss) + 1
     by true h = omega arith
-    by false h = omega (arith, h)
+    by false h = rw one-add (omega (arith, h))
 
-pub rank_last-more : (side : Side) (r : Resting) (rs : List Resting) → length (rank_last side r rs) ≡ length rs + 1
-rank_last-more side r [] = refl
-rank_last-more side r (s ∷ ss) = by (is_better side r.entry.order.price s.entry.order.price) (rank_last-more side r ss)
-  where
-    by : (b : Bool) → length (rank_last side r ss) ≡ length ss + 1 → length (if b then r ∷ s ∷ ss else s ∷ rank_last side r ss) ≡ length (s ∷ ss) + 1
-    by true h = omega arith
-    by false h = omega (arith, h)
-
-pub held-fewer : (f : List Resting → List Resting) (b : Bool) (rs : List Resting) → length (f rs) ≤ length rs → length (if b then f rs else rs) ≤ length rs
-held-fewer f true rs h = h
-held-fewer f false rs h = omega arith
-
-pub held-more : (side : Side) (r : Resting) (b : Bool) (rs : List Resting) → length (if b then rank_last side r rs else rs) ≤ length rs + 1
-held-more side r true rs = omega (arith, rank_last-more side r rs)
-held-more side r false rs = omega arith
+pub held-more : (side : Side) (row : Row) (b : Bool) (rows : List Row) → length (if b then put_last side row rows else rows) ≤ length rows + 1
+held-more side row true rows = omega (arith, put-more side row rows)
+held-more side row false rows = omega arith
 
 pub live-whole : (e : Entry) → is_day e.order.life ≡ true → 0 < e.order.quantity → is_live (whole_order e) ≡ true
 live-whole e day some = ap (λ b. b && nat_lt 0 e.order.quantity) day ∙ below 0 e.order.quantity some

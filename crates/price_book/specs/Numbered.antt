@@ -1,4 +1,4 @@
-use Rattle.std.specs.Prelude.{◌≡◌, ℕ, ◌<◌, ◌==◌, nat_eq, List, map, length, get_or, find, Option, Some, None, option_map, MatchOption}
+use Rattle.std.specs.Prelude.{◌≡◌, ℕ, ◌<◌, ◌==◌, nat_eq, List, map, length, get_or, find, All, Option, Some, None, option_map, MatchOption}
 use Rattle.std.specs.Map.{lookup}
 use Rattle.std.specs.declared.cmp.Ordering.{Ordering}
 use Rattle.std.specs.declared.cmp.Ordering.TheVariants.{Less}
@@ -19,6 +19,10 @@ slot_at es n = lookup (nat_eq n) es
 -- these orders, each kept by its number
 abbrev pub IsNumbered : List Resting → List (ℕ × Slot) → Type 0
 IsNumbered rs es = (n : ℕ) → option_map seen_slot (slot_at es n) ≡ numbered n rs
+
+-- each of these orders is kept by its number
+abbrev pub AreKept : List Resting → List (ℕ × Slot) → Type 0
+AreKept rs es = All (λ (r : Resting). option_map seen_slot (slot_at es r.entry.number) ≡ Some r) rs
 
 -- the numbers of orders, in the order of their entry
 abbrev pub numbers_of : List Resting → List ℕ

@@ -1,4 +1,4 @@
-use Rattle.std.specs.Prelude.{◌≡◌, ⊤, ℕ, suc, ◌+◌, ◌*◌, ◌≤◌, ◌<◌, ◌^◌, ◌==◌, nat_lt, false, List, [], ◌∷◌, map, length, get_or, if◌then◌else◌}
+use Rattle.std.specs.Prelude.{◌≡◌, ⊤, ℕ, suc, ◌+◌, ◌*◌, ◌≤◌, ◌<◌, ◌^◌, ◌==◌, nat_lt, false, List, [], ◌∷◌, length, get_or, if◌then◌else◌}
 use Rattle.std.specs.Coded.{×_prop, Unit-prop, le_prop}
 use Rattle.std.specs.HashMap.{spare as unused}
 use Rattle.std.specs.Vec.{vec_capacity, vec_len}
@@ -7,7 +7,9 @@ use Rattle.fix_dictionary.specs.declared.values.Side.TheVariants.{Buy, Sell}
 use Rattle.venue_rules.specs.Book.{Resting, side_room}
 use Rattle.price_book.specs.declared.ladder.Ladder.{Ladder}
 use Rattle.price_book.specs.declared.orders_kept.OrdersKept.{OrdersKept}
-use Rattle.price_book.specs.Live.{seen_slot, ranked_live}
+use Rattle.price_book.specs.declared.row.Row.{Row}
+use Rattle.price_book.specs.Live.{ranked_live}
+use Rattle.price_book.specs.Rows.{rows_of}
 use Rattle.price_book.specs.Numbered.{IsListed}
 
 -- the place of an instrument's side among all: by instrument, the bids first
@@ -18,10 +20,10 @@ rung x Sell = x * 2 + 1
 abbrev pub rung_of : Ladder → ℕ
 rung_of l = rung l.instrument l.side
 
--- the orders of the ladder of a rung; none where it has no ladder
-abbrev pub held : ℕ → List Ladder → List Resting
+-- the rows of the ladder of a rung; none where it has no ladder
+abbrev pub held : ℕ → List Ladder → List Row
 held n [] = []
-held n (l ∷ ls) = if n == rung_of l then map seen_slot l.orders.items else held n ls
+held n (l ∷ ls) = if n == rung_of l then l.rows.items else held n ls
 
 -- ladders that stand by their rungs, one to a rung
 abbrev pub AreOrdered : ℕ → List Ladder → Type 0
@@ -48,7 +50,7 @@ lower n (l ∷ ls) = if nat_lt (rung_of l) n then suc (lower n ls) else 0
 
 -- each ladder has the orders of its instrument and side, ranked
 abbrev pub AreLadders : List Resting → List Ladder → Type 0
-AreLadders rs ls = (x : ℕ) (side : Side) → held (rung x side) ls ≡ ranked_live x side rs
+AreLadders rs ls = (x : ℕ) (side : Side) → held (rung x side) ls ≡ rows_of (ranked_live x side rs)
 
 -- the orders that are kept are these, by number, by name and by ladder
 pub record IsInStep (rs : List Resting) (o : OrdersKept) : Type 0 where

@@ -83,8 +83,9 @@ fn leave(orders: &mut OrdersKept, number: u64)
     };
     let instrument = slot.entry.order.instrument;
     let side = slot.entry.order.side;
+    let price = slot.entry.order.price;
     let name = name_of(&slot.entry);
-    leave_ladder(&mut orders.ladders, instrument, side, number);
+    leave_ladder(&mut orders.ladders, instrument, side, price, number);
     remove_name(&orders.slots, &mut orders.names, &name, number);
     forget(&mut orders.slots, number);
 }
@@ -100,11 +101,19 @@ fn reduce(orders: &mut OrdersKept, number: u64, quantity: u64)
     };
     let instrument = slot.entry.order.instrument;
     let side = slot.entry.order.side;
+    let price = slot.entry.order.price;
     if slot.left <= quantity {
         leave(orders, number);
         return;
     }
-    reduce_ladder(&mut orders.ladders, instrument, side, number, quantity);
+    reduce_ladder(
+        &mut orders.ladders,
+        instrument,
+        side,
+        price,
+        number,
+        quantity,
+    );
     reduce_slot(&mut orders.slots, number, quantity);
 }
 

@@ -3,7 +3,7 @@ ghost use Rattle.std.specs.Prelude.{◌<◌};
 ghost use Rattle.std.specs.Vec.{vec_capacity};
 ghost use Rattle.venue_rules.specs.Book.{side_room};
 
-use crate::slot::Slot;
+use crate::row::Row;
 use fix_dictionary::Side;
 
 /// The orders that rest in an instrument and on a side, the best first, with room for as many as may rest and one that enters.
@@ -11,6 +11,6 @@ use fix_dictionary::Side;
 pub(crate) struct Ladder {
     pub(crate) instrument: u32,
     pub(crate) side: Side,
-    pub(crate) orders: Vec<Slot>,
-    ghost room: { side_room < vec_capacity orders },
+    pub(crate) rows: Vec<Row>,
+    ghost room: { side_room < vec_capacity rows },
 }

@@ -2,7 +2,7 @@
 
 use crate::ladder::Ladder;
 use crate::numbered::Numbered;
-use crate::slot::Slot;
+use crate::row::Row;
 use std::alloc::Global;
 
 /// The orders that rest: by their numbers, with the numbers in the order of their names, and side by side, as they are ranked. The
@@ -13,5 +13,5 @@ pub(crate) struct OrdersKept {
     pub(crate) slots: Numbered,
     pub(crate) names: Vec<u64>,
     pub(crate) ladders: Vec<Ladder>,
-    pub(crate) spare: Vec<Slot>,
+    pub(crate) spare: Vec<Row>,
 }

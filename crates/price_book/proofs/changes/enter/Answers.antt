@@ -1,8 +1,9 @@
 use Rattle.std.proofs.Common.{◌≡◌, ◌∙◌, ap, sym, refl, List, [], ◌∷◌, ◌++◌, length, cond, true, ◌==◌, arith}
 use Rattle.venue_rules.specs.Book.{Resting}
 use Rattle.price_book.specs.Live.{is_live, whole_order, entered}
+use Rattle.price_book.specs.Rows.{row_of}
 use Rattle.price_book.specs.Rungs.{rung, held}
-use Rattle.price_book.proofs.Rungs.{ladders-entered, held-more, live-whole}
+use Rattle.price_book.proofs.Rungs.{ladders-entered, held-more, live-whole, ranked-there}
 use Rattle.price_book.proofs.changes.enter.Goals as goal
 
 pub returns-then-get-gt0-clause-step : goal.returns-then-get-gt0-clause-step
@@ -31,8 +32,13 @@ returns-then-get-gt0-clause-room c =
       few = omega (arith, c.requires.room.few, c.add_name.ensures.len);
       ladders = omega (arith, c.requires.room.ladders, c.enter_ladder.ensures.len, c.enter_ladder.ensures.capacity);
       spare = omega arith;
-      places = λ x side. omega (arith, ap length (c.enter_ladder.ensures.held (rung x side)), held-more e.order.side (whole_order e) (rung x side == rung e.order.instrument e.order.side) (held (rung x side) c.args.orders.now.ladders.items), c.requires.room.places x side);
+      places = λ x side. omega (arith, ap length (c.enter_ladder.ensures.held (rung x side)), held-more e.order.side (row_of (whole_order e)) (rung x side == rung e.order.instrument e.order.side) (held (rung x side) c.args.orders.now.ladders.items), c.requires.room.places x side);
     }
 
 pub add_name-requires-clause-listed : goal.add_name-requires-clause-listed
 add_name-requires-clause-listed c = (c.requires.step.0, c.requires.step.1.listed)
+
+pub enter_ladder-requires-clause-ranked : goal.enter_ladder-requires-clause-ranked
+enter_ladder-requires-clause-ranked c =
+    let e = c.args.entry.now in
+    ranked-there e.order.instrument e.order.side c.requires.step.0 c.args.orders.now.ladders.items c.requires.step.1.listed.ledger c.requires.step.1.ladders

@@ -1,4 +1,4 @@
-use Rattle.std.proofs.Common.{◌≡◌, sym, subst}
+use Rattle.std.proofs.Common.{sym, subst}
 use Rattle.venue_rules.specs.declared.facts.Place.{Place}
 use Rattle.price_book.specs.Live.{reduced, reduced_in}
 use Rattle.price_book.specs.Rungs.{IsInStep}

@@ -1,5 +1,4 @@
-use Rattle.std.proofs.Common.{◌≡◌, ◌∙◌, sym, ap, ◌<◌, ℕ, List, length, get_or, arith}
-use Rattle.std.specs.List.{remove}
+use Rattle.std.proofs.Common.{◌≡◌, ◌∙◌, sym, ◌<◌, ℕ, List, length, get_or}
 use Rattle.sorted_names.specs.Search.{IsPlace}
 use Rattle.price_book.specs.Numbered.{answer_at}
 use Rattle.price_book.proofs.Names.{named-removed, named-there}

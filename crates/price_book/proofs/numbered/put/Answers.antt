@@ -1,4 +1,4 @@
-use Rattle.std.proofs.Common.{◌≡◌, ◌≤◌, true, arith}
+use Rattle.std.proofs.Common.{◌≡◌, true, arith}
 use Rattle.std.specs.Result.{is_ok}
 use Rattle.price_book.proofs.Numbers.{given-ok, put-numbered}
 use Rattle.price_book.proofs.numbered.put.Goals as goal

@@ -1,4 +1,4 @@
-use Rattle.std.proofs.Common.{◌≡◌, ◌∙◌, List}
+use Rattle.std.proofs.Common.{◌∙◌, List}
 use Rattle.venue_rules.specs.Book.{Resting}
 use Rattle.price_book.specs.Past.{facts_in}
 use Rattle.price_book.specs.Live.{live}

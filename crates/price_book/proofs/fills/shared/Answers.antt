@@ -1,0 +1,87 @@
+use Rattle.std.proofs.Common.{◌≡◌, ◌∙◌, ap, sym, ◌<◌, ℕ, ◌++◌, ◌∷◌, [], ◌-◌, ◌+◌, List, length, get_or, drop, map, Some, None, append-nil, append_assoc, arith}
+use Rattle.std.specs.Option.{option_copied}
+use Rattle.venue_rules.specs.Book.{Resting, against, opposite, resting}
+use Rattle.price_book.specs.declared.row.Row.{Row}
+use Rattle.price_book.specs.Past.{facts_in}
+use Rattle.price_book.specs.Live.{seen_slot}
+use Rattle.price_book.specs.Numbered.{slot_at}
+use Rattle.price_book.specs.Rows.{rows_of}
+use Rattle.price_book.specs.Views.{seen_fill, share_out, left_over}
+use Rattle.price_book.proofs.Living.{resting-live}
+use Rattle.price_book.proofs.Giving.{met, share-parts, share-spent, left-spent, met-refused, met-next, met-kept, met-end}
+use Rattle.price_book.proofs.fills.shared.Goals as goal
+use Rattle.price_book.proofs.fills.shared.Goals.{then-wanted-eq0-via-then-wanted-eq0, then-wanted-eq0-via-else-wanted-eq0+then-not-accepts}
+
+pub loop-row-init : goal.loop-row-init
+loop-row-init c =
+    let f = facts_in c.args.book.past.now in (
+      ap (λ ys. map seen_fill ys ++ share_out c.get-wanted.result (against f c.args.order.now)) c.new-fills.ensures.items ∙ ap (λ q. share_out q (against f c.args.order.now)) c.get-wanted.ensures.value,
+      ap (λ q. left_over q (against f c.args.order.now)) c.get-wanted.ensures.value,
+    )
+
+pub returns-then-wanted-eq0 : goal.returns-then-wanted-eq0
+returns-then-wanted-eq0 c =
+    let o = c.args.order.now in
+    let f = facts_in c.args.book.past.now in
+    let i = c.loop-row.row-index in
+    let rs : List Resting = resting f o.instrument (opposite o.side) in
+    let rows : c.resting-row-items.result.now ≡ rows_of rs = c.resting-row-items.ensures ∙ ap (λ s. rows_of (resting f o.instrument s)) c.opposite.ensures in
+    let row : Row = c.row-item.result in
+    let inside : i < length (rows_of rs) = rw rows at c.loop-row-test.true in
+    let is : row ≡ get_or (rows_of rs) i row = rw rows at c.row-item.is in
+    let spent : (n : ℕ) (ws : List Resting) → n ≡ 0 → (share_out n ws ≡ []) × (left_over n ws ≡ n) = λ n ws z. (ap (λ k. share_out k ws) z ∙ share-spent ws, ap (λ k. left_over k ws) z ∙ left-spent ws ∙ sym z) in
+    let ended : (share_out c.loop-row.wanted (met o (drop i rs)) ≡ []) × (left_over c.loop-row.wanted (met o (drop i rs)) ≡ c.loop-row.wanted) = elim c.then-wanted-eq0.branch [
+      | then-wanted-eq0-via-then-wanted-eq0 w ↦ spent c.loop-row.wanted (met o (drop i rs)) w.if-wanted-eq0.true
+      | then-wanted-eq0-via-else-wanted-eq0+then-not-accepts w ↦
+          let none : met o (drop i rs) ≡ [] = met-refused o rs i row (rw (resting-live f o.instrument (opposite o.side)) at (c.args.book.ranked o.instrument (opposite o.side))) inside is (sym w.accepts.ensures ∙ w.if-not-accepts.true) in
+          (ap (share_out c.loop-row.wanted) none, ap (left_over c.loop-row.wanted) none)
+    ] in (
+      sym (append-nil (map seen_fill c.loop-row.fills.items)) ∙ ap (λ q. map seen_fill c.loop-row.fills.items ++ q) (sym ended.0) ∙ c.loop-row.invariant.0,
+      sym ended.1 ∙ c.loop-row.invariant.1,
+    )
+
+pub returns-in_default : goal.returns-in_default
+returns-in_default c =
+    let o = c.args.order.now in
+    let f = facts_in c.args.book.past.now in
+    let i = c.loop-row.row-index in
+    let rs : List Resting = resting f o.instrument (opposite o.side) in
+    let rows : c.resting-row-items.result.now ≡ rows_of rs = c.resting-row-items.ensures ∙ ap (λ s. rows_of (resting f o.instrument s)) c.opposite.ensures in
+    let row : Row = c.row-item.result in
+    let inside : i < length (rows_of rs) = rw rows at c.loop-row-test.true in
+    let is : row ≡ get_or (rows_of rs) i row = rw rows at c.row-item.is in
+    let none : slot_at c.args.book.slots.now.entries row.number ≡ None = sym c.get.ensures.value ∙ ap option_copied c.in_default.is in
+    absurd (met-kept rs c.args.book.slots.now.entries i row (rw (resting-live f o.instrument (opposite o.side)) at (c.args.book.kept o.instrument (opposite o.side))) inside is none)
+
+pub loop-row-preserved : goal.loop-row-preserved
+loop-row-preserved c =
+    let o = c.args.order.now in
+    let f = facts_in c.args.book.past.now in
+    let i = c.loop-row.row-index in
+    let rs : List Resting = resting f o.instrument (opposite o.side) in
+    let rows : c.resting-row-items.result.now ≡ rows_of rs = c.resting-row-items.ensures ∙ ap (λ s. rows_of (resting f o.instrument s)) c.opposite.ensures in
+    let row : Row = c.row-item.result in
+    let inside : i < length (rows_of rs) = rw rows at c.loop-row-test.true in
+    let is : row ≡ get_or (rows_of rs) i row = rw rows at c.row-item.is in
+    let some : slot_at c.args.book.slots.now.entries row.number ≡ Some c.in-Some.slot.now = sym c.get.ensures.value ∙ ap option_copied c.in-Some.is in
+    let more : met o (drop i rs) ≡ seen_slot c.in-Some.slot.now ∷ met o (drop (i + 1) rs) = met-next o rs c.args.book.slots.now.entries i row c.in-Some.slot.now (rw (resting-live f o.instrument (opposite o.side)) at (c.args.book.kept o.instrument (opposite o.side))) inside is some (sym c.accepts.ensures ∙ c.if-not-accepts.false) in
+    let rest : List Resting = met o (drop (i + 1) rs) in (
+      ap (λ q. map seen_fill c.give.new.fills.items ++ share_out q rest) c.saturating_sub-wanted.ensures
+          ∙ ap (λ t. t ++ share_out (c.loop-row.wanted - c.in-Some.slot.now.left) rest) c.in_ok-give.ensures
+          ∙ append_assoc (map seen_fill c.loop-row.fills.items) (share_out c.loop-row.wanted (seen_slot c.in-Some.slot.now ∷ [])) (share_out (c.loop-row.wanted - c.in-Some.slot.now.left) rest)
+          ∙ ap (λ t. map seen_fill c.loop-row.fills.items ++ t) (sym (share-parts c.loop-row.wanted (seen_slot c.in-Some.slot.now) rest))
+          ∙ ap (λ t. map seen_fill c.loop-row.fills.items ++ share_out c.loop-row.wanted t) (sym more)
+          ∙ c.loop-row.invariant.0,
+      ap (λ q. left_over q rest) c.saturating_sub-wanted.ensures ∙ ap (left_over c.loop-row.wanted) (sym more) ∙ c.loop-row.invariant.1,
+    )
+
+pub returns : goal.returns
+returns c =
+    let o = c.args.order.now in
+    let f = facts_in c.args.book.past.now in
+    let rs : List Resting = resting f o.instrument (opposite o.side) in
+    let rows : c.resting-row-items.result.now ≡ rows_of rs = c.resting-row-items.ensures ∙ ap (λ s. rows_of (resting f o.instrument s)) c.opposite.ensures in
+    let none : met o (drop c.loop-row.row-index rs) ≡ [] = met-end o rs c.loop-row.row-index (omega (arith, c.loop-row-test.false, ap length rows)) in (
+      sym (append-nil (map seen_fill c.loop-row.fills.items)) ∙ ap (λ q. map seen_fill c.loop-row.fills.items ++ share_out c.loop-row.wanted q) (sym none) ∙ c.loop-row.invariant.0,
+      ap (left_over c.loop-row.wanted) (sym none) ∙ c.loop-row.invariant.1,
+    )

@@ -1,0 +1,82 @@
+//! The orders of a side as they are ranked: where one stands, and what an entry, a trade and a removal do to them.
+ghost use Rattle.std.specs.Prelude.{◌≡◌, ℕ, ◌≤◌, ◌<◌, ◌+◌, ◌^◌, length};
+ghost use Rattle.std.specs.List.{remove};
+ghost use Rattle.std.specs.Vec.{vec_capacity, vec_len};
+ghost use Rattle.price_book.specs.Live.{whole_order};
+ghost use Rattle.price_book.specs.Rows.{row_of, comes_before, AreRanked, IsRow, behind, put_last, cut_at};
+
+use crate::orders::is_better;
+use crate::row::Row;
+use fix_dictionary::{Amount, Price, Side};
+use venue_rules::Entry;
+
+/// The whole order, as it stands on its side.
+pub(crate) fn row_of(entry: &Entry) -> Row
+    requires { entry.now.filled_before + entry.now.order.quantity ≤ 10 ^ 15 }
+    ensures { result ≡ row_of (whole_order entry.now) }
+{
+    Row {
+        number: entry.number,
+        price: entry.order.price,
+        left: Amount::new(entry.order.quantity.get()),
+    }
+}
+
+// Whether a row stands before an order of this price and number: it is better, or as good and earlier.
+fn comes_before(side: Side, price: Price, number: u64, row: &Row) -> bool
+    ensures { result ≡ comes_before side price number row.now }
+{
+    is_better(side, row.price, price) || (row.number < number && !is_better(side, price, row.price))
+}
+
+// Where the order of this number and price stands on a side.
+fn place_of(rows: &[Row], side: Side, price: Price, number: u64) -> usize
+    requires ranked { AreRanked side rows.now }
+    requires there { (k : ℕ) × IsRow number price rows.now k }
+    ensures { (k : ℕ) → IsRow number price rows.now k → result ≡ k }
+{
+    rows.partition_point(|row| comes_before(side, price, number, row))
+}
+
+// Behind how many orders of a side one of this price comes that enters last: behind all that are as good.
+fn behind(rows: &[Row], side: Side, price: Price) -> usize
+    requires { AreRanked side rows.now }
+    ensures bound { result ≤ length rows.now }
+    ensures place { result ≡ behind side price rows.now }
+{
+    rows.partition_point(|row| !is_better(side, price, row.price))
+}
+
+/// An order that enters stands behind all of its side that are as good.
+pub(crate) fn put_last(rows: &mut Vec<Row>, side: Side, row: Row)
+    requires room { vec_len rows.old < vec_capacity rows.old }
+    requires ranked { AreRanked side rows.old.items }
+    ensures rows { rows.new.items ≡ put_last side row rows.old.items }
+    ensures capacity { vec_capacity rows.new ≡ vec_capacity rows.old }
+{
+    let at = behind(rows, side, row.price);
+    let _inserted = rows.insert(at, row);
+}
+
+/// So much less is left of the order of this number and price.
+pub(crate) fn cut(rows: &mut Vec<Row>, side: Side, price: Price, number: u64, quantity: u64)
+    requires ranked { AreRanked side rows.old.items }
+    requires there { (k : ℕ) × IsRow number price rows.old.items k }
+    ensures rows { (k : ℕ) → IsRow number price rows.old.items k → rows.new.items ≡ cut_at k quantity rows.old.items }
+    ensures capacity { vec_capacity rows.new ≡ vec_capacity rows.old }
+{
+    let at = place_of(rows, side, price, number);
+    let row = &mut rows[at];
+    row.left = Amount::new(row.left.get().saturating_sub(quantity));
+}
+
+/// The order of this number and price is gone.
+pub(crate) fn take_out(rows: &mut Vec<Row>, side: Side, price: Price, number: u64)
+    requires ranked { AreRanked side rows.old.items }
+    requires there { (k : ℕ) × IsRow number price rows.old.items k }
+    ensures rows { (k : ℕ) → IsRow number price rows.old.items k → rows.new.items ≡ remove rows.old.items k }
+    ensures capacity { vec_capacity rows.new ≡ vec_capacity rows.old }
+{
+    let at = place_of(rows, side, price, number);
+    let _gone = rows.remove(at);
+}
