@@ -2,6 +2,7 @@
 
 use crate::{beside, venue, world};
 use anyhow::{Result, bail};
+use std::alloc::AllocError;
 
 /// What a line begins with that begins a part; behind it stands what is played there.
 const BEGINS: &str = "part ";
@@ -16,19 +17,32 @@ fn play_part(rt: &HostRuntime, name: &str, lines: &str, told: &mut Vec<u8>) -> R
     }
 }
 
+fn begin(name: &str, told: &mut Vec<u8>) -> Result<(), AllocError> {
+    told.extend_from_slice(BEGINS.as_bytes())?;
+    told.extend_from_slice(name.as_bytes())?;
+    told.extend_from_slice(b"\n")
+}
+
+// Appends a part, which begins with its name, and what is answered.
+fn append_part(rt: &HostRuntime, part: &str, told: &mut Vec<u8>) -> Result<()> {
+    let (name, lines) = part.split_once('\n').unwrap_or((part, ""));
+    begin(name, told)?;
+    play_part(rt, name, lines, told)
+}
+
+fn append_parts(rt: &HostRuntime, parts: &str, told: &mut Vec<u8>) -> Result<()> {
+    for part in parts.split("\npart ") {
+        append_part(rt, part, told)?;
+    }
+    Ok(())
+}
+
 /// The transcript with what is answered, part by part. One that does not begin with a part is one of a world.
 pub fn told_anew(rt: &HostRuntime, transcript: &str) -> Result<Vec<u8>> {
     let mut told = Vec::new(rt.alloc());
-    let Some(parts) = transcript.strip_prefix(BEGINS) else {
-        world::line::play_part(rt.alloc(), transcript, &mut told)?;
-        return Ok(told);
-    };
-    for part in parts.split("\npart ") {
-        let (name, lines) = part.split_once('\n').unwrap_or((part, ""));
-        told.extend_from_slice(BEGINS.as_bytes())?;
-        told.extend_from_slice(name.as_bytes())?;
-        told.extend_from_slice(b"\n")?;
-        play_part(rt, name, lines, &mut told)?;
+    match transcript.strip_prefix(BEGINS) {
+        Some(parts) => append_parts(rt, parts, &mut told)?,
+        None => world::line::play_part(rt.alloc(), transcript, &mut told)?,
     }
     Ok(told)
 }
