@@ -38,15 +38,26 @@ pub fn asked_for(
     ensures service { IfOk result (λ asked. asked.service ≡ service) }
 {
     let market = Market::read(rt.alloc(), &texts.participants, &texts.instruments)?;
-    let kept = match trail {
-        Some(path) => Some(kept_at(rt, &path, texts)?),
-        None => None,
-    };
-    Ok(Asked {
-        market,
-        service,
-        kept,
-    })
+    match kept_for(rt, texts, trail) {
+        Ok(kept) => Ok(Asked {
+            market,
+            service,
+            kept,
+        }),
+        Err(failure) => {
+            drop(market);
+            Err(failure)
+        }
+    }
+}
+
+fn kept_for(rt: &HostRuntime, texts: Texts, trail: Option<String>) -> Result<Option<Kept>, Failure>
+    ensures { IfOk result (λ found. IfSome found (λ kept. kept.files ≡ record { participants = texts.participants.items; instruments = texts.instruments.items })) }
+{
+    match trail {
+        Some(path) => Ok(Some(kept_at(rt, &path, texts)?)),
+        None => Ok(None),
+    }
 }
 
 fn kept_at(rt: &HostRuntime, path: &str, texts: Texts) -> Result<Kept, Failure>

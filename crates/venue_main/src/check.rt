@@ -43,7 +43,9 @@ pub fn check<W: Write>(
         Err(FilesFault::Participants(fault)) => return Err(CheckFault::Participants(fault)),
         Err(FilesFault::Instruments(fault)) => return Err(CheckFault::Instruments(fault)),
     };
-    match tell(&market, writer) {
+    let told = tell(&market, writer);
+    drop(market);
+    match told {
         Ok(()) => Ok(()),
         Err(_) => Err(CheckFault::Output),
     }

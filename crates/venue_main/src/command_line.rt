@@ -35,10 +35,16 @@ pub enum Task {
 /// What the process's words ask for.
 pub fn task_given(rt: &HostRuntime) -> Result<Task, Failure> {
     let words = words_given(rt)?;
-    match task_in(rt.alloc(), &words) {
+    let task = task_in(rt.alloc(), &words);
+    drop(words);
+    match task {
         Ok(Some(task)) => Ok(task),
         Ok(None) => Err(Failure::CommandLine),
-        Err(error) => answer_to_error(rt, &error),
+        Err(error) => {
+            let answer = answer_to_error(rt, &error);
+            drop(error);
+            answer
+        }
     }
 }
 
@@ -81,99 +87,151 @@ fn needed<'a>(alloc: Global, name: &'a str, value: &'a str, help: &'a str) -> Ar
         .action(ArgAction::Set)
 }
 
+/// A command with one more argument that has to be given. (Arguments and commands are added one at a time, each by a call that takes it:
+/// where several wait in one function, a proof tells at each `?` what becomes of all.)
+fn with_needed<'a>(
+    alloc: Global,
+    command: Command<'a>,
+    name: &'a str,
+    value: &'a str,
+    help: &'a str,
+) -> Result<Command<'a>, AllocError> {
+    command.arg(needed(alloc, name, value, help))
+}
+
 /// A command that is given the two files.
 fn command_on_files<'a>(
     alloc: Global,
     name: &'a str,
     about: &'a str,
 ) -> Result<Command<'a>, AllocError> {
-    let participants = needed(alloc, "participants", "FILE", "The participant file");
-    let instruments = needed(alloc, "instruments", "FILE", "The instrument file");
-    Command::new(alloc, name)
-        .about(about)
-        .arg(participants)?
-        .arg(instruments)
+    let command = Command::new(alloc, name).about(about);
+    let command = with_needed(
+        alloc,
+        command,
+        "participants",
+        "FILE",
+        "The participant file",
+    )?;
+    with_needed(alloc, command, "instruments", "FILE", "The instrument file")
 }
 
-/// The command that serves the participants.
-fn command_of_serve<'a>(alloc: Global) -> Result<Command<'a>, AllocError> {
-    let port = needed(
-        alloc,
-        "port",
-        "P",
-        "The first participant's port, from 1024 to 65500; each other has the next",
-    );
-    let turns = needed(
-        alloc,
-        "turns",
-        "N",
-        "How many turns each thread makes, from 1 to 1000000000",
-    );
+fn with_trail<'a>(alloc: Global, command: Command<'a>) -> Result<Command<'a>, AllocError> {
     let trail = Arg::new(alloc, "trail")
         .long("trail")
         .value_name("FILE")
         .help("The file that keeps the rows, where they are to be kept")
         .action(ArgAction::Set);
+    command.arg(trail)
+}
+
+/// The command that serves the participants.
+fn command_of_serve<'a>(alloc: Global) -> Result<Command<'a>, AllocError> {
     let serve = command_on_files(
         alloc,
         "serve",
         "Serves each participant over TCP, at 127.0.0.1",
     )?;
-    serve
-        .after_help(EXAMPLE_OF_SERVE)
-        .arg(port)?
-        .arg(turns)?
-        .arg(trail)
+    let serve = with_needed(
+        alloc,
+        serve.after_help(EXAMPLE_OF_SERVE),
+        "port",
+        "P",
+        "The first participant's port, from 1024 to 65500; each other has the next",
+    )?;
+    let serve = with_needed(
+        alloc,
+        serve,
+        "turns",
+        "N",
+        "How many turns each thread makes, from 1 to 1000000000",
+    )?;
+    with_trail(alloc, serve)
 }
 
-/// The program's own command, with `once`, `serve` and `check`.
-fn program<'a>(alloc: Global) -> Result<Command<'a>, AllocError> {
-    let at = needed(
-        alloc,
-        "at",
-        "TIME",
-        "The moment of everything, in UTC, as 20250303-14:30:00",
-    );
+/// The command that answers one stream.
+fn command_of_once<'a>(alloc: Global) -> Result<Command<'a>, AllocError> {
     let once = command_on_files(
         alloc,
         "once",
         "Answers the first participant's stream, from standard input to standard output",
     )?;
-    let check = command_on_files(alloc, "check", "Tells how much the two files list")?;
-    Command::new(alloc, "venue_main")
+    with_needed(
+        alloc,
+        once,
+        "at",
+        "TIME",
+        "The moment of everything, in UTC, as 20250303-14:30:00",
+    )
+}
+
+/// A command with another one below it, where that was made.
+fn with_command<'a>(
+    command: Command<'a>,
+    made: Result<Command<'a>, AllocError>,
+) -> Result<Command<'a>, AllocError> {
+    match made {
+        Ok(below) => command.subcommand(below),
+        Err(fault) => {
+            drop(command);
+            Err(fault)
+        }
+    }
+}
+
+/// The program's own command, with `once`, `serve` and `check`.
+fn program<'a>(alloc: Global) -> Result<Command<'a>, AllocError> {
+    let command = Command::new(alloc, "venue_main")
         .about("A swap execution facility over FIX")
         .after_help(EXAMPLES)
-        .subcommand_required(true)
-        .subcommand(once.arg(at)?)?
-        .subcommand(command_of_serve(alloc)?)?
-        .subcommand(check)
+        .subcommand_required(true);
+    let command = with_command(command, command_of_once(alloc))?;
+    let command = with_command(command, command_of_serve(alloc))?;
+    with_command(
+        command,
+        command_on_files(alloc, "check", "Tells how much the two files list"),
+    )
 }
 
 /// What these words ask for, if they ask for anything.
 fn task_in(alloc: Global, words: &[String]) -> Result<Option<Task>, Error> {
     let matches = program(alloc)?.try_get_matches_from(words)?;
+    let task = task_of(alloc, &matches);
+    drop(matches);
+    Ok(task?)
+}
+
+fn task_of(alloc: Global, matches: &ArgMatches<'_>) -> Result<Option<Task>, AllocError> {
     if let Some(given) = matches.subcommand_matches("check") {
-        let Some(paths) = paths_in(alloc, given)? else {
-            return Ok(None);
-        };
-        return Ok(Some(Task::Check { paths }));
+        return check_in(alloc, given);
     }
     if let Some(given) = matches.subcommand_matches("serve") {
         return serve_in(alloc, given);
     }
-    let Some(given) = matches.subcommand_matches("once") else {
-        return Ok(None);
-    };
+    match matches.subcommand_matches("once") {
+        Some(given) => once_in(alloc, given),
+        None => Ok(None),
+    }
+}
+
+fn check_in(alloc: Global, given: &ArgMatches<'_>) -> Result<Option<Task>, AllocError> {
+    match paths_in(alloc, given)? {
+        Some(paths) => Ok(Some(Task::Check { paths })),
+        None => Ok(None),
+    }
+}
+
+fn once_in(alloc: Global, given: &ArgMatches<'_>) -> Result<Option<Task>, AllocError> {
     let Some(at) = moment_in(given) else {
         return Ok(None);
     };
-    let Some(paths) = paths_in(alloc, given)? else {
-        return Ok(None);
-    };
-    Ok(Some(Task::Once { paths, at }))
+    match paths_in(alloc, given)? {
+        Some(paths) => Ok(Some(Task::Once { paths, at })),
+        None => Ok(None),
+    }
 }
 
-fn serve_in(alloc: Global, given: &ArgMatches<'_>) -> Result<Option<Task>, Error> {
+fn serve_in(alloc: Global, given: &ArgMatches<'_>) -> Result<Option<Task>, AllocError> {
     let Some(service) = service_in(given) else {
         return Ok(None);
     };

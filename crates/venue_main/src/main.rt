@@ -15,6 +15,7 @@ mod serving;
 mod trail_file;
 
 use asked::{Asked, Kept, asked_for};
+use audit_trail::Files;
 pub use check::{CheckFault, check};
 use command_line::{Task, task_given};
 pub use failure::Failure;
@@ -24,37 +25,104 @@ pub use once::{OnceFault, once};
 pub use recording::serve_recorded;
 use sef_moment::Moment;
 pub use serve::{ServeFault, serve, tell_closed};
+use service::Service;
+use sqlite::{Alter, Connection};
+use std::alloc::Global;
+use std::io::{Read, Write};
+use std::net::{Net, TcpListener, TcpStream};
 use std::process::ExitCode;
+use std::sync::Wait;
+use std::thread::Threads;
+use std::time::Clock;
 use trail_file::close_trail;
 
-fn run_once(rt: &HostRuntime, texts: &Texts, at: Moment) -> Result<(), Failure> {
-    let market = Market::read(rt.alloc(), &texts.participants, &texts.instruments)?;
-    once(
-        rt.alloc(),
-        &mut rt.stdin(),
-        &mut rt.stdout(),
+// What follows is generic and has no contract, so that a proof need not tell of `run` and `main`, who call it, what the contracts of what is
+// called say of the system's own files, sockets and streams.
+
+fn answer_texts<R: Read, W: Write>(
+    alloc: Global,
+    texts: &Texts,
+    at: Moment,
+    reader: &mut R,
+    writer: &mut W,
+) -> Result<(), Failure> {
+    let market = Market::read(alloc, &texts.participants, &texts.instruments)?;
+    Ok(once(
+        alloc,
+        reader,
+        writer,
         market.participants,
         market.instruments,
         at,
-    )?;
-    Ok(())
+    )?)
 }
 
-fn run_check(rt: &HostRuntime, texts: &Texts) -> Result<(), Failure> {
-    check(
-        rt.alloc(),
-        &texts.participants,
-        &texts.instruments,
-        &mut rt.stdout(),
-    )?;
-    Ok(())
+fn check_texts<W: Write>(alloc: Global, texts: &Texts, writer: &mut W) -> Result<(), Failure> {
+    Ok(check(alloc, &texts.participants, &texts.instruments, writer)?)
+}
+
+fn serve_market<
+    R: Net<Listener = TcpListener, Stream = TcpStream>
+        + Threads
+        + Wait
+        + Send
+        + Sync
+        + Clock
+        + Copy
+        + Drop,
+    N: Write,
+    W: Write,
+>(
+    rt: &R,
+    alloc: Global,
+    market: Market,
+    service: Service,
+    notes: &mut N,
+    output: &mut W,
+) -> Result<(), Failure> {
+    Ok(serve(rt, alloc, market, service, notes, output)?)
+}
+
+fn serve_trail<
+    R: Net<Listener = TcpListener, Stream = TcpStream>
+        + Threads
+        + Wait
+        + Send
+        + Sync
+        + Clock
+        + Copy
+        + Drop,
+    S: Alter + Drop,
+    N: Write,
+    W: Write,
+>(
+    rt: &R,
+    alloc: Global,
+    conn: Connection<S>,
+    files: Files,
+    market: Market,
+    service: Service,
+    notes: &mut N,
+    output: &mut W,
+) -> Result<Connection<S>, Failure> {
+    let served = serve_recorded(rt, alloc, conn, &files, market, service, notes, output);
+    drop(files);
+    served
 }
 
 /// Does what the command line asks for. What is to be served is handed back, since `main` alone may start threads.
 fn run(rt: &HostRuntime) -> Result<Option<Asked>, Failure> {
     match task_given(rt)? {
-        Task::Once { paths, at } => run_once(rt, &texts_at(rt, &paths)?, at)?,
-        Task::Check { paths } => run_check(rt, &texts_at(rt, &paths)?)?,
+        Task::Once { paths, at } => answer_texts(
+            rt.alloc(),
+            &texts_at(rt, &paths)?,
+            at,
+            &mut rt.stdin(),
+            &mut rt.stdout(),
+        )?,
+        Task::Check { paths } => {
+            check_texts(rt.alloc(), &texts_at(rt, &paths)?, &mut rt.stdout())?
+        }
         Task::Serve {
             paths,
             service,
@@ -79,26 +147,27 @@ fn main(rt: HostRuntime) -> ExitCode {
                 },
             ),
         ) => match kept {
-            Some(Kept { conn, files }) => serve_recorded(
+            Some(Kept { conn, files }) => match serve_trail(
                 &rt,
                 rt.alloc(),
                 conn,
-                &files,
+                files,
                 market,
                 service,
                 &mut rt.stderr(),
                 &mut rt.stdout(),
-            )
-            .and_then(close_trail),
-            None => serve(
+            ) {
+                Ok(conn) => close_trail(conn),
+                Err(failure) => Err(failure),
+            },
+            None => serve_market(
                 &rt,
                 rt.alloc(),
                 market,
                 service,
                 &mut rt.stderr(),
                 &mut rt.stdout(),
-            )
-            .map_err(Failure::from),
+            ),
         },
         Ok(None) => Ok(()),
         Err(failure) => Err(failure),
@@ -112,8 +181,3 @@ fn main(rt: HostRuntime) -> ExitCode {
         }
     }
 }
-
-#[cfg(test)]
-mod file_tests;
-#[cfg(test)]
-mod tests;

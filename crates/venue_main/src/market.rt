@@ -39,7 +39,10 @@ impl Market {
         };
         let instruments = match Instruments::read(alloc, instruments_text) {
             Ok(instruments) => instruments,
-            Err(fault) => return Err(FilesFault::Instruments(fault)),
+            Err(fault) => {
+                drop(participants);
+                return Err(FilesFault::Instruments(fault));
+            }
         };
         Ok(Market {
             participants,

@@ -109,7 +109,10 @@ fn refusal_of<S: Alter + Drop>(fault: TrailFault, conn: Connection<S>) -> Failur
             }
             Failure::from(TrailFault::Refused)
         }
-        fault => Failure::from(fault),
+        fault => {
+            drop(conn);
+            Failure::from(fault)
+        }
     }
 }
 
@@ -151,7 +154,9 @@ fn tell_read<S: Alter + Drop, W: Write>(
         Err(TrailFault::NoMemory) => return Err(ServeFault::Memory),
         Err(_) => return Err(ServeFault::Trail),
     };
-    match write_counts(sessions, messages_in(rows.as_slice()), output) {
+    let written = write_counts(sessions, messages_in(rows.as_slice()), output);
+    drop(rows);
+    match written {
         Ok(()) => Ok(()),
         Err(_) => Err(ServeFault::Output),
     }

@@ -109,7 +109,8 @@ fn run_lines<R: Threads + Wait + Sync, T: Clock + Send + Drop, K: Keep + Drop>(
     requires items { venue.items ≤ length (K.rows keeper) }
     ensures { IfOk result (λ c. HasServed turns venue.market (K.rows keeper) (closing (map (λ s. s.state) c.sessions.items) (map (λ l. l.account) c.lines.items) c.left.items c.replies_left.items c.queues.items (standing c.venue.day) (K.rows c.keeper) (K.is_clean c.keeper))) }
 {
-    let (closed, _) = run_venue(rt, alloc, venue, keeper, lines, clock, turns)?;
+    let (closed, clock) = run_venue(rt, alloc, venue, keeper, lines, clock, turns)?;
+    drop(clock);
     Ok(closed)
 }
 
@@ -118,15 +119,19 @@ pub(crate) fn keeper_of<T: Clock + Drop, K: Keep + Drop>(closed: Closed<TcpLine<
     ensures { result ≡ closed.keeper }
 {
     let Closed {
-        sessions: _,
+        sessions,
         lines,
-        left: _,
-        replies_left: _,
-        queues: _,
+        left,
+        replies_left,
+        queues,
         venue,
         keeper,
     } = closed;
+    drop(sessions);
     close_lines(lines);
+    drop(left);
+    drop(replies_left);
+    drop(queues);
     drop(venue);
     keeper
 }

@@ -4,8 +4,8 @@ ghost use Rattle.intake_seats.specs.Ends.{AreHands, AreTakes, AreUnusedHands, Ar
 ghost use Rattle.trail_keeper.specs.Written.{LeadsTo};
 
 use super::files::{connect, files};
-use super::items::{ITEMS, LINE, Sent, TRADES, item_of, items_in, moment_of};
-use super::sessions::{Boards, Ends, Sessions, make_boards};
+use super::items::{COUNT, ITEMS, LINE, Sent, TRADES, item_of, items_in, moment_of};
+use super::sessions::{Boards, Ends, NOTHING, Sessions, make_boards};
 use audit_trail::Files;
 use gateway::mem_line::MemClock;
 use instruments::Instruments;
@@ -21,13 +21,17 @@ use trade_lines::print_trades;
 use trail_keeper::{Journal, start_trail};
 use venue_core::Venue;
 use venue_rules::{Keep, fixture_instruments, fixture_participants};
-use venue_worker::{Parts, Worker};
+use venue_worker::{Parts, Queue, Worker};
 
 /// The usual delay between linked orders, in milliseconds.
 const USUAL_DELAY: u64 = 15_000;
 
-/// So many turns deliver all replies to one item: no participant is owed more.
-const TURNS: usize = 3;
+/// So many times the sessions collect what is in their seats: none is owed more replies in a day, and its mark behind them.
+const COLLECTIONS: usize = 8;
+
+/// So many rounds a dismissal makes: a participant is cut once half a second has passed, and each answer of the clock is a millisecond
+/// later.
+const ROUNDS: u64 = 600;
 
 /// What a day came to.
 #[derive(Clone, Copy)]
@@ -58,30 +62,23 @@ fn takes_a_turn<K: Keep + Drop>(
     Ok(worker.run(&mut clock, &ends, &mut marks, 1).is_ok())
 }
 
-// Hands a message over, and collects what the worker answers: how many replies came before the trail refused.
-fn replies_to<K: Keep + Drop>(
+// Hands a message over, and gives the worker one turn to take it; `false` where the trail refused.
+fn takes<K: Keep + Drop>(
     alloc: Global,
     worker: &mut Worker<'_, K>,
     sessions: &mut Sessions<'_>,
     sent: &Sent,
-) -> Option<usize> {
+) -> Option<bool> {
     let item = item_of(alloc, sent)?;
     if !sessions.hand(sent.from, item) {
         return None;
     }
-    let mut count = 0usize;
-    for _ in 0..TURNS {
-        match takes_a_turn(alloc, worker, moment_of(sent)) {
-            Ok(true) => count = count.saturating_add(sessions.collect()),
-            Ok(false) => return Some(count),
-            Err(_) => return None,
-        }
-    }
-    Some(count)
+    takes_a_turn(alloc, worker, moment_of(sent)).ok()
 }
 
-// The items behind the first so many are answered one by one, up to the first that is not: how many are answered then.
-fn answer_each<K: Keep + Drop>(
+// Hands the items behind the first so many over, one by one, up to the first that the trail refuses: how many there are before that.
+// The sessions collect nothing meanwhile, so that what each is owed waits in its seat and its queue.
+fn take_each<K: Keep + Drop>(
     alloc: Global,
     worker: &mut Worker<'_, K>,
     sessions: &mut Sessions<'_>,
@@ -91,15 +88,70 @@ fn answer_each<K: Keep + Drop>(
         if place < first {
             continue;
         }
-        let count = replies_to(alloc, worker, sessions, sent)?;
-        if count == 0 {
+        if !takes(alloc, worker, sessions, sent)? {
             return Some(place);
-        }
-        if count != sent.replies {
-            return None;
         }
     }
     Some(ITEMS.len())
+}
+
+// Has the worker deliver what waits, by turns, or where the trail has refused a row as the sessions are to end, and the sessions collect
+// it.
+fn give_all<K: Keep + Drop>(
+    alloc: Global,
+    worker: &mut Worker<'_, K>,
+    sessions: &mut Sessions<'_>,
+    is_stopped: bool,
+) {
+    let moment = moment_of(&ITEMS[ITEMS.len() - 1]);
+    for _ in 0..COLLECTIONS {
+        if is_stopped {
+            worker.dismiss(&mut MemClock::from(moment), ROUNDS);
+        } else {
+            let _ = takes_a_turn(alloc, worker, moment);
+        }
+        sessions.collect();
+    }
+}
+
+// The items behind the first so many are answered, up to the first that the trail refuses: how many are answered then, if each session
+// was given what it was owed for these, and, where the trail has refused a row, its mark.
+fn answer_each<K: Keep + Drop>(
+    alloc: Global,
+    worker: &mut Worker<'_, K>,
+    sessions: &mut Sessions<'_>,
+    first: usize,
+) -> Option<usize> {
+    let answered = take_each(alloc, worker, sessions, first)?;
+    let is_stopped = answered < ITEMS.len();
+    give_all(alloc, worker, sessions, is_stopped);
+    if sessions.have_all(first, answered, is_stopped) {
+        Some(answered)
+    } else {
+        None
+    }
+}
+
+// Whether nothing waits for any participant; and each is cut where the trail has refused a row, and else none.
+fn are_served(queues: &[Queue], are_cut: bool) -> bool {
+    queues.iter().all(|queue| queue.waiting.is_empty() && queue.is_cut == are_cut)
+}
+
+// The same of what is left of a worker.
+fn left_of<K: Keep + Drop>(worker: Worker<'_, K>, answered: Option<usize>) -> (K, Option<usize>) {
+    let Parts {
+        venue,
+        keeper,
+        queues,
+        takes,
+        hands,
+    } = worker.into_parts();
+    drop(venue);
+    drop(takes);
+    drop(hands);
+    let are_served = are_served(queues.as_slice(), answered != Some(ITEMS.len()));
+    drop(queues);
+    (keeper, if are_served { answered } else { None })
 }
 
 // Has a worker over these boards answer the items behind the first so many.
@@ -127,8 +179,9 @@ fn answer_over<S: Alter + Drop>(
         boards,
         hands: session_hands,
         takes: session_takes,
+        collected: [NOTHING; COUNT],
     };
-    let Ok(worker) = Worker::new(
+    let Ok(mut worker) = Worker::new(
         alloc,
         venue,
         journal,
@@ -137,19 +190,12 @@ fn answer_over<S: Alter + Drop>(
         &boards.replies,
         hands,
     ) else {
+        drop(sessions);
         return Err(Fail::new("no worker"));
     };
-    let mut worker = worker;
     let answered = answer_each(alloc, &mut worker, &mut sessions, first);
-    let Parts {
-        venue,
-        keeper,
-        queues: _,
-        takes: _,
-        hands: _,
-    } = worker.into_parts();
-    drop(venue);
-    Ok((keeper, answered))
+    drop(sessions);
+    Ok(left_of(worker, answered))
 }
 
 // The same over new boards.
@@ -163,9 +209,12 @@ fn answer_rest<S: Alter + Drop>(
 {
     let Ok((boards, ends)) = make_boards(alloc) else {
         drop(venue);
+        drop(journal);
         return Err(Fail::new("no boards"));
     };
-    answer_over(alloc, journal, venue, &boards, ends, first)
+    let answered = answer_over(alloc, journal, venue, &boards, ends, first);
+    drop(boards);
+    answered
 }
 
 // How many of the items a journal's trail has.

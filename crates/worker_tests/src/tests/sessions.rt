@@ -2,13 +2,11 @@
 ghost use Rattle.std.specs.Prelude.{◌≡◌, [], None, IfOk, length};
 ghost use Rattle.intake_seats.specs.Ends.{AreHands, AreTakes, AreUnusedHands, AreUnusedTakes, IsSameTaker};
 
+use super::items::{COUNT, owed_to};
 use fix_dictionary::Item;
 use intake_seats::{Board, HandSeat, TakeSeat};
 use std::alloc::{AllocError, Global};
 use venue_worker::Outgoing;
-
-/// So many participants.
-const COUNT: usize = 5;
 
 /// Both boards.
 #[derive(Drop)]
@@ -45,12 +43,57 @@ pub fn make_boards(alloc: Global) -> Result<(Boards, Ends), AllocError>
     Ok((boards, ends))
 }
 
-/// The sessions, with their ends of both boards.
+/// What is in a session's reply seat.
+#[derive(Clone, Copy)]
+enum Found {
+    Nothing,
+    Reply,
+    /// The mark that the session's line is to be dropped.
+    Mark,
+}
+
+/// What a session collected: so many replies, and its marks.
+#[derive(Clone, Copy)]
+pub struct Collected {
+    replies: usize,
+    marks: usize,
+    /// A reply came behind a mark.
+    is_late: bool,
+}
+
+/// What a session collected that found nothing yet.
+pub const NOTHING: Collected = Collected {
+    replies: 0,
+    marks: 0,
+    is_late: false,
+};
+
+impl Collected {
+    fn add(&mut self, found: Found) {
+        match found {
+            Found::Nothing => {}
+            Found::Reply => {
+                self.replies = self.replies.saturating_add(1);
+                self.is_late |= 0 < self.marks;
+            }
+            Found::Mark => self.marks = self.marks.saturating_add(1),
+        }
+    }
+
+    // Whether these are so many replies, and behind them a mark where the session was to end.
+    fn is_all(&self, replies: usize, is_cut: bool) -> bool {
+        let marks = if is_cut { 1 } else { 0 };
+        self.replies == replies && self.marks == marks && !self.is_late
+    }
+}
+
+/// The sessions, with their ends of both boards and what they collected.
 #[derive(Drop)]
 pub struct Sessions<'a> {
     pub boards: &'a Boards,
     pub hands: Vec<HandSeat<Item>>,
     pub takes: Vec<TakeSeat<Outgoing>>,
+    pub collected: [Collected; COUNT],
     ghost own_hands: { AreHands boards.now.intake hands.items },
     ghost own_takes: { AreTakes boards.now.replies takes.items },
 }
@@ -66,25 +109,36 @@ fn hand_over(board: &Board<Item>, hands: &mut Vec<HandSeat<Item>>, place: usize,
     hands[place].hand(board, item).is_ok()
 }
 
-// Takes what is in this seat, and lets it go. Whether there was something.
-fn collect(board: &Board<Outgoing>, take: &mut TakeSeat<Outgoing>) -> bool
+// What was taken from a seat.
+fn found_in(taken: Option<Outgoing>) -> Found {
+    match taken {
+        None => Found::Nothing,
+        Some(Outgoing::Cut) => Found::Mark,
+        Some(Outgoing::Message(message)) => {
+            drop(message);
+            Found::Reply
+        }
+    }
+}
+
+// Takes what is in this seat, and lets it go.
+fn collect(board: &Board<Outgoing>, take: &mut TakeSeat<Outgoing>) -> Found
     requires own { take.old.board ≡ board.now }
     requires free { take.old.in_hand ≡ None }
     ensures { IsSameTaker take.old take.new × (take.new.in_hand ≡ None) }
 {
-    if take.take(board).is_none() {
-        return false;
-    }
-    take.clear(board)
+    let found = found_in(take.take(board));
+    take.clear(board);
+    found
 }
 
 // Of the seat at this place, if there is one.
-fn collect_at(board: &Board<Outgoing>, takes: &mut Vec<TakeSeat<Outgoing>>, place: usize) -> bool
+fn collect_at(board: &Board<Outgoing>, takes: &mut Vec<TakeSeat<Outgoing>>, place: usize) -> Found
     requires { AreTakes board.now takes.old.items }
     ensures { AreTakes board.now takes.new.items }
 {
     if takes.len() <= place {
-        return false;
+        return Found::Nothing;
     }
     collect(board, &mut takes[place])
 }
@@ -95,14 +149,20 @@ impl<'a> Sessions<'a> {
         hand_over(&self.boards.intake, &mut self.hands, place, item)
     }
 
-    /// Each session collects what is in its seat. How many replies there were.
-    pub fn collect(&mut self) -> usize {
-        let mut count = 0usize;
+    /// Each session collects what is in its seat.
+    pub fn collect(&mut self) {
         for place in 0..COUNT {
-            if collect_at(&self.boards.replies, &mut self.takes, place) {
-                count = count.saturating_add(1);
-            }
+            let found = collect_at(&self.boards.replies, &mut self.takes, place);
+            self.collected[place].add(found);
         }
-        count
+    }
+
+    /// Whether each session collected what it was owed for the items between two places, and behind that its mark where it was to end.
+    pub fn have_all(&self, first: usize, last: usize, are_cut: bool) -> bool {
+        let mut have = true;
+        for place in 0..COUNT {
+            have &= self.collected[place].is_all(owed_to(place, first, last), are_cut);
+        }
+        have
     }
 }
