@@ -15,14 +15,15 @@ const BELL: Token = Token(0);
 /// How many milliseconds a thread waits at most. A wake-up that were lost would cost this, and nothing else.
 const LONGEST: u64 = 100;
 
-/// With so many processors the worker spins longer before it waits.
+/// With so many processors the worker spins as long as a session before it waits.
 const MANY_PROCESSORS: usize = 4;
 
 /// How many turns that found nothing a thread makes before it waits.
 #[derive(Clone, Copy)]
 pub struct Spins {
     /// The worker's. Nobody hands it anything while a session reads a piece of a long run of messages and takes it apart, or between one
-    /// order and the next of a desk that waits for each answer; where there are processors enough it is awake then.
+    /// order and the next of a desk that waits for each answer; where there are processors enough it is awake then. Each spin is one of its
+    /// turns, so more of them end a venue sooner.
     pub worker: u64,
     /// A session's, in which the worker answers a message.
     pub session: u64,
@@ -32,7 +33,7 @@ impl Spins {
     /// By how many processors there are.
     pub fn of<R: Threads>(rt: &R) -> Spins {
         let worker = match thread::available_parallelism(rt) {
-            Ok(count) if count.get() >= MANY_PROCESSORS => 1_000,
+            Ok(count) if count.get() >= MANY_PROCESSORS => 200,
             _ => 50,
         };
         Spins {
