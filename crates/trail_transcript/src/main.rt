@@ -3,7 +3,8 @@
 //! The transcript comes on standard input. A line that is set in tells an answer, an empty line and one that begins with `#` are passed
 //! over, and any other line names a play. The plays are played, and the transcript is written anew with what is seen. Where that is the
 //! transcript that came, nothing is written; else the new one is, and the status is 1. A call that is refused for want of memory ends the
-//! program; with the argument `one_refused` one call may be, which is made once more.
+//! program; with the argument `one_refused` one call may be, which is made once more. With the words `time PATH ROWS` nothing is played:
+//! a trail is made in a new file, and it is told how long that many rows take, one transaction each.
 #![tactic(auto)]
 
 mod boards;
@@ -15,26 +16,19 @@ mod older;
 mod opening;
 mod play;
 mod starting;
+mod timing;
 mod working;
 
-use anyhow::{Result, ensure};
+use anyhow::{Result, anyhow, ensure};
 use line::play_lines;
 use play::Play;
 use std::io::Write;
 use std::{env, io};
+use timing::time;
 
-// How many growths may be refused, by the argument.
-fn refusals_allowed(rt: &HostRuntime) -> Result<u32> {
-    for word in env::args(rt)? {
-        if word.as_str() == "one_refused" {
-            return Ok(1);
-        }
-    }
-    Ok(0)
-}
-
-fn main(rt: HostRuntime) -> Result<()> {
-    let mut play = Play::new(rt.alloc(), refusals_allowed(&rt)?);
+/// Plays the transcript, in which so many growths may be refused.
+fn play_all(rt: &HostRuntime, refusals: u32) -> Result<()> {
+    let mut play = Play::new(rt.alloc(), refusals);
     let transcript = io::read_to_string(rt.alloc(), rt.stdin())?;
     play_lines(&mut play, transcript.as_str())?;
     let is_same = play.told() == transcript.as_bytes();
@@ -43,4 +37,27 @@ fn main(rt: HostRuntime) -> Result<()> {
     }
     ensure!(is_same, "other things are seen");
     Ok(())
+}
+
+/// Times so many rows in a new file, where both words are there.
+fn time_rows(rt: &HostRuntime, path: Option<String>, rows: Option<String>) -> Result<()> {
+    let (Some(path), Some(rows)) = (path, rows) else {
+        return Err(anyhow!("usage: trail_transcript time PATH ROWS"));
+    };
+    let rows = rows.as_str().parse::<u64>()?;
+    let milliseconds = time(rt, path.as_str(), rows)?;
+    println!(rt; "{rows} rows in {milliseconds} ms")?;
+    Ok(())
+}
+
+fn main(rt: HostRuntime) -> Result<()> {
+    let mut words = env::args(&rt)?.skip(1);
+    let Some(word) = words.next() else {
+        return play_all(&rt, 0);
+    };
+    match word.as_str() {
+        "one_refused" => play_all(&rt, 1),
+        "time" => time_rows(&rt, words.next(), words.next()),
+        _ => Err(anyhow!("usage: trail_transcript [one_refused | time PATH ROWS]")),
+    }
 }

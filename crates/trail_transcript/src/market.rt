@@ -18,8 +18,8 @@ const INSTRUMENTS: &str =
 /// The usual delay between linked orders, in milliseconds.
 const USUAL_DELAY: u64 = 15_000;
 
-// The texts of both files.
-fn make_files(alloc: Global) -> Result<Files, AllocError> {
+/// The texts of both files.
+pub fn make_files(alloc: Global) -> Result<Files, AllocError> {
     let participants = Vec::from_slice(alloc, PARTICIPANTS.as_bytes())?;
     let instruments = Vec::from_slice(alloc, INSTRUMENTS.as_bytes())?;
     Ok(Files {

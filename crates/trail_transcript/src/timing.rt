@@ -1,37 +1,22 @@
-//! The rows that are recorded.
+//! How fast a trail records rows into a file, one transaction each.
 
 ghost use Rattle.std.specs.Prelude.{◌≡◌, IfOk};
 
+use crate::market::make_files;
+use crate::play::START;
 use anyhow::{Result, anyhow};
-use audit_trail::{FileText, Files, Trail};
+use audit_trail::Trail;
 use sef_moment::Moment;
-use sqlite::Alter;
+use sqlite::{Alter, Connection};
 use std::alloc::Global;
+use std::time::Instant;
 use venue_rules::{RowText, TrailRow};
-
-/// 3 March 2025, 14:30 UTC.
-const START: u64 = 1_741_012_200_000;
 
 /// An order of 95 bytes, which is near the mean.
 const TEXT: &[u8] =
     b"35=D\x0111=order-0001\x01583=link-0001\x0155=IRS5Y\x0154=1\x0138=100\x0140=2\x0144=2.5\x0159=0\x0160=20250303-14:30:00.000\x01";
 
-const PARTICIPANTS: &[u8] = b"venue = \"SEF\"\n[[participant]]\nname = \"ALPHA\"\n";
-
-const INSTRUMENTS: &[u8] =
-    b"[[instrument]]\nsymbol = \"IRS5Y\"\ntick = 2500\nleast = 1\nrfq_life = 30\n";
-
-/// The files of a venue with one participant and one instrument.
-pub fn small_files(alloc: Global) -> Result<Files> {
-    let participants = Vec::from_slice(alloc, PARTICIPANTS)?;
-    let instruments = Vec::from_slice(alloc, INSTRUMENTS)?;
-    Ok(Files {
-        participants: FileText::from_vec(participants),
-        instruments: FileText::from_vec(instruments),
-    })
-}
-
-/// The row with this number.
+// The row with this number.
 fn row(alloc: Global, n: u64) -> Result<TrailRow>
     ensures { IfOk result (λ row. row.n ≡ n) }
 {
@@ -49,7 +34,6 @@ fn row(alloc: Global, n: u64) -> Result<TrailRow>
     })
 }
 
-/// Records the next row.
 fn record_next<S: Alter>(alloc: Global, trail: &mut Trail<S>) -> Result<()> {
     let Some(n) = trail.len().checked_add(1) else {
         return Err(anyhow!("too many rows"));
@@ -61,10 +45,27 @@ fn record_next<S: Alter>(alloc: Global, trail: &mut Trail<S>) -> Result<()> {
     Ok(())
 }
 
-/// Records so many rows, one transaction each.
-pub fn record_rows<S: Alter>(alloc: Global, trail: &mut Trail<S>, rows: u64) -> Result<()> {
+fn record_rows<S: Alter>(alloc: Global, trail: &mut Trail<S>, rows: u64) -> Result<()> {
     for _ in 0..rows {
         record_next(alloc, trail)?;
     }
     Ok(())
+}
+
+/// Makes a trail in a new file, and says how many milliseconds it takes to record so many rows in it.
+pub fn time(rt: &HostRuntime, path: &str, rows: u64) -> Result<u64> {
+    let alloc = rt.alloc();
+    let conn = Connection::open(rt, path)?;
+    let Ok(mut trail) = Trail::create(alloc, conn, &make_files(alloc)?) else {
+        return Err(anyhow!("no trail was made"));
+    };
+    let start = Instant::now(rt)?;
+    record_rows(alloc, &mut trail, rows)?;
+    let taken = start.elapsed(rt)?;
+    Ok(
+        taken
+            .as_secs()
+            .saturating_mul(1000)
+            .saturating_add(u64::from(taken.subsec_millis())),
+    )
 }
