@@ -2,8 +2,9 @@
 
 use crate::refusals::Refusals;
 use anyhow::Result;
-use fix_dictionary::{App, DictFault, read_app};
+use fix_dictionary::App;
 use fix_fields::{FieldFault, split};
+use fix_reading::{DictFault, read_app};
 use std::alloc::{AllocError, Global};
 
 /// Appends bytes with one byte in the place of another.

@@ -3,8 +3,9 @@ ghost use Rattle.std.specs.Prelude.{◌≡◌, IfOk};
 
 use crate::play::{Play, START};
 use anyhow::{Result, anyhow};
-use fix_dictionary::{BoxedApp, DictFault, Item, SequenceNumber, read_app};
+use fix_dictionary::{BoxedApp, Item, SequenceNumber};
 use fix_fields::{FieldFault, split};
+use fix_reading::{DictFault, read_app};
 use sef_moment::Moment;
 use std::alloc::{AllocError, Global};
 use venue_rules::{RowText, TrailRow};
