@@ -1,3 +1,4 @@
+pub mod Fits
 pub mod Kinds
 pub mod Lent
 pub mod Text

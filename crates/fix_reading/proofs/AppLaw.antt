@@ -7,9 +7,9 @@ use Rattle.sef_moment.specs.Calendar.{IsDate, day_number, year_of, month_of, day
 use Rattle.sef_moment.specs.Utc.{utc_text}
 use Rattle.sef_moment.proofs.DateLemmas.{date_of-is, day_number-date_of, day_number-day_count, IsCivilDate-is_date, same_date}
 use Rattle.fix_fields.specs.Fields.{Entry, AreFields}
-use Rattle.fix_reading.specs.declared.faults.DictFault.{DictFault}
-use Rattle.fix_reading.specs.declared.faults.DictFault.TheVariants.{Format}
-use Rattle.fix_reading.specs.declared.table.Form.TheVariants as form_of_row
+use Rattle.fix_tables.specs.declared.faults.DictFault.{DictFault}
+use Rattle.fix_tables.specs.declared.faults.DictFault.TheVariants.{Format}
+use Rattle.fix_tables.specs.declared.table.Form.TheVariants as form_of_row
 use Rattle.fix_dictionary.specs.declared.kinds.MessageType.{MessageType}
 use Rattle.fix_dictionary.specs.declared.kinds.MessageType.TheVariants as types
 use Rattle.fix_dictionary.specs.declared.messages.App.{App}
@@ -17,13 +17,13 @@ use Rattle.fix_dictionary.specs.declared.messages.App.TheVariants as app
 use Rattle.fix_dictionary.specs.declared.messages.Header.{Header}
 use Rattle.fix_dictionary.specs.declared.messages.Body.TheVariants as body
 use Rattle.fix_dictionary.specs.declared.messages.Message.{Message}
-use Rattle.fix_reading.specs.Table.{needs}
-use Rattle.fix_reading.specs.Tables.{rows_of}
+use Rattle.fix_tables.specs.Table.{needs}
+use Rattle.fix_tables.specs.Tables.{rows_of}
 use Rattle.fix_dictionary.specs.Kinds.{type_of, is_session}
 use Rattle.fix_dictionary.specs.Text.{Slot, fields_of, app_kind, app_slots, message_slots}
 use Rattle.fix_reading.specs.Applications.{plain_header, SpellsApp}
 use Rattle.fix_dictionary.specs.Values.{IsText}
-use Rattle.fix_reading.specs.Fits.{FitsHeader, FitsBody}
+use Rattle.fix_dictionary.specs.Fits.{FitsHeader, FitsBody}
 use Rattle.fix_reading.proofs.FormLemmas as form
 use Rattle.fix_reading.proofs.LookLemmas.{Shows, slot_of, has_slot, value_slot, single_fields, are_distinct, fill_fields, have_tags}
 use Rattle.fix_reading.proofs.HeaderLaw.{the_message}

@@ -5,7 +5,7 @@ use Rattle.std.proofs.lemmas.Bool.Decides.{nat_tests}
 use Rattle.fix_fields.specs.declared.value.ValueFault.{ValueFault}
 use Rattle.fix_fields.specs.declared.value.ValueFault.TheVariants.{Range}
 use Rattle.fix_fields.specs.Forms.{within, integer_in, decimal_in, quantity_of, amount_of, price_of, signed}
-use Rattle.fix_reading.specs.Table.{unless}
+use Rattle.fix_tables.specs.Table.{unless}
 
 err_not_ok : {X : Type 0} (e : ValueFault) (x : X) → Err e ≡ Ok x → ⊥
 err_not_ok e x h = search (h, rules)

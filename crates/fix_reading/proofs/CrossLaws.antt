@@ -5,28 +5,28 @@ use Rattle.std.proofs.lemmas.Bool.Decides.{nat_tests}
 use Rattle.fix_fields.specs.Fields.{Entry, value_of, AreFields}
 use Rattle.fix_fields.specs.Forms.{price_text}
 use Rattle.fix_dictionary.specs.declared.values.Side.{Side}
-use Rattle.fix_reading.specs.declared.table.Row.{Row}
+use Rattle.fix_tables.specs.declared.table.Row.{Row}
 use Rattle.fix_dictionary.specs.declared.kinds.MessageType.TheVariants as types
-use Rattle.fix_reading.specs.declared.places.Stand.TheVariants.{Within, Begins}
-use Rattle.fix_reading.specs.declared.places.State.{State}
+use Rattle.fix_tables.specs.declared.places.Stand.TheVariants.{Within, Begins}
+use Rattle.fix_tables.specs.declared.places.State.{State}
 use Rattle.fix_dictionary.specs.declared.messages.App.TheVariants as app
 use Rattle.fix_dictionary.specs.declared.messages.Body.TheVariants as body
 use Rattle.fix_dictionary.specs.declared.messages.Header.{Header}
 use Rattle.fix_dictionary.specs.declared.messages.CrossSide.{CrossSide}
 use Rattle.fix_dictionary.specs.declared.messages.NewOrderCross.{NewOrderCross}
 use Rattle.fix_dictionary.specs.Values.{IsText}
-use Rattle.fix_reading.specs.Table.{needs, takes, inside}
-use Rattle.fix_reading.specs.declared.table.Form.TheVariants.{Integer, Identifier, Character, Price, Quantity, OneOrTwo}
-use Rattle.fix_reading.specs.Tables.{header_rows, side_rows, new_order_cross_rows}
-use Rattle.fix_reading.specs.Told.{told, some_or, number_in, character_in, price_in}
-use Rattle.fix_reading.specs.Fits.{FitsHeader, FitsCrossSide, FitsNewOrderCross}
+use Rattle.fix_tables.specs.Table.{needs, takes, inside}
+use Rattle.fix_tables.specs.declared.table.Form.TheVariants.{Integer, Identifier, Character, Price, Quantity, OneOrTwo}
+use Rattle.fix_tables.specs.Tables.{header_rows, side_rows, new_order_cross_rows}
+use Rattle.fix_tables.specs.Told.{told, some_or, number_in, character_in, price_in}
+use Rattle.fix_dictionary.specs.Fits.{FitsHeader, FitsCrossSide, FitsNewOrderCross}
 use Rattle.fix_dictionary.specs.Text.{Slot, fields_of, slots_text, header_slots, given, side_text, new_order_cross_slots}
 use Rattle.fix_reading.specs.Messages.{header, cross_side, new_order_cross, fault_as_type, message_as}
-use Rattle.fix_reading.specs.Places.{Placed, placed, start, part, begins, first_begin, first_or_none, second_begin, second_or_none}
-use Rattle.fix_reading.specs.GroupFaults.{miscounted, lacking, placed_fault}
-use Rattle.fix_reading.specs.GroupHolding.{members, Clean}
-use Rattle.fix_reading.specs.Faults.{has_tag}
-use Rattle.fix_reading.specs.Holding.{Holds}
+use Rattle.fix_tables.specs.Places.{Placed, placed, start, part, begins, first_begin, first_or_none, second_begin, second_or_none}
+use Rattle.fix_tables.specs.GroupFaults.{miscounted, lacking, placed_fault}
+use Rattle.fix_tables.specs.GroupHolding.{members, Clean}
+use Rattle.fix_tables.specs.Faults.{has_tag}
+use Rattle.fix_tables.specs.Holding.{Holds}
 use Rattle.fix_reading.proofs.FormLemmas as form
 use Rattle.fix_reading.proofs.HoldLemmas.{HasOwnForms}
 use Rattle.fix_reading.proofs.TableLemmas.{own_forms, own_part, holds_both}

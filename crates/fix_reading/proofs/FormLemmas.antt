@@ -8,16 +8,16 @@ use Rattle.sef_moment.proofs.TestLemmas.{utc-to}
 use Rattle.fix_fields.specs.Forms.{within, integer_in, price_text}
 use Rattle.fix_fields.specs.declared.value.ValueFault.TheVariants as value
 use Rattle.fix_fields.proofs.RoundTrip.{integer_in-decimal, quantity_of-decimal, amount_of-decimal, price_of-price_text}
-use Rattle.fix_reading.specs.declared.table.Form.{Form}
-use Rattle.fix_reading.specs.declared.table.Form.TheVariants as form
-use Rattle.fix_reading.specs.declared.table.Row.{Row}
+use Rattle.fix_tables.specs.declared.table.Form.{Form}
+use Rattle.fix_tables.specs.declared.table.Form.TheVariants as form
+use Rattle.fix_tables.specs.declared.table.Row.{Row}
 use Rattle.fix_dictionary.specs.declared.values.Side.{Side}
 use Rattle.fix_dictionary.specs.declared.values.Side.TheVariants.{Buy, Sell}
 use Rattle.fix_dictionary.specs.Values.{IsText, is_printable, IsNumber, IsFixInt, IsQuantity, IsAmount, IsPrice, IsResend, ends}
-use Rattle.fix_reading.specs.Table.{needs, takes, value_fault, why, unless, text_fault, end_fault}
-use Rattle.fix_reading.specs.Holding.{RowHolds}
-use Rattle.fix_reading.specs.Fits.{Given, IsGraphic, IsMoment}
-use Rattle.fix_reading.specs.Told.{told, number_in, quantity_in, amount_in, price_in, character_in, side_in, flag_in, ok_or}
+use Rattle.fix_tables.specs.Table.{needs, takes, value_fault, why, unless, text_fault, end_fault}
+use Rattle.fix_tables.specs.Holding.{RowHolds}
+use Rattle.fix_dictionary.specs.Fits.{Given, IsGraphic, IsMoment}
+use Rattle.fix_tables.specs.Told.{told, number_in, quantity_in, amount_in, price_in, character_in, side_in, flag_in, ok_or}
 use Rattle.fix_dictionary.specs.Text.{given, flag_text, side_text}
 use Rattle.fix_reading.proofs.ValueLemmas.{IsShort, short_text, short_decimal, short_byte, short_graphic, short_moment, short_price}
 

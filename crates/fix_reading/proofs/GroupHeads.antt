@@ -2,13 +2,13 @@
 use Rattle.std.proofs.Common.{◌≡◌, ℕ, true, Bool, List, [], ◌∷◌, ◌++◌, refl, subst, ◌∙◌, Some, codes, decimal, arith}
 use Rattle.sef_moment.specs.Utc.{utc_text}
 use Rattle.fix_fields.specs.Fields.{AreFields}
-use Rattle.fix_reading.specs.declared.table.Row.{Row}
-use Rattle.fix_reading.specs.declared.table.Form.TheVariants as form_of_row
+use Rattle.fix_tables.specs.declared.table.Row.{Row}
+use Rattle.fix_tables.specs.declared.table.Form.TheVariants as form_of_row
 use Rattle.fix_dictionary.specs.declared.messages.Header.{Header}
-use Rattle.fix_reading.specs.Table.{needs}
-use Rattle.fix_reading.specs.Tables.{header_rows}
+use Rattle.fix_tables.specs.Table.{needs}
+use Rattle.fix_tables.specs.Tables.{header_rows}
 use Rattle.fix_dictionary.specs.Values.{IsText}
-use Rattle.fix_reading.specs.Fits.{FitsHeader}
+use Rattle.fix_dictionary.specs.Fits.{FitsHeader}
 use Rattle.fix_dictionary.specs.Text.{Slot, fields_of, header_slots}
 use Rattle.fix_reading.proofs.FormLemmas as form
 use Rattle.fix_reading.proofs.LookLemmas.{Fill, slot_of, fill_fields}

@@ -9,17 +9,17 @@ use Rattle.fix_fields.specs.Fields.{Entry, value_of, AreFields}
 use Rattle.fix_fields.specs.Forms.{within}
 use Rattle.fix_fields.specs.GroupParts.{tells, is_read_as}
 use Rattle.fix_fields.proofs.RoundTrip.{integer_in-decimal}
-use Rattle.fix_reading.specs.declared.table.Row.{Row}
-use Rattle.fix_reading.specs.declared.places.Stand.{Stand}
-use Rattle.fix_reading.specs.declared.places.Stand.TheVariants.{Aside, Within, Begins, Stray}
-use Rattle.fix_reading.specs.declared.places.State.{State}
-use Rattle.fix_reading.specs.declared.places.Stepped.{Stepped}
-use Rattle.fix_reading.specs.Faults.{form_of, has_tag, faulty, fault_as, is_fault}
-use Rattle.fix_reading.specs.Places.{Placed, group_of, first_tag, is_count, placed, start, step, is_in, part, begins}
-use Rattle.fix_reading.specs.GroupFaults.{repeats, twice, miscounted, or_next, lacking, is_lacking, missing_in, placed_fault}
-use Rattle.fix_reading.specs.Holding.{RowHolds, Holds}
+use Rattle.fix_tables.specs.declared.table.Row.{Row}
+use Rattle.fix_tables.specs.declared.places.Stand.{Stand}
+use Rattle.fix_tables.specs.declared.places.Stand.TheVariants.{Aside, Within, Begins, Stray}
+use Rattle.fix_tables.specs.declared.places.State.{State}
+use Rattle.fix_tables.specs.declared.places.Stepped.{Stepped}
+use Rattle.fix_tables.specs.Faults.{form_of, has_tag, faulty, fault_as, is_fault}
+use Rattle.fix_tables.specs.Places.{Placed, group_of, first_tag, is_count, placed, start, step, is_in, part, begins}
+use Rattle.fix_tables.specs.GroupFaults.{repeats, twice, miscounted, or_next, lacking, is_lacking, missing_in, placed_fault}
+use Rattle.fix_tables.specs.Holding.{RowHolds, Holds}
 use Rattle.fix_dictionary.specs.Text.{Slot, with_slot, fields_of, slots_text, each_slots}
-use Rattle.fix_reading.proofs.TextLemmas.{fields_of_append, slots_text_append}
+use Rattle.fix_dictionary.proofs.TextLemmas.{fields_of_append, slots_text_append}
 use Rattle.fix_reading.proofs.HoldLemmas.{HasOwnForms}
 use Rattle.fix_reading.proofs.LookLemmas.{are_single, are_distinct, Fill, has_tag_append, both_true, not_true, either_false, single_fields, row_given, no_fault}
 

@@ -2,14 +2,14 @@
 use Rattle.std.proofs.Common.{◌≡◌, ℕ, List, ◌++◌, refl, sym, ap, subst, ◌∙◌, length, map}
 use Rattle.std.proofs.lemmas.List.{length-map}
 use Rattle.fix_fields.specs.Fields.{Entry}
-use Rattle.fix_reading.specs.Tables.{header_rows, entry_type_rows, instrument_rows, market_data_entry_rows, market_data_request_rows, market_data_snapshot_rows}
+use Rattle.fix_tables.specs.Tables.{header_rows, entry_type_rows, instrument_rows, market_data_entry_rows, market_data_request_rows, market_data_snapshot_rows}
 use Rattle.fix_dictionary.specs.declared.kinds.MessageType.TheVariants as types
 use Rattle.fix_dictionary.specs.declared.messages.MarketDataEntry.{MarketDataEntry}
 use Rattle.fix_dictionary.specs.Values.{FitsEntryTypes, FitsEntries}
 use Rattle.fix_reading.specs.Messages.{entry_type, market_data_entry}
-use Rattle.fix_reading.specs.Places.{Placed, part, begins, instances, sole}
-use Rattle.fix_reading.specs.Holding.{Holds}
-use Rattle.fix_reading.specs.GroupHolding.{members, Clean, EachHolds}
+use Rattle.fix_tables.specs.Places.{Placed, part, begins, instances, sole}
+use Rattle.fix_tables.specs.Holding.{Holds}
+use Rattle.fix_tables.specs.GroupHolding.{members, Clean, EachHolds}
 use Rattle.fix_reading.proofs.HoldLemmas.{HasOwnForms}
 use Rattle.fix_reading.proofs.TableLemmas.{own_forms, own_part}
 use Rattle.fix_reading.proofs.PlaceLemmas.{flat_holds, each_holds, count_range, sole_holds}

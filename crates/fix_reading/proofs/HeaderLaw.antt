@@ -6,11 +6,11 @@ use Rattle.fix_dictionary.specs.declared.messages.Body.{Body}
 use Rattle.fix_dictionary.specs.declared.messages.Message.{Message}
 use Rattle.fix_dictionary.specs.declared.messages.Header.{Header}
 use Rattle.fix_dictionary.specs.Values.{IsText}
-use Rattle.fix_reading.specs.Tables.{header_rows}
-use Rattle.fix_reading.specs.Told.{told, some_or, sequence_number_in, flag_in}
+use Rattle.fix_tables.specs.Tables.{header_rows}
+use Rattle.fix_tables.specs.Told.{told, some_or, sequence_number_in, flag_in}
 use Rattle.fix_dictionary.specs.Text.{Slot, header_slots, message_slots, body_kind, body_slots}
 use Rattle.fix_reading.specs.Messages.{header}
-use Rattle.fix_reading.specs.Fits.{FitsHeader}
+use Rattle.fix_dictionary.specs.Fits.{FitsHeader}
 use Rattle.fix_reading.proofs.FormLemmas as form
 use Rattle.fix_reading.proofs.LookLemmas.{Fill, Shows}
 

@@ -6,11 +6,11 @@ use Rattle.std.proofs.lemmas.Bool.{cases_eq}
 use Rattle.fix_fields.specs.declared.value.ValueFault.{ValueFault}
 use Rattle.fix_fields.specs.declared.value.ValueFault.TheVariants as value
 use Rattle.fix_fields.specs.Fields.{Entry, value_of}
-use Rattle.fix_reading.specs.declared.table.Form.{Form}
-use Rattle.fix_reading.specs.declared.table.Row.{Row}
-use Rattle.fix_reading.specs.declared.faults.DictFault.{DictFault}
-use Rattle.fix_reading.specs.Faults.{form_of, has_tag, missing, faulty, fault_as, is_fault, first_fault, or_else, repeated}
-use Rattle.fix_reading.specs.Holding.{RowHolds, Holds}
+use Rattle.fix_tables.specs.declared.table.Form.{Form}
+use Rattle.fix_tables.specs.declared.table.Row.{Row}
+use Rattle.fix_tables.specs.declared.faults.DictFault.{DictFault}
+use Rattle.fix_tables.specs.Faults.{form_of, has_tag, missing, faulty, fault_as, is_fault, first_fault, or_else, repeated}
+use Rattle.fix_tables.specs.Holding.{RowHolds, Holds}
 
 pub some_not_none : {X : Type 0} (x : X) → Some x ≡ None → ⊥
 some_not_none x h = search (h, rules)

@@ -17,11 +17,8 @@ pub mod PlaceLemmas
 pub mod PrintedLaws
 pub mod QuoteLaws
 pub mod QuoteRanges
-pub mod ReadLemmas
 pub mod RequestLaws
 pub mod ResendLemmas
-pub mod RowLemmas
 pub mod SessionLaws
 pub mod TableLemmas
-pub mod TextLemmas
 pub mod ValueLemmas

@@ -7,11 +7,11 @@ use Rattle.std.proofs.lemmas.Fmt.{length-decimal-le}
 use Rattle.fix_fields.specs.declared.value.ValueFault.{ValueFault}
 use Rattle.fix_fields.specs.declared.value.ValueFault.TheVariants as value
 use Rattle.fix_fields.specs.Fields.{Entry, value_of, IsTag, AreFields, field_text, fields_text}
-use Rattle.fix_reading.specs.declared.table.Row.{Row}
-use Rattle.fix_reading.specs.Table.{value_fault}
-use Rattle.fix_reading.specs.Faults.{form_of, has_tag, missing, faulty, fault_as, is_fault, first_fault, repeated}
-use Rattle.fix_reading.specs.Holding.{RowHolds, Holds}
-use Rattle.fix_reading.specs.Fits.{Given}
+use Rattle.fix_tables.specs.declared.table.Row.{Row}
+use Rattle.fix_tables.specs.Table.{value_fault}
+use Rattle.fix_tables.specs.Faults.{form_of, has_tag, missing, faulty, fault_as, is_fault, first_fault, repeated}
+use Rattle.fix_tables.specs.Holding.{RowHolds, Holds}
+use Rattle.fix_dictionary.specs.Fits.{Given}
 use Rattle.fix_dictionary.specs.Text.{Slot, with_slot, fields_of, slots_text}
 use Rattle.fix_reading.proofs.FormLemmas.{Filled, longest}
 use Rattle.fix_reading.proofs.ValueLemmas.{IsShort}

@@ -3,10 +3,10 @@ use Rattle.std.proofs.Common.{◌≡◌, ℕ, ◌+◌, ◌≤◌, true, false, B
 use Rattle.std.proofs.lemmas.Bool.Decides.{nat_tests}
 use Rattle.fix_fields.specs.Fields.{Entry, value_of, AreFields}
 use Rattle.fix_fields.specs.Forms.{price_text}
-use Rattle.fix_reading.specs.declared.table.Row.{Row}
+use Rattle.fix_tables.specs.declared.table.Row.{Row}
 use Rattle.fix_dictionary.specs.declared.kinds.MessageType.TheVariants as types
-use Rattle.fix_reading.specs.declared.places.Stand.TheVariants.{Within, Begins}
-use Rattle.fix_reading.specs.declared.places.State.{State}
+use Rattle.fix_tables.specs.declared.places.Stand.TheVariants.{Within, Begins}
+use Rattle.fix_tables.specs.declared.places.State.{State}
 use Rattle.fix_dictionary.specs.declared.messages.App.TheVariants as app
 use Rattle.fix_dictionary.specs.declared.messages.Body.TheVariants as body
 use Rattle.fix_dictionary.specs.declared.messages.Header.{Header}
@@ -14,17 +14,17 @@ use Rattle.fix_dictionary.specs.declared.messages.MarketDataEntry.{MarketDataEnt
 use Rattle.fix_dictionary.specs.declared.messages.MarketDataSnapshot.{MarketDataSnapshot}
 use Rattle.fix_dictionary.specs.declared.messages.MarketDataRequest.{MarketDataRequest}
 use Rattle.fix_dictionary.specs.Values.{IsText}
-use Rattle.fix_reading.specs.Table.{needs, inside}
-use Rattle.fix_reading.specs.declared.table.Form.TheVariants.{Integer, Identifier, Character}
-use Rattle.fix_reading.specs.Tables.{header_rows, entry_type_rows, market_data_entry_rows, market_data_request_rows, market_data_snapshot_rows}
-use Rattle.fix_reading.specs.Told.{told, some_or, number_in, character_in, price_in, amount_in}
-use Rattle.fix_reading.specs.Fits.{FitsHeader, FitsMarketDataEntry, FitsMarketDataRequest, FitsMarketDataSnapshot, IsGraphic}
+use Rattle.fix_tables.specs.Table.{needs, inside}
+use Rattle.fix_tables.specs.declared.table.Form.TheVariants.{Integer, Identifier, Character}
+use Rattle.fix_tables.specs.Tables.{header_rows, entry_type_rows, market_data_entry_rows, market_data_request_rows, market_data_snapshot_rows}
+use Rattle.fix_tables.specs.Told.{told, some_or, number_in, character_in, price_in, amount_in}
+use Rattle.fix_dictionary.specs.Fits.{FitsHeader, FitsMarketDataEntry, FitsMarketDataRequest, FitsMarketDataSnapshot, IsGraphic}
 use Rattle.fix_dictionary.specs.Text.{Slot, fields_of, slots_text, header_slots, each_slots, market_data_request_slots, market_data_snapshot_slots, given}
 use Rattle.fix_reading.specs.Messages.{header, market_data_entry, market_data_request, market_data_snapshot, entry_type, fault_as_type, message_as}
-use Rattle.fix_reading.specs.Places.{Placed, placed, start, part, begins, sole, first_of}
-use Rattle.fix_reading.specs.GroupFaults.{miscounted, lacking, placed_fault}
-use Rattle.fix_reading.specs.GroupHolding.{members}
-use Rattle.fix_reading.specs.Holding.{Holds}
+use Rattle.fix_tables.specs.Places.{Placed, placed, start, part, begins, sole, first_of}
+use Rattle.fix_tables.specs.GroupFaults.{miscounted, lacking, placed_fault}
+use Rattle.fix_tables.specs.GroupHolding.{members}
+use Rattle.fix_tables.specs.Holding.{Holds}
 use Rattle.fix_reading.proofs.FormLemmas as form
 use Rattle.fix_reading.proofs.HoldLemmas.{HasOwnForms}
 use Rattle.fix_reading.proofs.TableLemmas.{own_forms, own_part, holds_both}

@@ -8,17 +8,17 @@ use Rattle.fix_dictionary.specs.declared.messages.Body.{Body}
 use Rattle.fix_dictionary.specs.declared.messages.Body.TheVariants as body
 use Rattle.fix_dictionary.specs.declared.messages.Message.{Message}
 use Rattle.fix_dictionary.specs.declared.messages.Header.{Header}
-use Rattle.fix_reading.specs.declared.table.Row.{Row}
+use Rattle.fix_tables.specs.declared.table.Row.{Row}
 use Rattle.fix_dictionary.specs.declared.kinds.MessageType.{MessageType}
 use Rattle.fix_dictionary.specs.declared.kinds.MessageType.TheVariants as types
 use Rattle.fix_dictionary.specs.Values.{IsText}
 use Rattle.fix_dictionary.specs.Kinds.{type_of, is_grouped}
-use Rattle.fix_reading.specs.Tables.{header_rows, rows_of}
-use Rattle.fix_reading.specs.Faults.{first_fault}
-use Rattle.fix_reading.specs.Told.{ok_or, some_or}
+use Rattle.fix_tables.specs.Tables.{header_rows, rows_of}
+use Rattle.fix_tables.specs.Faults.{first_fault}
+use Rattle.fix_tables.specs.Told.{ok_or, some_or}
 use Rattle.fix_dictionary.specs.Text.{fields_of, header_slots, message_slots, body_slots, body_kind, message_text}
 use Rattle.fix_reading.specs.Messages.{Spells, body_in, header, begin_in, type_in, fault_as_type, outside}
-use Rattle.fix_reading.specs.Fits.{FitsHeader, FitsBody, FitsMessage}
+use Rattle.fix_dictionary.specs.Fits.{FitsHeader, FitsBody, FitsMessage}
 use Rattle.fix_reading.proofs.FormLemmas as form
 use Rattle.fix_reading.proofs.LookLemmas.{Fill, Shows, shows, are_distinct, fill_both, fill_holds, fill_fields, fill_length, have_tags, room, faultless_where_all_hold}
 use Rattle.fix_reading.proofs.HeaderLaw.{the_message, fill_header, header_back}

@@ -1,7 +1,7 @@
 -- Fields spell a message or have a first fault, and not both.
 use Rattle.std.proofs.Common.{◌≡◌, List, refl, sym, ◌∙◌, Option, Some, None, inl, inr, rules, ◌⊎◌}
 use Rattle.fix_fields.specs.Fields.{Entry}
-use Rattle.fix_reading.specs.declared.faults.DictFault.{DictFault}
+use Rattle.fix_tables.specs.declared.faults.DictFault.{DictFault}
 use Rattle.fix_dictionary.specs.declared.messages.Message.{Message}
 use Rattle.fix_reading.specs.Messages.{Spells, fault_in, message_in, HasFault}
 

@@ -6,11 +6,11 @@ use Rattle.fix_dictionary.specs.declared.values.Side.{Side}
 use Rattle.fix_dictionary.specs.declared.messages.App.TheVariants as app
 use Rattle.fix_dictionary.specs.declared.messages.Body.TheVariants as body
 use Rattle.fix_dictionary.specs.declared.messages.Header.{Header}
-use Rattle.fix_reading.specs.Tables as rows
-use Rattle.fix_reading.specs.Told.{told, some_or, number_in, quantity_in, amount_in, price_in, character_in, side_in}
+use Rattle.fix_tables.specs.Tables as rows
+use Rattle.fix_tables.specs.Told.{told, some_or, number_in, quantity_in, amount_in, price_in, character_in, side_in}
 use Rattle.fix_dictionary.specs.Text as text
 use Rattle.fix_reading.specs.Messages as fields_tell
-use Rattle.fix_reading.specs.Fits.{FitsNewOrderSingle, FitsOrderCancelRequest, FitsOrderCancelReplaceRequest, FitsExecutionReport, FitsOrderCancelReject}
+use Rattle.fix_dictionary.specs.Fits.{FitsNewOrderSingle, FitsOrderCancelRequest, FitsOrderCancelReplaceRequest, FitsExecutionReport, FitsOrderCancelReject}
 use Rattle.fix_reading.proofs.FormLemmas as form
 use Rattle.fix_reading.proofs.LookLemmas.{Fill, Shows}
 use Rattle.fix_reading.proofs.HeaderLaw.{the_message}

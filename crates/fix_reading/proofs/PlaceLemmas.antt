@@ -11,19 +11,19 @@ use Rattle.std.specs.List.{list_all}
 use Rattle.std.specs.Str.Parse.{digits_value}
 use Rattle.fix_fields.specs.Forms.{integer_in, within}
 use Rattle.fix_fields.specs.GroupParts.{tells, is_read_as}
-use Rattle.fix_reading.specs.declared.table.Form.{Form}
-use Rattle.fix_reading.specs.declared.table.Form.TheVariants.{Integer}
-use Rattle.fix_reading.specs.declared.table.Row.{Row}
-use Rattle.fix_reading.specs.declared.places.Stand.{Stand}
-use Rattle.fix_reading.specs.declared.places.Stand.TheVariants.{Aside, Within, Begins, Stray}
-use Rattle.fix_reading.specs.declared.places.State.{State}
-use Rattle.fix_reading.specs.Table.{value_fault, why, needs}
+use Rattle.fix_tables.specs.declared.table.Form.{Form}
+use Rattle.fix_tables.specs.declared.table.Form.TheVariants.{Integer}
+use Rattle.fix_tables.specs.declared.table.Row.{Row}
+use Rattle.fix_tables.specs.declared.places.Stand.{Stand}
+use Rattle.fix_tables.specs.declared.places.Stand.TheVariants.{Aside, Within, Begins, Stray}
+use Rattle.fix_tables.specs.declared.places.State.{State}
+use Rattle.fix_tables.specs.Table.{value_fault, why, needs}
 use Rattle.fix_reading.proofs.BoundLemmas.{ok_then, within_test, integer_bound}
-use Rattle.fix_reading.specs.Faults.{form_of, has_tag, faulty, fault_as}
-use Rattle.fix_reading.specs.Places.{Placed, first_tag, is_count, placed, step, start, is_in, part, begins, with_begin, sole, first_of}
-use Rattle.fix_reading.specs.GroupFaults.{miscounted, is_wrong, or_next, lacks, lacking, is_lacking, missing_in, placed_fault}
-use Rattle.fix_reading.specs.GroupHolding.{members, Clean, EachHolds}
-use Rattle.fix_reading.specs.Holding.{RowHolds, Holds}
+use Rattle.fix_tables.specs.Faults.{form_of, has_tag, faulty, fault_as}
+use Rattle.fix_tables.specs.Places.{Placed, first_tag, is_count, placed, step, start, is_in, part, begins, with_begin, sole, first_of}
+use Rattle.fix_tables.specs.GroupFaults.{miscounted, is_wrong, or_next, lacks, lacking, is_lacking, missing_in, placed_fault}
+use Rattle.fix_tables.specs.GroupHolding.{members, Clean, EachHolds}
+use Rattle.fix_tables.specs.Holding.{RowHolds, Holds}
 use Rattle.fix_reading.proofs.HoldLemmas.{HasOwnForms, or_else_none, cond_none, neither, absent, not_required, some_not_none}
 use Rattle.fix_reading.proofs.LookLemmas.{has_tag_append}
 

@@ -8,12 +8,12 @@ use Rattle.fix_dictionary.specs.declared.messages.Body.{Body}
 use Rattle.fix_dictionary.specs.declared.messages.Body.TheVariants as body
 use Rattle.fix_dictionary.specs.declared.messages.Message.{Message}
 use Rattle.fix_dictionary.specs.declared.messages.Header.{Header}
-use Rattle.fix_reading.specs.Tables.{header_rows}
+use Rattle.fix_tables.specs.Tables.{header_rows}
 use Rattle.fix_dictionary.specs.Values.{IsText}
 use Rattle.fix_reading.specs.Messages.{Spells}
 use Rattle.fix_reading.specs.Applications.{SpellsApp}
 use Rattle.fix_dictionary.specs.Text.{Slot, fields_of, slots_text, header_slots, message_slots, message_text, app_text, app_slots}
-use Rattle.fix_reading.specs.Fits.{FitsHeader, FitsBody, FitsMessage}
+use Rattle.fix_dictionary.specs.Fits.{FitsHeader, FitsBody, FitsMessage}
 use Rattle.fix_reading.proofs.LookLemmas.{fill_fields, fill_length}
 use Rattle.fix_reading.proofs.HeaderLaw.{the_message, fill_header}
 use Rattle.fix_reading.proofs.MessageLaw as flat

@@ -2,17 +2,17 @@
 use Rattle.std.proofs.Common.{◌≡◌, ℕ, ◌≤◌, true, List, [], ◌∷◌, ◌++◌, refl, sym, subst, arith, length, map, Option, Some, None}
 use Rattle.std.specs.List.{AllByRecursion}
 use Rattle.fix_fields.specs.Fields.{value_of}
-use Rattle.fix_reading.specs.Table.{takes}
-use Rattle.fix_reading.specs.declared.table.Form.TheVariants.{Integer}
-use Rattle.fix_reading.specs.Tables.{header_rows, asked_rows, party_rows, instrument_rows, quote_request_rows, quote_rows, quote_request_reject_rows}
-use Rattle.fix_reading.specs.declared.table.Row.{Row}
+use Rattle.fix_tables.specs.Table.{takes}
+use Rattle.fix_tables.specs.declared.table.Form.TheVariants.{Integer}
+use Rattle.fix_tables.specs.Tables.{header_rows, asked_rows, party_rows, instrument_rows, quote_request_rows, quote_rows, quote_request_reject_rows}
+use Rattle.fix_tables.specs.declared.table.Row.{Row}
 use Rattle.fix_dictionary.specs.declared.kinds.MessageType.TheVariants as types
 use Rattle.fix_dictionary.specs.declared.messages.Party.{Party}
 use Rattle.fix_dictionary.specs.Values.{FitsParties}
 use Rattle.fix_reading.specs.Messages.{party, counted_parties, parties_in}
-use Rattle.fix_reading.specs.Places.{Placed, is_count, first_tag, part, begins, instances, first_begin, first_or_none, sole}
-use Rattle.fix_reading.specs.Holding.{RowHolds, Holds}
-use Rattle.fix_reading.specs.GroupHolding.{members, Clean, EachHolds}
+use Rattle.fix_tables.specs.Places.{Placed, is_count, first_tag, part, begins, instances, first_begin, first_or_none, sole}
+use Rattle.fix_tables.specs.Holding.{RowHolds, Holds}
+use Rattle.fix_tables.specs.GroupHolding.{members, Clean, EachHolds}
 use Rattle.fix_reading.proofs.HoldLemmas.{HasOwnForms}
 use Rattle.fix_reading.proofs.TableLemmas.{own_forms, own_part}
 use Rattle.fix_reading.proofs.PlaceLemmas.{flat_holds, each_holds, count_range, counted, sole_holds}

@@ -6,10 +6,10 @@ use Rattle.sef_moment.specs.Utc.{utc_text, moment_of}
 use Rattle.fix_fields.specs.Fields.{Entry, value_of, AreFields}
 use Rattle.fix_fields.specs.Forms.{price_text}
 use Rattle.fix_dictionary.specs.declared.values.Side.{Side}
-use Rattle.fix_reading.specs.declared.table.Row.{Row}
+use Rattle.fix_tables.specs.declared.table.Row.{Row}
 use Rattle.fix_dictionary.specs.declared.kinds.MessageType.TheVariants as types
-use Rattle.fix_reading.specs.declared.places.Stand.TheVariants.{Within, Begins}
-use Rattle.fix_reading.specs.declared.places.State.{State}
+use Rattle.fix_tables.specs.declared.places.Stand.TheVariants.{Within, Begins}
+use Rattle.fix_tables.specs.declared.places.State.{State}
 use Rattle.fix_dictionary.specs.declared.messages.App.TheVariants as app
 use Rattle.fix_dictionary.specs.declared.messages.Body.TheVariants as body
 use Rattle.fix_dictionary.specs.declared.messages.Header.{Header}
@@ -18,17 +18,17 @@ use Rattle.fix_dictionary.specs.declared.messages.QuoteRequest.{QuoteRequest}
 use Rattle.fix_dictionary.specs.declared.messages.Quote.{Quote}
 use Rattle.fix_dictionary.specs.declared.messages.QuoteRequestReject.{QuoteRequestReject}
 use Rattle.fix_dictionary.specs.Values.{IsText, FitsParties}
-use Rattle.fix_reading.specs.Table.{needs, takes, inside}
-use Rattle.fix_reading.specs.declared.table.Form.TheVariants.{Integer, Identifier, Character, Price, Quantity, Utc, Printable}
-use Rattle.fix_reading.specs.Tables.{header_rows, party_rows, asked_rows, quote_request_rows, quote_rows, quote_request_reject_rows}
-use Rattle.fix_reading.specs.Told.{told, some_or, number_in, character_in, price_in, quantity_in, side_in}
-use Rattle.fix_reading.specs.Fits.{FitsHeader, FitsParty, FitsQuoteRequest, FitsQuote, FitsQuoteRequestReject}
+use Rattle.fix_tables.specs.Table.{needs, takes, inside}
+use Rattle.fix_tables.specs.declared.table.Form.TheVariants.{Integer, Identifier, Character, Price, Quantity, Utc, Printable}
+use Rattle.fix_tables.specs.Tables.{header_rows, party_rows, asked_rows, quote_request_rows, quote_rows, quote_request_reject_rows}
+use Rattle.fix_tables.specs.Told.{told, some_or, number_in, character_in, price_in, quantity_in, side_in}
+use Rattle.fix_dictionary.specs.Fits.{FitsHeader, FitsParty, FitsQuoteRequest, FitsQuote, FitsQuoteRequestReject}
 use Rattle.fix_dictionary.specs.Text.{Slot, fields_of, slots_text, header_slots, each_slots, given, side_text, party_slots, party_count, quote_request_slots, quote_slots, quote_rest_slots, quote_request_reject_slots}
 use Rattle.fix_reading.specs.Messages.{header, party, counted_parties, parties_in, quote_request, quote, quote_request_reject, fault_as_type, message_as}
-use Rattle.fix_reading.specs.Places.{Placed, is_count, first_tag, placed, start, part, begins, instances, sole, first_of, first_begin, first_or_none}
-use Rattle.fix_reading.specs.GroupFaults.{miscounted, lacking, placed_fault}
-use Rattle.fix_reading.specs.GroupHolding.{members}
-use Rattle.fix_reading.specs.Faults.{has_tag}
+use Rattle.fix_tables.specs.Places.{Placed, is_count, first_tag, placed, start, part, begins, instances, sole, first_of, first_begin, first_or_none}
+use Rattle.fix_tables.specs.GroupFaults.{miscounted, lacking, placed_fault}
+use Rattle.fix_tables.specs.GroupHolding.{members}
+use Rattle.fix_tables.specs.Faults.{has_tag}
 use Rattle.fix_reading.proofs.FormLemmas as form
 use Rattle.fix_reading.proofs.HoldLemmas.{HasOwnForms}
 use Rattle.fix_reading.proofs.TableLemmas.{holds_both}

@@ -5,12 +5,12 @@ use Rattle.fix_fields.specs.declared.value.ValueFault.{ValueFault}
 use Rattle.fix_fields.specs.declared.value.ValueFault.TheVariants.{Format, Range}
 use Rattle.fix_fields.specs.Fields.{Entry, value_of}
 use Rattle.fix_fields.specs.Forms.{within, integer_in}
-use Rattle.fix_reading.specs.declared.table.Form.TheVariants as form
+use Rattle.fix_tables.specs.declared.table.Form.TheVariants as form
 use Rattle.fix_dictionary.specs.Values.{ends, IsResend}
-use Rattle.fix_reading.specs.Table.{needs, why, end_fault}
-use Rattle.fix_reading.specs.Tables.{resend_request_rows}
-use Rattle.fix_reading.specs.Holding.{RowHolds, Holds}
-use Rattle.fix_reading.specs.Told.{ok_or, some_or, bytes_at, number_in, sequence_number_in}
+use Rattle.fix_tables.specs.Table.{needs, why, end_fault}
+use Rattle.fix_tables.specs.Tables.{resend_request_rows}
+use Rattle.fix_tables.specs.Holding.{RowHolds, Holds}
+use Rattle.fix_tables.specs.Told.{ok_or, some_or, bytes_at, number_in, sequence_number_in}
 use Rattle.fix_reading.specs.Messages.{begin_in}
 use Rattle.fix_reading.proofs.BoundLemmas.{within_test, unless_none}
 

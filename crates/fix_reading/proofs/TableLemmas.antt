@@ -1,11 +1,11 @@
 -- No tag stands twice in a table, so each row has its own form there.
 use Rattle.std.proofs.Common.{◌++◌, ℕ, List, [], ◌∷◌, refl}
 use Rattle.fix_fields.specs.Fields.{Entry}
-use Rattle.fix_reading.specs.declared.table.Row.{Row}
+use Rattle.fix_tables.specs.declared.table.Row.{Row}
 use Rattle.fix_dictionary.specs.declared.kinds.MessageType.{MessageType}
 use Rattle.fix_dictionary.specs.declared.kinds.MessageType.TheVariants as types
-use Rattle.fix_reading.specs.Tables.{header_rows, rows_of}
-use Rattle.fix_reading.specs.Holding.{Holds}
+use Rattle.fix_tables.specs.Tables.{header_rows, rows_of}
+use Rattle.fix_tables.specs.Holding.{Holds}
 use Rattle.fix_reading.proofs.HoldLemmas.{HasOwnForms}
 
 pub own_forms : (kind : MessageType) (begin : ℕ) → HasOwnForms (header_rows ++ rows_of kind begin) (header_rows ++ rows_of kind begin)

@@ -1,8 +1,8 @@
 -- The fields of an application message without a header: they say what they would say behind a right one.
 use Rattle.std.specs.Prelude.{◌≡◌, if◌then◌else◌, List, [], ◌∷◌, ◌++◌, Option, None, Some, codes}
 use Rattle.fix_fields.specs.Fields.{Entry}
-use Rattle.fix_reading.specs.declared.faults.DictFault.{DictFault}
-use Rattle.fix_reading.specs.declared.faults.DictFault.TheVariants.{Format}
+use Rattle.fix_tables.specs.declared.faults.DictFault.{DictFault}
+use Rattle.fix_tables.specs.declared.faults.DictFault.TheVariants.{Format}
 use Rattle.fix_dictionary.specs.declared.messages.App.{App}
 use Rattle.fix_dictionary.specs.declared.messages.Body.{Body}
 use Rattle.fix_dictionary.specs.declared.messages.Body.TheVariants as body

@@ -1,12 +1,2 @@
 pub mod Applications
-pub mod Faults
-pub mod Fits
-pub mod GroupFaults
-pub mod GroupHolding
-pub mod Holding
 pub mod Messages
-pub mod Places
-pub mod Printed
-pub mod Table
-pub mod Tables
-pub mod Told

@@ -3,16 +3,16 @@ use Rattle.std.specs.Prelude.{◌≡◌, ℕ, if◌then◌else◌, List, [], map
 use Rattle.fix_fields.specs.Fields.{Entry, value_of}
 use Rattle.fix_fields.specs.Forms.{integer_in}
 use Rattle.sef_moment.specs.Utc.{moment_of}
-use Rattle.fix_reading.specs.Told.{told, ok_or, bytes_at, number_in, sequence_number_in, new_sequence_number_in, interval_in, quantity_in, amount_in, price_in, character_in, side_in, flag_in}
-use Rattle.fix_reading.specs.declared.faults.DictFault.{DictFault}
-use Rattle.fix_reading.specs.declared.faults.DictFault.TheVariants.{Twice, Count, Missing, Format, Range, NoMemory}
+use Rattle.fix_tables.specs.Told.{told, ok_or, bytes_at, number_in, sequence_number_in, new_sequence_number_in, interval_in, quantity_in, amount_in, price_in, character_in, side_in, flag_in}
+use Rattle.fix_tables.specs.declared.faults.DictFault.{DictFault}
+use Rattle.fix_tables.specs.declared.faults.DictFault.TheVariants.{Twice, Count, Missing, Format, Range, NoMemory}
 use Rattle.fix_dictionary.specs.declared.kinds.MessageType.{MessageType}
 use Rattle.fix_dictionary.specs.declared.kinds.MessageType.TheVariants as types
-use Rattle.fix_reading.specs.Tables.{header_rows, rows_of}
-use Rattle.fix_reading.specs.Faults.{first_fault}
+use Rattle.fix_tables.specs.Tables.{header_rows, rows_of}
+use Rattle.fix_tables.specs.Faults.{first_fault}
 use Rattle.fix_dictionary.specs.Kinds.{type_of, is_grouped}
-use Rattle.fix_reading.specs.Places.{Placed, placed, start, part, instances, first_begin, second_begin, sole}
-use Rattle.fix_reading.specs.GroupFaults.{placed_fault}
+use Rattle.fix_tables.specs.Places.{Placed, placed, start, part, instances, first_begin, second_begin, sole}
+use Rattle.fix_tables.specs.GroupFaults.{placed_fault}
 use Rattle.fix_dictionary.specs.declared.messages.App.TheVariants as app
 use Rattle.fix_dictionary.specs.declared.messages.Admin.TheVariants as admin
 use Rattle.fix_dictionary.specs.declared.messages.Body.{Body}

@@ -2,10 +2,10 @@
 ghost use Rattle.std.specs.Prelude.{◌≡◌, ℕ, ◌≤◌, ◌<◌, IfOk, MatchOption, None, Some};
 ghost use Rattle.fix_fields.specs.Fields.{value_of};
 ghost use Rattle.fix_fields.specs.Views.{entries};
-ghost use Rattle.fix_reading.specs.declared.table.Form.TheVariants as form;
-ghost use Rattle.fix_reading.specs.Table.{needs, takes, value_fault};
-ghost use Rattle.fix_reading.specs.Holding.{RowHolds};
-ghost use Rattle.fix_reading.specs.Told.{told, bytes_at, number_in, sequence_number_in, new_sequence_number_in, interval_in, quantity_in, amount_in, price_in, character_in, side_in, flag_in};
+ghost use Rattle.fix_tables.specs.declared.table.Form.TheVariants as form;
+ghost use Rattle.fix_tables.specs.Table.{needs, takes, value_fault};
+ghost use Rattle.fix_tables.specs.Holding.{RowHolds};
+ghost use Rattle.fix_tables.specs.Told.{told, bytes_at, number_in, sequence_number_in, new_sequence_number_in, interval_in, quantity_in, amount_in, price_in, character_in, side_in, flag_in};
 ghost use Rattle.fix_reading.specs.Messages.{begin_in};
 ghost use Rattle.sef_moment.specs.Utc.{moment_of};
 

@@ -1,23 +1,23 @@
 //! Reads each message type with repeating groups from fields in which its table found no fault.
 ghost use Rattle.std.specs.Prelude.{◌≡◌, ◌≤◌, IfOk, map, length};
 ghost use Rattle.fix_fields.specs.Views.{entries};
-ghost use Rattle.fix_reading.specs.Tables.{header_rows, entry_type_rows, instrument_rows, market_data_entry_rows, market_data_request_rows, market_data_snapshot_rows};
-ghost use Rattle.fix_reading.specs.Holding.{Holds};
-ghost use Rattle.fix_reading.specs.GroupHolding.{members, Clean, EachHolds};
-ghost use Rattle.fix_reading.specs.Places.{places, part, begins, instances, sole};
+ghost use Rattle.fix_tables.specs.Tables.{header_rows, entry_type_rows, instrument_rows, market_data_entry_rows, market_data_request_rows, market_data_snapshot_rows};
+ghost use Rattle.fix_tables.specs.Holding.{Holds};
+ghost use Rattle.fix_tables.specs.GroupHolding.{members, Clean, EachHolds};
+ghost use Rattle.fix_tables.specs.Places.{places, part, begins, instances, sole};
 ghost use Rattle.fix_dictionary.specs.Values.{FitsEntryTypes, FitsEntries};
-ghost use Rattle.fix_reading.specs.Told.{bytes_at, character_in, number_in};
+ghost use Rattle.fix_tables.specs.Told.{bytes_at, character_in, number_in};
 ghost use Rattle.fix_reading.specs.Messages.{entry_type, market_data_entry, market_data_request, market_data_snapshot};
 
 use crate::field_values::{
     character, identifier, number, optional_amount, optional_identifier, optional_price,
 };
-use crate::places::{Part, Standing, begins, part};
 use fix_dictionary::{
     EntryTypes, FixChar, Identifier, MarketDataEntries, MarketDataEntry, MarketDataRequest,
     MarketDataSnapshot,
 };
 use fix_fields::Field;
+use fix_tables::{Part, Standing, begins, part};
 use smallvec::SmallVec;
 use std::alloc::{AllocError, Global};
 

@@ -2,10 +2,10 @@
 ghost use Rattle.std.specs.Prelude.{◌≡◌, ◌⊎◌, ◌≤◌, List, length};
 ghost use Rattle.fix_fields.specs.Fields.{Entry, AreFields, fields_text};
 ghost use Rattle.fix_reading.specs.Applications.{SpellsApp};
-ghost use Rattle.fix_reading.specs.Fits.{FitsMessage, FitsBody};
+ghost use Rattle.fix_dictionary.specs.Fits.{FitsMessage, FitsBody};
 ghost use Rattle.fix_reading.specs.Messages.{Spells, HasFault};
 ghost use Rattle.fix_dictionary.specs.Text.{fields_of, message_slots, message_text, app_text};
-ghost use Rattle.fix_reading.specs.declared.faults.DictFault.{DictFault};
+ghost use Rattle.fix_tables.specs.declared.faults.DictFault.{DictFault};
 ghost use Rattle.fix_dictionary.specs.declared.messages.App.{App};
 ghost use Rattle.fix_dictionary.specs.declared.messages.Body.TheVariants as body;
 ghost use Rattle.fix_dictionary.specs.declared.messages.Message.{Message};

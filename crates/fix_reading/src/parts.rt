@@ -1,8 +1,8 @@
 //! Reads each message type from fields in which its table found no fault.
 ghost use Rattle.std.specs.Prelude.{◌≡◌, IfOk};
-ghost use Rattle.fix_reading.specs.Tables.{header_rows, heartbeat_rows, test_request_rows, resend_request_rows, reject_rows, sequence_reset_rows, logout_rows, logon_rows, quote_cancel_rows, quote_response_rows, quote_status_report_rows, new_order_single_rows, order_cancel_request_rows, order_cancel_replace_request_rows, execution_report_rows, order_cancel_reject_rows, market_data_request_reject_rows, business_message_reject_rows};
+ghost use Rattle.fix_tables.specs.Tables.{header_rows, heartbeat_rows, test_request_rows, resend_request_rows, reject_rows, sequence_reset_rows, logout_rows, logon_rows, quote_cancel_rows, quote_response_rows, quote_status_report_rows, new_order_single_rows, order_cancel_request_rows, order_cancel_replace_request_rows, execution_report_rows, order_cancel_reject_rows, market_data_request_reject_rows, business_message_reject_rows};
 ghost use Rattle.fix_fields.specs.Views.{entries};
-ghost use Rattle.fix_reading.specs.Holding.{Holds};
+ghost use Rattle.fix_tables.specs.Holding.{Holds};
 ghost use Rattle.fix_reading.specs.Messages.{header, heartbeat, test_request, begin_in, resend_request, reject, sequence_reset, logout, logon, quote_cancel, quote_response, quote_status_report, new_order_single, order_cancel_request, order_cancel_replace_request, execution_report, order_cancel_reject, market_data_request_reject, business_message_reject};
 
 use crate::field_values::{

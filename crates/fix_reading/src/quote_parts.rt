@@ -3,12 +3,12 @@ ghost use Rattle.std.specs.Prelude.{◌≡◌, ℕ, ◌≤◌, IfOk, List, Some,
 ghost use Rattle.fix_fields.specs.Fields.{value_of};
 ghost use Rattle.fix_fields.specs.Views.{entries};
 ghost use Rattle.sef_moment.specs.Utc.{moment_of};
-ghost use Rattle.fix_reading.specs.Tables.{header_rows, asked_rows, party_rows, instrument_rows, quote_request_rows, quote_rows, quote_request_reject_rows};
-ghost use Rattle.fix_reading.specs.Holding.{Holds};
-ghost use Rattle.fix_reading.specs.GroupHolding.{members, Clean, EachHolds};
-ghost use Rattle.fix_reading.specs.Places.{places, part, begins, instances, first_begin, sole};
+ghost use Rattle.fix_tables.specs.Tables.{header_rows, asked_rows, party_rows, instrument_rows, quote_request_rows, quote_rows, quote_request_reject_rows};
+ghost use Rattle.fix_tables.specs.Holding.{Holds};
+ghost use Rattle.fix_tables.specs.GroupHolding.{members, Clean, EachHolds};
+ghost use Rattle.fix_tables.specs.Places.{places, part, begins, instances, first_begin, sole};
 ghost use Rattle.fix_dictionary.specs.Values.{FitsParties};
-ghost use Rattle.fix_reading.specs.Told.{told, bytes_at, character_in, number_in, price_in, quantity_in, side_in};
+ghost use Rattle.fix_tables.specs.Told.{told, bytes_at, character_in, number_in, price_in, quantity_in, side_in};
 ghost use Rattle.fix_reading.specs.Messages.{party, parties_in, quote_request, quote, quote_request_reject};
 
 use crate::field_values::{
@@ -16,9 +16,9 @@ use crate::field_values::{
     optional_quantity, optional_side, optional_text, quantity, value_of,
 };
 use crate::group_parts::symbol;
-use crate::places::{Standing, begins, first_begin, part};
 use fix_dictionary::{Identifier, Parties, Party, Quote, QuoteRequest, QuoteRequestReject};
 use fix_fields::Field;
+use fix_tables::{Standing, begins, first_begin, part};
 use std::alloc::{AllocError, Global};
 
 fn party(fields: &[Field]) -> Party

@@ -1,25 +1,25 @@
 //! Reads messages.
 ghost use Rattle.std.specs.Prelude.{◌≡◌, ◌++◌, true, false, None, IfOk, MatchResult};
-ghost use Rattle.fix_reading.specs.Tables.{header_rows, rows_of};
-ghost use Rattle.fix_reading.specs.Holding.{Holds};
-ghost use Rattle.fix_reading.specs.GroupHolding.{Clean};
-ghost use Rattle.fix_reading.specs.Places.{places};
+ghost use Rattle.fix_tables.specs.Tables.{header_rows, rows_of};
+ghost use Rattle.fix_tables.specs.Holding.{Holds};
+ghost use Rattle.fix_tables.specs.GroupHolding.{Clean};
+ghost use Rattle.fix_tables.specs.Places.{places};
 ghost use Rattle.fix_dictionary.specs.Kinds.{type_of, is_grouped, is_session};
-ghost use Rattle.fix_reading.specs.Faults.{first_fault};
-ghost use Rattle.fix_reading.specs.Told.{bytes_at};
+ghost use Rattle.fix_tables.specs.Faults.{first_fault};
+ghost use Rattle.fix_tables.specs.Told.{bytes_at};
 ghost use Rattle.fix_dictionary.specs.Values.{IsText};
 ghost use Rattle.fix_reading.specs.Messages.{body_in, type_in, begin_in, fault_in, fault_as_type, message_as, message_in, placed_as, Spells, IsFault};
 ghost use Rattle.fix_reading.specs.Applications.{IsApp, plain_header, app_fault_in, SpellsApp};
 ghost use Rattle.fix_fields.specs.Views.{entries};
 
-use crate::faults::{DictFault, first_fault};
 use crate::field_values::{begin_in, bytes_at};
-use crate::group_faults::placed_fault;
-use crate::places::{Standing, part, placed};
-use crate::table::{header, is_grouped, is_session, resend_request_rows, rows_of, type_of};
 use crate::{cross_parts, group_parts, parts, quote_parts};
 use fix_dictionary::{Admin, App, Body, BoxedApp, Message, MessageType, OtherKind};
 use fix_fields::{Field, Fields};
+use fix_tables::{
+    DictFault, Standing, first_fault, header, is_grouped, is_session, part, placed, placed_fault,
+    resend_request_rows, rows_of, type_of,
+};
 use std::alloc::{AllocError, Global};
 
 // What a message of the session says behind its header.

@@ -14,7 +14,7 @@ use crate::messages::{admin_of, gap_fill, header};
 use crate::plan::{Notice, Plan, Sends};
 use fix_dictionary::{App, BodyRef, HeaderRef, ResendRequest, SequenceNumber};
 use fix_frame::write_frame;
-use fix_reading::print_parts;
+use fix_printing::print_parts;
 use resend_store::{Resend, Store};
 use sef_moment::Moment;
 use std::alloc::{AllocError, Global};

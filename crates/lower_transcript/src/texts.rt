@@ -4,7 +4,8 @@ use crate::refusals::Refusals;
 use anyhow::Result;
 use fix_dictionary::App;
 use fix_fields::{FieldFault, split};
-use fix_reading::{DictFault, read_app};
+use fix_reading::read_app;
+use fix_tables::DictFault;
 use std::alloc::{AllocError, Global};
 
 /// Appends bytes with one byte in the place of another.

@@ -6,7 +6,7 @@ ghost use Rattle.sef_client.specs.Sent.{framed, header_of};
 
 use fix_dictionary::{BodyRef, HeaderRef, Identifier, SequenceNumber};
 use fix_frame::write_frame;
-use fix_reading::print_parts;
+use fix_printing::print_parts;
 use sef_moment::Moment;
 use std::alloc::{AllocError, Global};
 

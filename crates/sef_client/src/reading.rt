@@ -6,7 +6,8 @@ ghost use Rattle.fix_reading.specs.Messages.{Spells};
 
 use fix_dictionary::Message;
 use fix_fields::{FieldFault, split};
-use fix_reading::{DictFault, read_message};
+use fix_reading::read_message;
+use fix_tables::DictFault;
 use std::alloc::{AllocError, Global};
 
 /// The message that a body spells, if it spells one.

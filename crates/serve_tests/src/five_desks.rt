@@ -6,7 +6,7 @@ use crate::fixture::{Outcome, PlayFault, bytes_of};
 use crate::lines_of_a_day::script_of;
 use crate::served::{opened_somewhere, play, serve_beside};
 use fix_dictionary::{Admin, App, Body, Message};
-use fix_reading::print_app;
+use fix_printing::print_app;
 use sef_client::Heard;
 use std::alloc::{AllocError, Global};
 use std::mem::drop;

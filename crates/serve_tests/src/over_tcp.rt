@@ -6,7 +6,7 @@ use crate::served::{opened_somewhere, play, serve_beside};
 use fix_dictionary::{
     App, Body, FixChar, Identifier, Message, NewOrderSingle, Price, Quantity, Side,
 };
-use fix_reading::print_app;
+use fix_printing::print_app;
 use sef_client::{Heard, Script, ScriptStep};
 use std::alloc::{AllocError, Global};
 use std::mem::drop;

@@ -2,7 +2,7 @@
 
 use crate::store::telling::{tell_line, tell_number};
 use fix_dictionary::SequenceNumber;
-use fix_reading::print_app;
+use fix_printing::print_app;
 use resend_store::{Resend, Store};
 use std::alloc::{AllocError, Global};
 

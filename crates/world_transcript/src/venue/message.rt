@@ -3,7 +3,8 @@
 use crate::venue::line::Trouble;
 use fix_dictionary::{App, BoxedApp, Item, SequenceNumber};
 use fix_fields::{FieldFault, split};
-use fix_reading::{DictFault, read_app};
+use fix_reading::read_app;
+use fix_tables::DictFault;
 use participants::{Participants, Who};
 use sef_moment::Moment;
 use std::alloc::{AllocError, Global};

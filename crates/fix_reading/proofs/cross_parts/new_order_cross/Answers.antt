@@ -1,4 +1,4 @@
-use Rattle.fix_reading.specs.Places.{places}
+use Rattle.fix_tables.specs.Places.{places}
 use Rattle.fix_reading.proofs.CrossLaws.{cross_holds, first_holds, second_holds}
 use Rattle.fix_reading.proofs.cross_parts.new_order_cross.Goals as goal
 

@@ -1,4 +1,4 @@
-use Rattle.fix_reading.specs.Places.{places}
+use Rattle.fix_tables.specs.Places.{places}
 use Rattle.fix_reading.proofs.GroupRanges.{instrument_holds, request_holds, types_hold, types_number}
 use Rattle.fix_reading.proofs.group_parts.market_data_request.Goals as goal
 

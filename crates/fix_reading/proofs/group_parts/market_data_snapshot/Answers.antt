@@ -1,4 +1,4 @@
-use Rattle.fix_reading.specs.Places.{places}
+use Rattle.fix_tables.specs.Places.{places}
 use Rattle.fix_reading.proofs.GroupRanges.{entries_hold, entries_number, snapshot_holds}
 use Rattle.fix_reading.proofs.group_parts.market_data_snapshot.Goals as goal
 

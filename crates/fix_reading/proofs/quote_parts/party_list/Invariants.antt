@@ -1,8 +1,8 @@
 use Rattle.std.proofs.Common.{◌≡◌, ◌++◌, ℕ, map, drop}
 use Rattle.std.specs.List.{AllByRecursion}
-use Rattle.fix_reading.specs.Holding.{Holds}
-use Rattle.fix_reading.specs.Tables.{party_rows}
-use Rattle.fix_reading.specs.Places.{part, places, instances}
+use Rattle.fix_tables.specs.Holding.{Holds}
+use Rattle.fix_tables.specs.Tables.{party_rows}
+use Rattle.fix_tables.specs.Places.{part, places, instances}
 use Rattle.fix_reading.specs.Messages.{party}
 use Rattle.fix_reading.proofs.quote_parts.party_list.Given as goal
 

@@ -1,4 +1,4 @@
-use Rattle.fix_reading.specs.Places.{places}
+use Rattle.fix_tables.specs.Places.{places}
 use Rattle.fix_reading.proofs.QuoteRanges.{quote_parties, quote_number, quote_holds}
 use Rattle.fix_reading.proofs.quote_parts.quote.Goals as goal
 

@@ -1,4 +1,4 @@
-use Rattle.fix_reading.specs.Places.{places}
+use Rattle.fix_tables.specs.Places.{places}
 use Rattle.fix_reading.proofs.QuoteRanges.{reject_instrument, reject_holds}
 use Rattle.fix_reading.proofs.quote_parts.quote_request_reject.Goals as goal
 

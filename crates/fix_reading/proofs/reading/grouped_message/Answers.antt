@@ -1,6 +1,6 @@
 use Rattle.std.proofs.Common.{◌++◌}
-use Rattle.fix_reading.specs.Tables.{header_rows, rows_of}
-use Rattle.fix_reading.specs.Places.{places}
+use Rattle.fix_tables.specs.Tables.{header_rows, rows_of}
+use Rattle.fix_tables.specs.Places.{places}
 use Rattle.fix_reading.proofs.TableLemmas.{own_forms, own_first}
 use Rattle.fix_reading.proofs.PlaceLemmas.{outside_holds}
 use Rattle.fix_reading.proofs.reading.grouped_message.Goals as goal

@@ -1,6 +1,6 @@
 use Rattle.std.proofs.Common.{◌++◌, sym, ◌∙◌}
 use Rattle.fix_fields.specs.Views.{entries}
-use Rattle.fix_reading.specs.Tables.{header_rows, rows_of}
+use Rattle.fix_tables.specs.Tables.{header_rows, rows_of}
 use Rattle.fix_reading.proofs.HoldLemmas.{holds}
 use Rattle.fix_reading.proofs.TableLemmas.{own_forms}
 use Rattle.fix_reading.proofs.reading.read_fields.Goals as goal

@@ -1,11 +1,11 @@
 use Rattle.std.proofs.Common.{◌≡◌, List, None, ap, sym, ◌∙◌}
 use Rattle.fix_fields.specs.Fields.{Entry}
 use Rattle.fix_fields.specs.Views.{entries}
-use Rattle.fix_reading.specs.declared.table.Row.{Row}
-use Rattle.fix_reading.specs.Tables.{header_rows, rows_of}
-use Rattle.fix_reading.specs.Places.{Placed, placed, places, start}
-use Rattle.fix_reading.specs.GroupFaults.{placed_fault}
-use Rattle.fix_reading.specs.GroupHolding.{Clean}
+use Rattle.fix_tables.specs.declared.table.Row.{Row}
+use Rattle.fix_tables.specs.Tables.{header_rows, rows_of}
+use Rattle.fix_tables.specs.Places.{Placed, placed, places, start}
+use Rattle.fix_tables.specs.GroupFaults.{placed_fault}
+use Rattle.fix_tables.specs.GroupHolding.{Clean}
 use Rattle.fix_reading.proofs.PlaceLemmas.{clean}
 use Rattle.fix_reading.proofs.reading.read_grouped.Goals as goal
 
