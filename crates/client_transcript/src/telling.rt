@@ -1,6 +1,7 @@
 //! Messages as lines.
 
-use fix_dictionary::{Message, print_message};
+use fix_dictionary::Message;
+use fix_printing::print_message;
 use std::alloc::{AllocError, Global};
 
 // A byte, with `|` for SOH.

@@ -2,9 +2,9 @@
 use Rattle.std.specs.Prelude.{◌≡◌, ◌⊎◌, ℕ, Bool, true, false, not, ◌&&◌, ◌||◌, List, [], ◌∷◌, ◌++◌, length, nat_lt, Option, Some, None, map}
 use Rattle.std.specs.List.{list_all}
 use Rattle.std.specs.Str.{bytes_eq}
-use Rattle.fix_dictionary.specs.Tables.{header_rows, rows_of}
+use Rattle.fix_tables.specs.Tables.{header_rows, rows_of}
 use Rattle.fix_dictionary.specs.Kinds.{type_of}
-use Rattle.fix_dictionary.specs.Table.{value_fault}
+use Rattle.fix_tables.specs.Table.{value_fault}
 use Rattle.data_dictionary.specs.declared.tables.Row.{Row}
 use Rattle.data_dictionary.specs.declared.message_types.MessageType.{MessageType}
 use Rattle.data_dictionary.specs.Fields.{data_type_of, name_of}

@@ -1,7 +1,7 @@
 -- The lines of a table: a field for each row, and a group round the rows of its instances.
 use Rattle.std.specs.Prelude.{ℕ, Bool, true, false, List, [], ◌∷◌, ◌++◌, nat_eq, nat_lt, map}
 use Rattle.std.specs.List.{flat_map, list_any}
-use Rattle.fix_dictionary.specs.Tables.{header_rows, rows_of}
+use Rattle.fix_tables.specs.Tables.{header_rows, rows_of}
 use Rattle.fix_dictionary.specs.Kinds.{type_of}
 use Rattle.data_dictionary.specs.declared.tables.Row.{Row}
 use Rattle.data_dictionary.specs.declared.lines.Line.{Line}

@@ -1,12 +1,10 @@
--- Bytes that are read as an identifier or as a text: whether they are one, and their fault.
+-- Bytes that are read as an identifier or as a text: whether they are one.
 use Rattle.std.proofs.Common.{◌≡◌, ℕ, Bool, true, false, ◌&&◌, List, refl, sym, ap, ◌∙◌, is_ok, Result, Ok, Err, MatchResult, if◌then◌else◌}
 use Rattle.std.specs.List.{list_all}
 use Rattle.std.specs.Prelude.{length, nat_le, nat_lt}
-use Rattle.std.specs.Result.{result_err}
 use Rattle.fix_fields.specs.Forms.{printable_of}
 use Rattle.fix_fields.specs.declared.value.ValueFault.{ValueFault}
 use Rattle.fix_fields.specs.declared.value.ValueFault.TheVariants.{Format, Range}
-use Rattle.fix_dictionary.specs.Table.{text_fault, why}
 use Rattle.fix_dictionary.specs.Values.{is_printable, is_text}
 
 abbrev read_by : Bool → Bool → Bool → List ℕ → Result (List ℕ) ValueFault
@@ -29,7 +27,3 @@ Reads now longest bytes read = MatchResult read (λ value. printable_of longest 
 pub read_is_text : {V : Type 0} (now : V → List ℕ) (longest : ℕ) (bytes : List ℕ) (read : Result V ValueFault) → Reads now longest bytes read → is_ok read ≡ is_text longest bytes
 read_is_text now longest bytes (Ok value) is = sym (ap is_ok is) ∙ are_read longest bytes
 read_is_text now longest bytes (Err fault) is = sym (ap is_ok is) ∙ are_read longest bytes
-
-pub read_fault : {V : Type 0} (now : V → List ℕ) (longest : ℕ) (bytes : List ℕ) (read : Result V ValueFault) → Reads now longest bytes read → result_err read ≡ text_fault longest bytes
-read_fault now longest bytes (Ok value) is = sym (ap why is)
-read_fault now longest bytes (Err fault) is = sym (ap why is)

@@ -1,8 +1,8 @@
 -- The type that the text of a type stands for.
 use Rattle.std.specs.Prelude.{◌≡◌, ℕ, Bool, true, false, List, codes, if◌then◌else◌}
 use Rattle.std.specs.Str.{bytes_eq}
-use Rattle.fix_dictionary.specs.declared.table.MessageType.{MessageType}
-use Rattle.fix_dictionary.specs.declared.table.MessageType.TheVariants as types
+use Rattle.fix_dictionary.specs.declared.kinds.MessageType.{MessageType}
+use Rattle.fix_dictionary.specs.declared.kinds.MessageType.TheVariants as types
 use Rattle.fix_dictionary.specs.Values.{IsText}
 
 -- A type that is not listed is unsupported.

@@ -1,16 +1,5 @@
-pub mod Applications
-pub mod Faults
 pub mod Fits
-pub mod GroupFaults
-pub mod GroupHolding
-pub mod Holding
 pub mod Kinds
 pub mod Lent
-pub mod Messages
-pub mod Places
-pub mod Printed
-pub mod Table
-pub mod Tables
 pub mod Text
-pub mod Told
 pub mod Values

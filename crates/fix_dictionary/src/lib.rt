@@ -1,41 +1,13 @@
-//! The messages of the venue: what the fields of a body say, and how a message is printed.
+//! The messages of the venue: their values, their structs, and what is printed of each.
 #![tactic(auto)]
 
-// values
 mod copy;
+mod kinds;
 mod lists;
 mod messages;
 mod values;
 
-// tables
-mod places;
-mod table;
-
-// faults
-mod faults;
-mod forms;
-mod group_faults;
-
-// parts
-mod cross_parts;
-mod field_values;
-mod group_parts;
-mod parts;
-mod quote_parts;
-
-// reading
-mod reading;
-
-// printing
-mod group_print;
-mod print;
-mod quote_print;
-
-// laws
-mod laws;
-
-pub use faults::DictFault;
-pub use laws::{printed_is_read, printed_is_short, spelled_or_faulty};
+pub use kinds::MessageType;
 pub use lists::{EntryTypes, MarketDataEntries, Parties};
 pub use messages::{
     Admin, App, Body, BodyRef, BoxedApp, BusinessMessageReject, CrossSide, ExecutionReport, Header,
@@ -45,9 +17,7 @@ pub use messages::{
     QuoteRequest, QuoteRequestReject, QuoteResponse, QuoteStatusReport, Reject, ResendRequest,
     SequenceReset, TestRequest,
 };
-pub use print::{print_app, print_message, print_parts};
-pub use reading::{read_app, read_body, read_message};
 pub use values::{
     Amount, FixChar, FixInt, HeartbeatInterval, Identifier, NewSequenceNumber, OtherKind, Price,
-    Quantity, SequenceNumber, Side, Text,
+    Quantity, SequenceNumber, Side, Text, is_identifier,
 };

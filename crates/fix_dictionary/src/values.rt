@@ -3,7 +3,7 @@ ghost use Rattle.std.specs.Prelude.{◌≡◌, ◌≤◌, ℕ, length, IfOk, IsT
 ghost use Rattle.fix_dictionary.specs.Kinds.{IsOtherKind};
 ghost use Rattle.fix_dictionary.specs.Values.{IsText, is_text, zero_padded, is_graphic, IsFixInt, IsSequenceNumber, IsNewSequenceNumber, IsInterval, IsQuantity, IsAmount, IsPrice};
 
-use crate::forms::is_identifier;
+use fix_fields::read_identifier;
 use std::alloc::{AllocError, Global};
 use std::marker::Model;
 
@@ -30,6 +30,13 @@ impl Model for Identifier {
     ghost use Rattle.std.proofs.Common.{refl};
 
     ghost inverse_ok = { λ a h. rw (← h.2) (rw (← h.1) refl) };
+}
+
+/// Whether these bytes are an identifier: 1 to 64, each from 32 to 126.
+pub fn is_identifier(bytes: &[u8]) -> bool
+    ensures { result ≡ is_text 64 bytes.now }
+{
+    read_identifier(bytes).is_ok()
 }
 
 // The bytes, and 0 behind them.

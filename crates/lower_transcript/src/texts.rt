@@ -2,8 +2,10 @@
 
 use crate::refusals::Refusals;
 use anyhow::Result;
-use fix_dictionary::{App, DictFault, read_app};
+use fix_dictionary::App;
 use fix_fields::{FieldFault, split};
+use fix_reading::read_app;
+use fix_tables::DictFault;
 use std::alloc::{AllocError, Global};
 
 /// Appends bytes with one byte in the place of another.

@@ -2,10 +2,12 @@
 
 ghost use Rattle.std.specs.Prelude.{◌≡◌, List, IfOk, IfSome};
 ghost use Rattle.fix_fields.specs.Fields.{AreFields, Entry, fields_text};
-ghost use Rattle.fix_dictionary.specs.Messages.{Spells};
+ghost use Rattle.fix_reading.specs.Messages.{Spells};
 
-use fix_dictionary::{DictFault, Message, read_message};
+use fix_dictionary::Message;
 use fix_fields::{FieldFault, split};
+use fix_reading::read_message;
+use fix_tables::DictFault;
 use std::alloc::{AllocError, Global};
 
 /// The message that a body spells, if it spells one.

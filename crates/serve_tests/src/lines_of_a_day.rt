@@ -1,8 +1,9 @@
 //! A desk's script as the lines of a day have it.
 
 use crate::fixture::{PlayFault, bytes_of};
-use fix_dictionary::{App, Identifier, read_app};
+use fix_dictionary::{App, Identifier};
 use fix_fields::{Fields, split};
+use fix_reading::read_app;
 use sef_client::{Script, ScriptStep};
 use std::alloc::Global;
 

@@ -4,8 +4,9 @@ use crate::cues::{Day, Plan};
 use crate::fixture::{Outcome, PlayFault, bytes_of};
 use crate::served::{opened_somewhere, play, serve_beside};
 use fix_dictionary::{
-    App, Body, FixChar, Identifier, Message, NewOrderSingle, Price, Quantity, Side, print_app,
+    App, Body, FixChar, Identifier, Message, NewOrderSingle, Price, Quantity, Side,
 };
+use fix_printing::print_app;
 use sef_client::{Heard, Script, ScriptStep};
 use std::alloc::{AllocError, Global};
 use std::mem::drop;

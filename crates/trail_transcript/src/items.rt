@@ -3,8 +3,10 @@ ghost use Rattle.std.specs.Prelude.{◌≡◌, IfOk};
 
 use crate::play::{Play, START};
 use anyhow::{Result, anyhow};
-use fix_dictionary::{BoxedApp, DictFault, Item, SequenceNumber, read_app};
+use fix_dictionary::{BoxedApp, Item, SequenceNumber};
 use fix_fields::{FieldFault, split};
+use fix_reading::read_app;
+use fix_tables::DictFault;
 use sef_moment::Moment;
 use std::alloc::{AllocError, Global};
 use venue_rules::{RowText, TrailRow};

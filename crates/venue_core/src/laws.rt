@@ -12,7 +12,7 @@ ghost use Rattle.venue_core.specs.Standing.{IsAfter, IsAnswer, IsHistory};
 ghost use Rattle.venue_core.specs.State.{State};
 ghost use Rattle.venue_core.specs.Taking.{IsSame, Stands, Takes, TakesAll};
 
-use fix_dictionary::printed_is_read;
+use fix_reading::printed_is_read;
 use venue_rules::every_run_is_lawful;
 
 /// A venue on which nothing had happened, and that takes inputs one after another, stands where the rules' run of these

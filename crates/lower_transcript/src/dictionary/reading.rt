@@ -2,8 +2,11 @@
 
 use crate::refusals::Refusals;
 use anyhow::{Result, ensure};
-use fix_dictionary::{App, DictFault, Message, print_app, print_message, read_app, read_message};
+use fix_dictionary::{App, Message};
 use fix_fields::{FieldFault, Fields, split};
+use fix_printing::{print_app, print_message};
+use fix_reading::{read_app, read_message};
+use fix_tables::DictFault;
 use std::alloc::{AllocError, Global};
 
 /// How a body is read.

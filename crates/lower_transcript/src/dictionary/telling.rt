@@ -2,7 +2,7 @@
 
 use crate::dictionary::reading::Answer;
 use crate::texts::append_with;
-use fix_dictionary::DictFault;
+use fix_tables::DictFault;
 use std::alloc::{AllocError, Global};
 
 fn tell_fault(alloc: Global, fault: DictFault, told: &mut Vec<u8>) -> Result<(), AllocError> {

@@ -3,7 +3,8 @@
 use crate::session::feeding::Taken;
 use crate::session::playing::{Answer, Look};
 use crate::texts::append_with;
-use fix_dictionary::{Item, print_app};
+use fix_dictionary::Item;
+use fix_printing::print_app;
 use fix_session::{Step, Why};
 use std::alloc::{AllocError, Global};
 

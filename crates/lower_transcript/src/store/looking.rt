@@ -1,7 +1,8 @@
 //! Calls that look at the store.
 
 use crate::store::telling::{tell_line, tell_number};
-use fix_dictionary::{SequenceNumber, print_app};
+use fix_dictionary::SequenceNumber;
+use fix_printing::print_app;
 use resend_store::{Resend, Store};
 use std::alloc::{AllocError, Global};
 

@@ -1,7 +1,8 @@
 //! The worked items: a request for quotes, by which one trade is made.
 
-use fix_dictionary::{BoxedApp, Item, SequenceNumber, read_app};
+use fix_dictionary::{BoxedApp, Item, SequenceNumber};
 use fix_fields::split;
+use fix_reading::read_app;
 use sef_moment::Moment;
 use std::alloc::Global;
 use venue_rules::TrailRow;

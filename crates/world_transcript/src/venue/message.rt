@@ -1,8 +1,10 @@
 //! Messages as the lines of a transcript have them.
 
 use crate::venue::line::Trouble;
-use fix_dictionary::{App, BoxedApp, DictFault, Item, SequenceNumber, read_app};
+use fix_dictionary::{App, BoxedApp, Item, SequenceNumber};
 use fix_fields::{FieldFault, split};
+use fix_reading::read_app;
+use fix_tables::DictFault;
 use participants::{Participants, Who};
 use sef_moment::Moment;
 use std::alloc::{AllocError, Global};

@@ -1,6 +1,6 @@
 //! Answers as lines of a transcript.
 
-use fix_dictionary::print_app;
+use fix_printing::print_app;
 use participants::{Participants, Who};
 use std::alloc::{AllocError, Global};
 use venue_core::message_of;

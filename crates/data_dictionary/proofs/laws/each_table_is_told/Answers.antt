@@ -1,6 +1,6 @@
 use Rattle.std.proofs.Common.{◌≡◌, ◌⊎◌, ◌||◌, refl, Bool, true, false, inl, inr, ℕ, List, length, codes}
 use Rattle.std.specs.Str.{bytes_eq}
-use Rattle.fix_dictionary.specs.Tables.{rows_of}
+use Rattle.fix_tables.specs.Tables.{rows_of}
 use Rattle.fix_dictionary.specs.Kinds.{type_of}
 use Rattle.data_dictionary.specs.Laws.{codes_told, is_among}
 use Rattle.data_dictionary.specs.MessageTypes.{application_types, code_of, session_types}

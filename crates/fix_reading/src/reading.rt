@@ -1,0 +1,357 @@
+//! Reads messages.
+ghost use Rattle.std.specs.Prelude.{◌≡◌, ◌++◌, true, false, None, IfOk, MatchResult};
+ghost use Rattle.fix_tables.specs.Tables.{header_rows, rows_of};
+ghost use Rattle.fix_tables.specs.Holding.{Holds};
+ghost use Rattle.fix_tables.specs.GroupHolding.{Clean};
+ghost use Rattle.fix_tables.specs.Places.{places};
+ghost use Rattle.fix_dictionary.specs.Kinds.{type_of, is_grouped, is_session};
+ghost use Rattle.fix_tables.specs.Faults.{first_fault};
+ghost use Rattle.fix_tables.specs.Told.{bytes_at};
+ghost use Rattle.fix_dictionary.specs.Values.{IsText};
+ghost use Rattle.fix_reading.specs.Messages.{body_in, type_in, begin_in, fault_in, fault_as_type, message_as, message_in, placed_as, Spells, IsFault};
+ghost use Rattle.fix_reading.specs.Applications.{IsApp, plain_header, app_fault_in, SpellsApp};
+ghost use Rattle.fix_fields.specs.Views.{entries};
+
+use crate::field_values::{begin_in, bytes_at};
+use crate::{cross_parts, group_parts, parts, quote_parts};
+use fix_dictionary::{Admin, App, Body, BoxedApp, Message, MessageType, OtherKind};
+use fix_fields::{Field, Fields};
+use fix_tables::{
+    DictFault, Standing, first_fault, header, is_grouped, is_session, part, placed, placed_fault,
+    resend_request_rows, rows_of, type_of,
+};
+use std::alloc::{AllocError, Global};
+
+// What a message of the session says behind its header.
+fn admin_in(
+    alloc: Global,
+    kind: MessageType,
+    begin: u32,
+    fields: &[Field],
+) -> Result<Admin, AllocError>
+    requires holds { Holds (rows_of kind begin) (entries fields.now) }
+    requires session { is_session kind ≡ true }
+    requires begin { begin ≡ begin_in (entries fields.now) }
+    ensures { IfOk result (λ m. Body.Admin m ≡ body_in kind (entries fields.now)) }
+{
+    Ok(match kind {
+        MessageType::Heartbeat => Admin::Heartbeat(parts::heartbeat(fields)),
+        MessageType::TestRequest => Admin::TestRequest(parts::test_request(fields)),
+        MessageType::ResendRequest => Admin::ResendRequest(parts::resend_request(begin, fields)),
+        MessageType::Reject => Admin::Reject(parts::reject(alloc, fields)?),
+        MessageType::SequenceReset => Admin::SequenceReset(parts::sequence_reset(fields)),
+        MessageType::Logout => Admin::Logout(parts::logout(alloc, fields)?),
+        MessageType::Logon => Admin::Logon(parts::logon(fields)),
+        _ => unreachable!(),
+    })
+}
+
+// What a message of the venue without groups says behind its header.
+fn flat_app(alloc: Global, kind: MessageType, fields: &[Field]) -> Result<App, AllocError>
+    requires holds { Holds (rows_of kind 0) (entries fields.now) }
+    requires flat { is_grouped kind ≡ false }
+    requires venue { is_session kind ≡ false }
+    requires kind { kind ≡ type_in (entries fields.now) }
+    requires text { IsText 64 (bytes_at 35 (entries fields.now)) }
+    ensures { IfOk result (λ m. Body.App m ≡ body_in kind (entries fields.now)) }
+{
+    Ok(match kind {
+        MessageType::QuoteCancel => App::QuoteCancel(parts::quote_cancel(fields)),
+        MessageType::QuoteResponse => App::QuoteResponse(parts::quote_response(fields)),
+        MessageType::QuoteStatusReport => {
+            App::QuoteStatusReport(parts::quote_status_report(alloc, fields)?)
+        }
+        MessageType::NewOrderSingle => App::NewOrderSingle(parts::new_order_single(fields)),
+        MessageType::OrderCancelRequest => {
+            App::OrderCancelRequest(parts::order_cancel_request(fields))
+        }
+        MessageType::OrderCancelReplaceRequest => {
+            App::OrderCancelReplaceRequest(parts::order_cancel_replace_request(fields))
+        }
+        MessageType::ExecutionReport => {
+            App::ExecutionReport(parts::execution_report(alloc, fields)?)
+        }
+        MessageType::OrderCancelReject => {
+            App::OrderCancelReject(parts::order_cancel_reject(alloc, fields)?)
+        }
+        MessageType::MarketDataRequestReject => {
+            App::MarketDataRequestReject(parts::market_data_request_reject(alloc, fields)?)
+        }
+        MessageType::BusinessMessageReject => {
+            App::BusinessMessageReject(parts::business_message_reject(alloc, fields)?)
+        }
+        MessageType::Unsupported => {
+            App::Unsupported(OtherKind::from_slice(bytes_at(fields, 35)))
+        }
+        _ => unreachable!(),
+    })
+}
+
+fn body_in(
+    alloc: Global,
+    kind: MessageType,
+    begin: u32,
+    fields: &[Field],
+) -> Result<Body, AllocError>
+    requires holds { Holds (rows_of kind begin) (entries fields.now) }
+    requires flat { is_grouped kind ≡ false }
+    requires kind { kind ≡ type_in (entries fields.now) }
+    requires begin { begin ≡ begin_in (entries fields.now) }
+    requires text { IsText 64 (bytes_at 35 (entries fields.now)) }
+    ensures { IfOk result (λ b. b ≡ body_in kind (entries fields.now)) }
+{
+    if is_session(kind) {
+        Ok(Body::Admin(admin_in(alloc, kind, begin, fields)?))
+    } else {
+        let app = flat_app(alloc, kind, fields)?;
+        Ok(Body::App(BoxedApp::new(alloc, app)?))
+    }
+}
+
+// What is behind the header of a message without groups.
+fn flat_body(
+    alloc: Global,
+    kind: MessageType,
+    begin: u32,
+    fields: &[Field],
+) -> Result<Body, AllocError>
+    requires holds { Holds (header_rows ++ rows_of kind begin) (entries fields.now) }
+    requires flat { is_grouped kind ≡ false }
+    requires kind { kind ≡ type_in (entries fields.now) }
+    requires begin { begin ≡ begin_in (entries fields.now) }
+    ensures { IfOk result (λ b. b ≡ body_in kind (entries fields.now)) }
+{
+    body_in(alloc, kind, begin, fields)
+}
+
+fn message_in(
+    alloc: Global,
+    kind: MessageType,
+    begin: u32,
+    fields: &[Field],
+) -> Result<Message, AllocError>
+    requires holds { Holds (header_rows ++ rows_of kind begin) (entries fields.now) }
+    requires flat { is_grouped kind ≡ false }
+    requires kind { kind ≡ type_in (entries fields.now) }
+    requires begin { begin ≡ begin_in (entries fields.now) }
+    ensures { IfOk result (λ m. m ≡ message_as kind (entries fields.now)) }
+{
+    Ok(Message {
+        header: parts::header(fields),
+        body: flat_body(alloc, kind, begin, fields)?,
+    })
+}
+
+// What a message with groups says behind its header.
+fn grouped_app(
+    alloc: Global,
+    kind: MessageType,
+    fields: &[Field],
+    placed: &[Standing],
+) -> Result<App, AllocError>
+    requires grouped { is_grouped kind ≡ true }
+    requires placed { places placed.now ≡ placed_as kind (entries fields.now) }
+    requires clean { Clean header_rows (rows_of kind 0) (places placed.now) }
+    ensures { IfOk result (λ m. Body.App m ≡ body_in kind (entries fields.now)) }
+{
+    Ok(match kind {
+        MessageType::QuoteRequest => {
+            App::QuoteRequest(quote_parts::quote_request(alloc, placed)?)
+        }
+        MessageType::NewOrderCross => {
+            App::NewOrderCross(cross_parts::new_order_cross(alloc, placed)?)
+        }
+        MessageType::Quote => App::Quote(quote_parts::quote(alloc, placed)?),
+        MessageType::QuoteRequestReject => {
+            App::QuoteRequestReject(quote_parts::quote_request_reject(alloc, placed)?)
+        }
+        MessageType::MarketDataRequest => App::MarketDataRequest(group_parts::market_data_request(
+            alloc, placed,
+        )?),
+        MessageType::MarketDataSnapshot => App::MarketDataSnapshot(
+            group_parts::market_data_snapshot(alloc, placed)?,
+        ),
+        _ => unreachable!(),
+    })
+}
+
+// What is behind the header of a message with groups.
+fn grouped_body(
+    alloc: Global,
+    kind: MessageType,
+    fields: &[Field],
+    placed: &[Standing],
+) -> Result<Body, AllocError>
+    requires grouped { is_grouped kind ≡ true }
+    requires placed { places placed.now ≡ placed_as kind (entries fields.now) }
+    requires clean { Clean header_rows (rows_of kind 0) (places placed.now) }
+    ensures { IfOk result (λ b. b ≡ body_in kind (entries fields.now)) }
+{
+    let app = grouped_app(alloc, kind, fields, placed)?;
+    Ok(Body::App(BoxedApp::new(alloc, app)?))
+}
+
+fn grouped_message(
+    alloc: Global,
+    kind: MessageType,
+    fields: &[Field],
+    placed: &[Standing],
+) -> Result<Message, AllocError>
+    requires grouped { is_grouped kind ≡ true }
+    requires placed { places placed.now ≡ placed_as kind (entries fields.now) }
+    requires clean { Clean header_rows (rows_of kind 0) (places placed.now) }
+    ensures { IfOk result (λ m. m ≡ message_as kind (entries fields.now)) }
+{
+    let outside = part(alloc, placed, 0)?;
+    Ok(Message {
+        header: parts::header(&outside),
+        body: grouped_body(alloc, kind, fields, placed)?,
+    })
+}
+
+fn read_grouped(alloc: Global, kind: MessageType, fields: &[Field]) -> Result<Message, DictFault>
+    requires { is_grouped kind ≡ true }
+    ensures { MatchResult result (λ m. (fault_as_type kind (entries fields.now) ≡ None) × (m ≡ message_as kind (entries fields.now))) (IsFault (fault_as_type kind (entries fields.now))) }
+{
+    let Ok(placed) = placed(alloc, header(), rows_of(kind), fields) else {
+        return Err(DictFault::NoMemory);
+    };
+    match placed_fault(header(), rows_of(kind), &placed, fields) {
+        Some(found) => Err(found),
+        None => match grouped_message(alloc, kind, fields, &placed) {
+            Ok(message) => Ok(message),
+            Err(_) => Err(DictFault::NoMemory),
+        },
+    }
+}
+
+fn read_grouped_body(alloc: Global, kind: MessageType, fields: &[Field]) -> Result<Body, DictFault>
+    requires { is_grouped kind ≡ true }
+    ensures { MatchResult result (λ b. (fault_as_type kind (entries fields.now) ≡ None) × (b ≡ body_in kind (entries fields.now))) (IsFault (fault_as_type kind (entries fields.now))) }
+{
+    let Ok(placed) = placed(alloc, header(), rows_of(kind), fields) else {
+        return Err(DictFault::NoMemory);
+    };
+    match placed_fault(header(), rows_of(kind), &placed, fields) {
+        Some(found) => Err(found),
+        None => match grouped_body(alloc, kind, fields, &placed) {
+            Ok(body) => Ok(body),
+            Err(_) => Err(DictFault::NoMemory),
+        },
+    }
+}
+
+// The first fault, by the header's table and that of the type.
+fn fault_in(kind: MessageType, begin: u32, fields: &[Field]) -> Option<DictFault>
+    ensures { result ≡ first_fault (header_rows ++ rows_of kind begin) (entries fields.now) }
+{
+    match kind {
+        MessageType::ResendRequest => first_fault(header(), &resend_request_rows(begin), fields),
+        _ => first_fault(header(), rows_of(kind), fields),
+    }
+}
+
+fn read_fields(alloc: Global, fields: &[Field]) -> Result<Message, DictFault>
+    ensures { MatchResult result (λ m. Spells m (entries fields.now)) (IsFault (fault_in (entries fields.now))) }
+{
+    let kind = type_of(bytes_at(fields, 35));
+    if is_grouped(kind) {
+        return read_grouped(alloc, kind, fields);
+    }
+    let begin = begin_in(fields);
+    match fault_in(kind, begin, fields) {
+        Some(fault) => Err(fault),
+        None => match message_in(alloc, kind, begin, fields) {
+            Ok(message) => Ok(message),
+            Err(_) => Err(DictFault::NoMemory),
+        },
+    }
+}
+
+fn read_body_in(alloc: Global, fields: &[Field]) -> Result<Body, DictFault>
+    ensures { MatchResult result (λ b. (fault_in (entries fields.now) ≡ None) × (b ≡ (message_in (entries fields.now)).body)) (IsFault (fault_in (entries fields.now))) }
+{
+    let kind = type_of(bytes_at(fields, 35));
+    if is_grouped(kind) {
+        return read_grouped_body(alloc, kind, fields);
+    }
+    let begin = begin_in(fields);
+    match fault_in(kind, begin, fields) {
+        Some(fault) => Err(fault),
+        None => match flat_body(alloc, kind, begin, fields) {
+            Ok(body) => Ok(body),
+            Err(_) => Err(DictFault::NoMemory),
+        },
+    }
+}
+
+/// What the message that the fields of a body spell says behind its header, or their first fault; of the header nothing is kept.
+pub fn read_body(alloc: Global, fields: &Fields) -> Result<Body, DictFault>
+    ensures { MatchResult result (λ b. (fault_in fields.now ≡ None) × (b ≡ (message_in fields.now).body)) (IsFault (fault_in fields.now)) }
+{
+    read_body_in(alloc, fields.as_slice())
+}
+
+/// The message that the fields of a body spell, or their first fault.
+pub fn read_message(alloc: Global, fields: &Fields) -> Result<Message, DictFault>
+    ensures { MatchResult result (λ m. Spells m fields.now) (IsFault (fault_in fields.now)) }
+{
+    read_fields(alloc, fields.as_slice())
+}
+
+// A right header, with nothing in it but what each header has.
+const PLAIN_HEADER: [Field<'static>; 4] = [
+    Field {
+        tag: 49,
+        value: b"S",
+    },
+    Field {
+        tag: 56,
+        value: b"T",
+    },
+    Field {
+        tag: 34,
+        value: b"1",
+    },
+    Field {
+        tag: 52,
+        value: b"19700101-00:00:00.000",
+    },
+];
+
+fn with_header<'a>(alloc: Global, fields: &[Field<'a>]) -> Result<Vec<Field<'a>>, AllocError>
+    ensures { IfOk result (λ all. entries all.items ≡ plain_header ++ entries fields.now) }
+{
+    let mut all = Vec::new(alloc);
+    all.extend_from_slice(&PLAIN_HEADER)?;
+    all.extend_from_slice(fields)?;
+    Ok(all)
+}
+
+// The application message that a body is.
+fn application(body: Body) -> App
+    requires { IsApp body }
+    ensures { body ≡ Body.App result }
+{
+    match body {
+        Body::App(app) => app.into_inner(),
+        Body::Admin(_) => unreachable!(),
+    }
+}
+
+/// The application message that fields without a header spell, as `print_app` writes them, or their first fault. The
+/// header's optional fields may stand there, once and in their form, and are not kept.
+pub fn read_app(alloc: Global, fields: &Fields) -> Result<App, DictFault>
+    ensures { MatchResult result (λ a. SpellsApp a fields.now) (IsFault (app_fault_in fields.now)) }
+{
+    if is_session(type_of(bytes_at(fields.as_slice(), 35))) {
+        return Err(DictFault::Format(35));
+    }
+    let Ok(all) = with_header(alloc, fields.as_slice()) else {
+        return Err(DictFault::NoMemory);
+    };
+    match read_body_in(alloc, &all) {
+        Ok(body) => Ok(application(body)),
+        Err(fault) => Err(fault),
+    }
+}
