@@ -4,3 +4,9 @@ pub mod Shown
 pub mod Telling
 pub mod Opening
 pub mod Requests
+pub mod Members
+pub mod Says
+pub mod Replies
+pub mod Days
+pub mod Holds
+pub mod Orders
