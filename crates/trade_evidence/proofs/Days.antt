@@ -139,7 +139,7 @@ fills_more trade (x ∷ xs) ys =
     next : (k l : ℕ) → k + suc l ≡ k + 1 + l
     next k l = omega arith
 
-next_trades : (h : History) (fs : List Fact) → length (trades (h.facts ++ fs)) + 1 ≡ next_trade h.facts + length (trades fs)
+pub next_trades : (h : History) (fs : List Fact) → length (trades (h.facts ++ fs)) + 1 ≡ next_trade h.facts + length (trades fs)
 next_trades h fs = ap (λ (ts : List Trade). length ts + 1) (filter_map-append trade_in_fact h.facts fs) ∙ (ap (λ n. n + 1) (length-append (trades h.facts) (trades fs)) ∙ past (length (trades h.facts)) (length (trades fs)))
   where
     past : (a b : ℕ) → a + b + 1 ≡ a + 1 + b
@@ -187,7 +187,7 @@ hits_step m number h words r i rs is tells =
     let rest = map trade_at (added trade_in_fact m (after h a) rs is) in
     let new = trades a.facts in
     let at = at_row r.n new in
-    ap (λ l. l ++ hits_told (next_trade (after h a).facts) rest) (row_says traded_in traded-deaf m h number words r i ∙ (hits_say r.n r.moment (came_of m words r.n i) a.replies ∙ (input-Says m h words r i tells).1.1.1.1.1))
+    ap (λ l. l ++ hits_told (next_trade (after h a).facts) rest) (row_says traded_in traded-deaf m h number words r i ∙ (hits_say r.n r.moment (came_of m words r.n i) a.replies ∙ (input-Says m h words r i tells).1.1.1.1.1.0))
     ∙ (ap (λ k. hits_told (next_trade h.facts) at ++ hits_told k rest) (next_trades h a.facts ∙ ap (λ k. next_trade h.facts + k) (sym (length-map new (λ (x : Trade). (r.n, x)))))
     ∙ (hits_more (next_trade h.facts) at rest
     ∙ ap (hits_told (next_trade h.facts)) (ap (λ l. l ++ rest) (sym (map_map (λ (x : Trade). (r, i, x)) trade_at new)) ∙ sym (map-append trade_at (map (λ (x : Trade). (r, i, x)) new) (added trade_in_fact m (after h a) rs is)))))

@@ -9,4 +9,5 @@ pub mod Says
 pub mod Replies
 pub mod Days
 pub mod Holds
+pub mod Stood
 pub mod Orders

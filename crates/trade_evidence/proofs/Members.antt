@@ -134,6 +134,40 @@ pub found_picked : {X Y : Type 0} (h : X → Option Y) (p : Y → Bool) (q : X �
 found_picked h p q same [] y e = absurd (none_is_some y e)
 found_picked h p q same (z ∷ zs) y e = found_at h p q same z zs y (h z) refl (found_picked h p q same zs y) e
 
+-- what stands at a place
+
+pub slice_unmap : {X Y : Type 0} (f : X → Y) (xs : List X) (k : ℕ) (y : Y) → slice_get (map f xs) k ≡ Some y → (x : X) × (slice_get xs k ≡ Some x) × (f x ≡ y)
+slice_unmap f [] k y e = absurd (none_is_some y e)
+slice_unmap f (x ∷ xs) zero y e = (x, refl, same_some (f x) y e)
+slice_unmap f (x ∷ xs) (suc k) y e = slice_unmap f xs k y e
+
+pub slice_map : {X Y : Type 0} (f : X → Y) (xs : List X) (k : ℕ) (x : X) → slice_get xs k ≡ Some x → slice_get (map f xs) k ≡ Some (f x)
+slice_map f [] k x e = absurd (none_is_some x e)
+slice_map f (z ∷ zs) zero x e = ap (λ y. Some (f y)) (same_some z x e)
+slice_map f (z ∷ zs) (suc k) x e = slice_map f zs k x e
+
+pub slice_In : {X : Type 0} (xs : List X) (k : ℕ) (x : X) → slice_get xs k ≡ Some x → In x xs
+slice_In [] k x e = absurd (none_is_some x e)
+slice_In (z ∷ zs) zero x e = inl (same_some z x e)
+slice_In (z ∷ zs) (suc k) x e = inr (slice_In zs k x e)
+
+pub slice_append : {X : Type 0} (xs ys : List X) (k : ℕ) (x : X) → slice_get (xs ++ ys) k ≡ Some x → (slice_get xs k ≡ Some x) ⊎ ((j : ℕ) × (k ≡ length xs + j) × (slice_get ys j ≡ Some x))
+slice_append [] ys k x e = inr (k, from_zero k, e)
+  where
+    from_zero : (a : ℕ) → a ≡ 0 + a
+    from_zero a = omega arith
+slice_append (z ∷ zs) ys zero x e = inl e
+slice_append (z ∷ zs) ys (suc k) x e = one_more (slice_append zs ys k x e)
+  where
+    one_more : (slice_get zs k ≡ Some x) ⊎ ((j : ℕ) × (k ≡ length zs + j) × (slice_get ys j ≡ Some x)) → (slice_get zs k ≡ Some x) ⊎ ((j : ℕ) × (suc k ≡ suc (length zs) + j) × (slice_get ys j ≡ Some x))
+    one_more (inl h) = inl h
+    one_more (inr h) = let e = h.1 in inr (h.0, omega (arith, e), h.2)
+
+pub slice_within : {X : Type 0} (xs : List X) (k : ℕ) (x : X) → slice_get xs k ≡ Some x → k < length xs
+slice_within [] k x e = absurd (none_is_some x e)
+slice_within (z ∷ zs) zero x e = omega arith
+slice_within (z ∷ zs) (suc k) x e = let h = slice_within zs k x e in omega (arith, h)
+
 -- Things that are numbered by their places, from n + 1 on.
 
 abbrev pub Places : {X : Type 0} → (X → ℕ) → ℕ → List X → Type 0

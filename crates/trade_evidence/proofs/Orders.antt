@@ -1,7 +1,7 @@
 -- The words of a day have both orders of each trade in the book, and its lines are theirs.
 use Rattle.std.proofs.Common.{◌≡◌, refl, sym, ap, subst, ◌∙◌, ℕ, ℤ, zero, suc, ◌+◌, ◌-◌, min, ◌==◌, ◌⊎◌, inl, inr, Bool, true, false, cond, not, ◌&&◌, nat_lt, if◌then◌else◌, List, [], ◌∷◌, ◌++◌, map, filter_map, find, length, slice_get, Option, Some, None, eq-eqb, ne_eqb, arith}
 use Rattle.std.specs.Prelude.{bytes_eq}
-use Rattle.std.specs.List.{enumerate_from}
+use Rattle.std.specs.List.{enumerate_from, flat_map}
 use Rattle.std.proofs.lemmas.Bool.{true≢false}
 use Rattle.sef_moment.specs.Utc.{greatest}
 use Rattle.fix_dictionary.specs.declared.values.Side.{Side}
@@ -29,14 +29,16 @@ use Rattle.trade_evidence.specs.declared.word.Held.{Held}
 use Rattle.trade_evidence.specs.declared.word.Said.{Said}
 use Rattle.trade_evidence.specs.declared.word.Said.TheVariants as said
 use Rattle.trade_evidence.specs.declared.word.Word.{Word}
-use Rattle.trade_evidence.specs.Found.{CameAt, HasOrders, HasRow, TellsOrder, moment_told, price_told}
-use Rattle.trade_evidence.specs.Lines.{both_lines, enters_said, entry_moment, entry_of, entry_said, evidence, filled_of, fills_other_said, fills_said, held_until, held_until_said, hits_said, holds_said, is_sought, lines_in, moment_of, order_of, order_said, orders_lines, other_of, row_in, row_of, trade_line, trade_row, two_orders}
+use Rattle.trade_evidence.specs.Found.{CameAt, HasOrders, HasRow, TellsOrder, met_told, moment_told, price_told}
+use Rattle.trade_evidence.specs.Lines.{both_lines, enters_said, entry_moment, entry_of, entry_said, evidence, filled_of, fills_other_said, fills_said, held_until, held_until_said, hits_said, holds_said, is_sought, lines_in, moment_of, order_of, order_said, orders_lines, other_of, row_in, row_of, standing_line, trade_line, trade_row, two_orders}
 use Rattle.venue_core.specs.Replay.{AreTold, Tells}
+use Rattle.trade_evidence.specs.Standing.{prices_of, stood_words}
 use Rattle.trade_evidence.specs.Told.{numbered_in, trade_numbered, words_told}
-use Rattle.trade_evidence.proofs.Members.{Contains-from_In, In, In-append_cases, In-append_left, In-append_right, In-filter_map, In-from_Contains, In-map, Places, Places-found, Places-from, Places-same, Places-unmap, found_first, found_later, found_map, found_picked, map_In, none_is_some, picked_from, picked_passes, same_some}
+use Rattle.trade_evidence.proofs.Members.{Contains-from_In, In, In-append_cases, In-append_left, In-append_right, In-filter_map, In-from_Contains, In-map, Places, Places-found, Places-from, Places-same, Places-unmap, found_first, found_later, found_map, found_picked, map_In, none_is_some, picked_from, picked_passes, same_some, slice_In, slice_map, slice_unmap}
 use Rattle.trade_evidence.proofs.Says.{HeardEntry, HeardFill, HeardHit, HeardHold, entry_in, entry_of_said, fill_in, fill_of_said, hold_in, hold_of_said, trade_of_said, traded_in}
 use Rattle.trade_evidence.proofs.Replies.{AreOf, IsOf, fills_told, hits_of, hits_told, input-Says, is_tick_input, moment_at, pair_told, price_at, told_hold}
 use Rattle.trade_evidence.proofs.Days.{IsAdded, added, added_are, day_entries, day_fills, day_hits, day_holds, entry_at, hold_at, is_added, it, map_map, trade_at}
+use Rattle.trade_evidence.proofs.Stood.{standing_told}
 use Rattle.trade_evidence.proofs.Holds.{HoldsApart, IsOfHeld, day_apart, has_name, holds_stay, tick_entry}
 
 -- A trade as it is read back is a fact of the day.
@@ -103,6 +105,17 @@ entered_fact (fact.Asked x) e h = absurd (none_is_some e h)
 entered_fact (fact.Quoted x) e h = absurd (none_is_some e h)
 entered_fact (fact.Withdrawn x) e h = absurd (none_is_some e h)
 entered_fact (fact.Closed x) e h = absurd (none_is_some e h)
+
+traded_fact : (f : Fact) (x : Trade) → trade_in_fact f ≡ Some x → f ≡ fact.Traded x
+traded_fact (fact.Traded y) x h = ap (λ (z : Trade). fact.Traded z) (same_some y x h)
+traded_fact (fact.Held y) x h = absurd (none_is_some x h)
+traded_fact (fact.Entered y) x h = absurd (none_is_some x h)
+traded_fact (fact.Removed y) x h = absurd (none_is_some x h)
+traded_fact (fact.Unheld y) x h = absurd (none_is_some x h)
+traded_fact (fact.Asked y) x h = absurd (none_is_some x h)
+traded_fact (fact.Quoted y) x h = absurd (none_is_some x h)
+traded_fact (fact.Withdrawn y) x h = absurd (none_is_some x h)
+traded_fact (fact.Closed y) x h = absurd (none_is_some x h)
 
 -- What a word that is found says.
 
@@ -277,21 +290,6 @@ entry_found m number rs is told places p i =
     }
 
 -- The fills of a trade are found by its number: first the entering order's, then the other's.
-
-slice_unmap : {X Y : Type 0} (f : X → Y) (xs : List X) (k : ℕ) (y : Y) → slice_get (map f xs) k ≡ Some y → (x : X) × (slice_get xs k ≡ Some x) × (f x ≡ y)
-slice_unmap f [] k y e = absurd (none_is_some y e)
-slice_unmap f (x ∷ xs) zero y e = (x, refl, same_some (f x) y e)
-slice_unmap f (x ∷ xs) (suc k) y e = slice_unmap f xs k y e
-
-slice_map : {X Y : Type 0} (f : X → Y) (xs : List X) (k : ℕ) (x : X) → slice_get xs k ≡ Some x → slice_get (map f xs) k ≡ Some (f x)
-slice_map f [] k x e = absurd (none_is_some x e)
-slice_map f (z ∷ zs) zero x e = ap (λ y. Some (f y)) (same_some z x e)
-slice_map f (z ∷ zs) (suc k) x e = slice_map f zs k x e
-
-slice_In : {X : Type 0} (xs : List X) (k : ℕ) (x : X) → slice_get xs k ≡ Some x → In x xs
-slice_In [] k x e = absurd (none_is_some x e)
-slice_In (z ∷ zs) zero x e = inl (same_some z x e)
-slice_In (z ∷ zs) (suc k) x e = inr (slice_In zs k x e)
 
 -- what is found among the two fills of a trade with a number, and passes over those of others
 pub record FindsPair (test : HeardFill → Bool) (number old new found : ℕ) : Type 0 where
@@ -500,6 +498,10 @@ book_trades_have_orders best numbers m rs is number t told numbered placed =
     let by_first = filled_in first.0 first.0.said _ first.2 in
     let by_second = filled_in second.0 second.0.said _ second.2 in
     let own = with_entry m no_history rs is told q.0 old new (slice_In made (number - 1) q.0 q.1) at in
+    let stood = standing_told m number rs is told old new q.0 q.1 at from in
+    let answered = (answer_input m (run m stood.0.earlier).history q.0.1).facts in
+    let came = picked_from trade_in_fact answered q.0.2 stood.0.made in
+    let met_one : stood.0.of ≡ both.rested = Places-same (λ (e : Entry). e.number) 0 (entries facts) in_places stood.0.of both.rested stood.0.of_in both.rested_in (stood.0.number_is ∙ sym both.old_is) in
     let together : beside q.0 own.0 ≡ entered.0 = Places-same (λ (p : TrailRow × Input × Entry). p.2.number) 0 all places (beside q.0 own.0) entered.0 own.1 entered.1 (own.2 ∙ sym new_is) in
     record {
       trade = x.trade;
@@ -512,6 +514,18 @@ book_trades_have_orders best numbers m rs is number t told numbered placed =
       tells_rested = found_old.tells;
       tells_entered = found_new.tells;
       read_back = sym read;
+      stood = record {
+        row = q.0.0;
+        input = q.0.1;
+        made = record {
+          earlier = stood.0.earlier;
+          later = stood.0.later;
+          taken = stood.0.taken;
+          told = stood.0.told;
+          made = Contains-from_In answered (fact.Traded x.trade) (subst (λ (f : Fact). In f answered) (traded_fact came.0 q.0.2 came.2 ∙ ap (λ (y : Trade). fact.Traded y) q.2) came.1);
+        };
+        lines = stood.1 ∙ ap (λ (e : Entry). flat_map standing_line (stood_words q.0.0.n q.0.0.moment (met_told m e) (prices_of m (run m stood.0.earlier).history (symbol_of m.instruments e.order.instrument)))) (met_one ∙ sym rested.2);
+      };
       lines = lines_of m words t number old new found_old.entry found_new.entry (ap (λ (y : TradeFact). y.number) (sym read)) placed
           (ap row_of first.1 ∙ (by_first.1 ∙ (ap (λ (p : TrailRow × Input × Entry). p.0.n) together ∙ sym found_new.at_row))) (ap order_of first.1 ∙ by_first.0) (ap order_of second.1 ∙ by_second.0)
           (ap (λ (n : ℕ). entry_of words (find (is_sought (Order n)) words)) (sym old_is) ∙ found_old.found) (ap (λ (n : ℕ). entry_of words (find (is_sought (Order n)) words)) (sym new_is) ∙ found_new.found);
@@ -592,17 +606,6 @@ row_found m number rs is told from q e (InRoom room quote) at =
     let first = found_picked traded_in test (is_sought (Hit number)) (λ w. hit_test number w w.said) words (record { row = q.0.n; room = room; trade = number })
     (ap (find test) (day_hits m number no_history rs is told) ∙ hit_found number room quote 1 (number - 1) (map trade_at made) (trade_at q) (slice_map trade_at made (number - 1) q e) at from) in
     ap row_of first.1 ∙ hit_row first.0 first.0.said _ first.2
-
-traded_fact : (f : Fact) (x : Trade) → trade_in_fact f ≡ Some x → f ≡ fact.Traded x
-traded_fact (fact.Traded y) x h = ap (λ (z : Trade). fact.Traded z) (same_some y x h)
-traded_fact (fact.Held y) x h = absurd (none_is_some x h)
-traded_fact (fact.Entered y) x h = absurd (none_is_some x h)
-traded_fact (fact.Removed y) x h = absurd (none_is_some x h)
-traded_fact (fact.Unheld y) x h = absurd (none_is_some x h)
-traded_fact (fact.Asked y) x h = absurd (none_is_some x h)
-traded_fact (fact.Quoted y) x h = absurd (none_is_some x h)
-traded_fact (fact.Withdrawn y) x h = absurd (none_is_some x h)
-traded_fact (fact.Closed y) x h = absurd (none_is_some x h)
 
 pub trades_have_rows : (m : Market) (rs : List TrailRow) (is : List Input) (number : ℕ) (t : TradeFact) → AreTold rs is → trade_numbered (run m is).history number ≡ Some t → HasRow m rs is (words_told m number rs is) number t
 trades_have_rows m rs is number t told numbered =

@@ -1,6 +1,6 @@
 -- The replies to each message, and to a tick, say which orders enter by it, what trades are made, and which side is held.
 use Rattle.std.proofs.Common.{◌≡◌, refl, sym, ap, subst, ◌∙◌, ◌⊎◌, inl, inr, ℕ, ℤ, ◌+◌, ◌-◌, ◌==◌, Bool, true, false, cond, not, ◌&&◌, ◌||◌, nat_lt, if◌then◌else◌, List, [], ◌∷◌, ◌++◌, map, filter_map, flat_map, take, Option, Some, None, is_none, append-nil, arith, pos, eqb-true}
-use Rattle.std.specs.Prelude.{bytes_eq, unwrap_or}
+use Rattle.std.specs.Prelude.{bytes_eq, filter, sum_by, unwrap_or}
 use Rattle.std.specs.List.{cons_option, enumerate_from}
 use Rattle.std.proofs.lemmas.Bool.{true≢false, false_from_ne_true}
 use Rattle.std.proofs.lemmas.List.Elements.{filter_map-append}
@@ -34,10 +34,11 @@ use Rattle.venue_rules.specs.declared.replies.QuoteState.TheVariants.{Accepted, 
 use Rattle.venue_rules.specs.declared.replies.OrderReport.{OrderReport}
 use Rattle.venue_rules.specs.declared.replies.Reply.{Reply}
 use Rattle.venue_rules.specs.declared.trail.TrailRow.{TrailRow}
-use Rattle.venue_rules.specs.declared.replies.What.TheVariants.{OrderEntered, OrderReplaced, OrderUnfilled}
+use Rattle.venue_rules.specs.declared.replies.What.{What}
+use Rattle.venue_rules.specs.declared.replies.What.TheVariants.{OrderEntered, OrderFilled, OrderReplaced, OrderUnfilled}
 use Rattle.venue_rules.specs.Answer.{Answer, Sender, first_of, numbered, reply}
 use Rattle.venue_rules.specs.Answers.{answer_app, type_of}
-use Rattle.venue_rules.specs.Book.{Fill, Resting, fills, filled, filled_by, find_order, is_day, left, rests, with_left}
+use Rattle.venue_rules.specs.Book.{Fill, Resting, accepts, against, fills, filled, filled_by, find_order, is_better, is_day, is_killed, left, opposite, paired, rank, ranked, rests, shares, with_left}
 use Rattle.venue_rules.specs.Changes.{Named, IsResting, IsHeld, IsUnknown, named, standing, answer_cancel_of, answer_replace_of, cancel_refusals, held_replace_refusals, replace_refusals, replace_refused, cancelled, held_cancelled, replaced, replacement}
 use Rattle.venue_rules.specs.Crosses.{answer_cross, answer_due, cross_accepted, cross_refusals, side_order, first_side, is_first, second_side, due_refusals}
 use Rattle.venue_rules.specs.Delay.{due, find_held}
@@ -56,10 +57,13 @@ use Rattle.trade_evidence.specs.declared.came.Came.{Came}
 use Rattle.trade_evidence.specs.declared.came.Came.TheVariants as came
 use Rattle.trade_evidence.specs.declared.came.Crossed.{Crossed}
 use Rattle.trade_evidence.specs.declared.word.Word.{Word}
+use Rattle.trade_evidence.specs.declared.standing.Met.{Met}
+use Rattle.trade_evidence.specs.Found.{met_told}
 use Rattle.trade_evidence.specs.Said.{came_in, is_tick, price_in}
+use Rattle.trade_evidence.specs.Standing.{met_of}
 use Rattle.venue_core.specs.Replay.{Tells}
 use Rattle.trade_evidence.specs.Told.{came_of}
-use Rattle.trade_evidence.proofs.Members.{In, found_passes}
+use Rattle.trade_evidence.proofs.Members.{In, In-append_left, In-append_right, In-filter, In-map, found_passes}
 use Rattle.trade_evidence.proofs.Says.{HeardEntry, HeardFill, HeardHit, HeardHold, entry_by, entry_from, fill_by, hit_by, hit_from, hold_by, hold_from}
 
 -- What is to be heard of facts.
@@ -117,6 +121,19 @@ AreOf es (t ∷ ts) = IsOf es t.place × AreOf es ts
 abbrev pub HoldsAnew : List Fact → List HeldSide → Type 0
 HoldsAnew before ks = (ks ≡ []) ⊎ ((k : HeldSide) × (ks ≡ k ∷ []) × (is_order_id_used before k.order.who k.order.id ≡ false))
 
+-- the order of which a report tells a fill
+abbrev pub met_in_what : ℕ → What → Option Met
+met_in_what to (OrderFilled f) = met_of to f f.order.order
+met_in_what to _ = None
+
+abbrev pub met_in : Reply → Option Met
+met_in r = met_in_what r.to r.what
+
+-- each is one of these entries
+abbrev pub FillsOf : Market → List Entry → List Met → Type 0
+FillsOf m es [] = Unit {0}
+FillsOf m es (x ∷ xs) = ((e : Entry) × In e es × (x ≡ met_told m e)) × FillsOf m es xs
+
 -- where an answer is told
 pub record Here : Type 0 where
   pub market : Market
@@ -132,7 +149,8 @@ Says w h a =
     × ((filter_map (hold_by w.moment w.came) a.replies ≡ map told_hold (held_sides a.facts))
     × (AreOf (entries a.facts) (trades a.facts)
     × (HoldsAnew h.facts (held_sides a.facts)
-    × (filter_map (hit_by w.row w.came) a.replies ≡ hits_told (next_trade h.facts) (at_row w.row (trades a.facts)))))))
+    × ((filter_map (hit_by w.row w.came) a.replies ≡ hits_told (next_trade h.facts) (at_row w.row (trades a.facts)))
+    × FillsOf w.market (entries h.facts ++ entries a.facts) (filter_map met_in a.replies))))))
 
 -- the first refusal that holds
 
@@ -159,6 +177,7 @@ pub record IsSilent (w : Here) (rs : List Reply) : Type 0 where
   pub fill : filter_map (fill_by w.row) rs ≡ []
   pub hold : filter_map (hold_by w.moment w.came) rs ≡ []
   pub hit : filter_map (hit_by w.row w.came) rs ≡ []
+  pub met : filter_map met_in rs ≡ []
 
 -- Reports that wait for their numbers.
 
@@ -173,6 +192,51 @@ steady_append pick (f ∷ fs) gs a b = (a.0, steady_append pick fs gs a.1 b)
 numbered_picked : {Y : Type 0} (pick : Reply → Option Y) (n : ℕ) (fs : List (ℕ → Reply)) → IsSteady pick fs → filter_map pick (numbered n fs) ≡ filter_map (λ f. pick (f 0)) fs
 numbered_picked pick n [] s = refl
 numbered_picked pick n (f ∷ fs) s = ap (λ o. cons_option o (filter_map pick (numbered (n + 1) fs))) (s.0 (n + 1)) ∙ ap (cons_option (pick (f 0))) (numbered_picked pick (n + 1) fs s.1)
+
+-- A fill is with an order that entered.
+
+In-rank : (side : Side) (r : Resting) (ss : List Resting) (x : Resting) → In x (rank side r ss) → In x (r ∷ ss)
+In-rank side r [] x i = i
+In-rank side r (s ∷ ss) x i =
+    (elim (is_better side s.entry.order.price r.entry.order.price) as (λ b. In x (if b then s ∷ rank side r ss else r ∷ s ∷ ss) → In x (r ∷ s ∷ ss)) [ true ↦ λ k. behind_first (In-rank side r ss x) k | false ↦ λ k. k ]) i
+  where
+    swap : In x (r ∷ ss) → In x (r ∷ s ∷ ss)
+    swap (inl e) = inl e
+    swap (inr k) = inr (inr k)
+
+    behind_first : (In x (rank side r ss) → In x (r ∷ ss)) → In x (s ∷ rank side r ss) → In x (r ∷ s ∷ ss)
+    behind_first rec (inl e) = inr (inl e)
+    behind_first rec (inr k) = swap (rec k)
+
+In-ranked : (side : Side) (rs : List Resting) (x : Resting) → In x (ranked side rs) → In x rs
+In-ranked side [] x i = i
+In-ranked side (r ∷ rs) x i = by (In-ranked side rs x) (In-rank side r (ranked side rs) x i)
+  where
+    by : (In x (ranked side rs) → In x rs) → In x (r ∷ ranked side rs) → In x (r ∷ rs)
+    by rec (inl e) = inl e
+    by rec (inr k) = inr (rec k)
+
+In-paired : (rs : List Resting) (qs : List ℕ) (f : Fill) → In f (paired rs qs) → In f.resting rs
+In-paired [] qs f i = absurd i
+In-paired (r ∷ rs) [] f i = absurd i
+In-paired (r ∷ rs) (q ∷ qs) f (inl e) = inl (ap (λ (g : Fill). g.resting) e)
+In-paired (r ∷ rs) (q ∷ qs) f (inr i) = inr (In-paired rs qs f i)
+
+unless : (b : Bool) (f : Fill) (fs : List Fill) → In f (if b then [] else fs) → In f fs
+unless true f fs i = absurd i
+unless false f fs i = i
+
+fill_entered : (facts : List Fact) (o : OrderFact) (f : Fill) → In f (fills facts o) → In f.resting.entry (entries facts)
+fill_entered facts o f i =
+    let rs = against facts o in
+    let lefts = map (λ (r : Resting). r.left) rs in
+    let qs = shares o.quantity lefts in
+    let all = map (with_left (left facts)) (entries facts) in
+    let here = filter (rests o.instrument (opposite o.side)) all in
+    let paired_in = In-filter (λ (g : Fill). nat_lt 0 g.quantity) (paired rs qs) f (unless (is_killed o.life o.quantity (sum_by (λ (r : Resting). r.left) rs)) f (filter (λ (g : Fill). nat_lt 0 g.quantity) (paired rs qs)) i) in
+    let rests_in = In-filter (λ (r : Resting). accepts o.side o.price r.entry.order.price) (ranked (opposite o.side) here) f.resting (In-paired rs qs f paired_in) in
+    let entered = In-map (with_left (left facts)) (entries facts) f.resting (In-filter (rests o.instrument (opposite o.side)) all f.resting (In-ranked (opposite o.side) here f.resting rests_in)) in
+    subst (λ (e : Entry). In e (entries facts)) (ap (λ (r : Resting). r.entry) entered.2) entered.1
 
 -- An order that enters.
 
@@ -222,6 +286,13 @@ hold_picks t c m e = record { steady = λ x left done f trade k. refl; rest = λ
 
 hit_picks : (n : ℕ) (c : Came) (m : Market) (e : Entry) → Picks (hit_by n c) m e
 hit_picks n c m e = record { steady = λ x left done f trade k. refl; rest = λ fs k. refl }
+
+met_picks : (m : Market) (e : Entry) → Picks met_in m e
+met_picks m e = record { steady = λ x left done f trade k. refl; rest = λ fs k. refl }
+
+fills_met : (m : Market) (e : Entry) (all : List Fill) (trade j : ℕ) (fs : List Fill) (es : List Entry) → In e es → ((f : Fill) → In f fs → In f.resting.entry es) → FillsOf m es (filter_map (λ (f : ℕ → Reply). met_in (f 0)) (flat_map (fill_reports m e all trade) (enumerate_from j fs)))
+fills_met m e all trade j [] es own there = tt
+fills_met m e all trade j (f ∷ fs) es own there = ((e, own, refl), ((f.resting.entry, there f (inl refl), refl), fills_met m e all trade (j + 1) fs es own (λ g i. there g (inr i))))
 
 no_hits : (n : ℕ) (c : Came) (m : Market) (e : Entry) (all : List Fill) (trade j : ℕ) (fs : List Fill) → filter_map (λ (f : ℕ → Reply). hit_by n c (f 0)) (flat_map (fill_reports m e all trade) (enumerate_from j fs)) ≡ []
 no_hits n c m e all trade j [] = refl
@@ -298,6 +369,14 @@ hit_said w facts e fs n first is =
     ∙ (ap (λ o. cons_option o (filter_map (λ (f : ℕ → Reply). hit_by w.row w.came (f 0)) (flat_map (fill_reports w.market e fs (next_trade facts)) (enumerate_from 0 fs)))) (is 0)
     ∙ (no_hits w.row w.came w.market e fs (next_trade facts) 0 fs ∙ sym (none_in_rooms w.row (next_trade facts) e fs)))
 
+met_said : (w : Here) (h : History) (e : Entry) (n : ℕ) (first : ℕ → Reply) → ((k : ℕ) → met_in (first k) ≡ None) → FillsOf w.market (entries h.facts ++ entries (entry_facts e (fills h.facts e.order))) (filter_map met_in (numbered n (first ∷ entry_reports w.market h.facts e (fills h.facts e.order))))
+met_said w h e n first is =
+    let fs = fills h.facts e.order in
+    let es = entries h.facts ++ entries (entry_facts e fs) in
+    subst (FillsOf w.market es)
+    (sym (entry_picked met_in w.market h.facts e (met_picks w.market e) fs n first (λ k. is k ∙ sym (is 0)) ∙ ap (λ o. cons_option o (filter_map (λ (f : ℕ → Reply). met_in (f 0)) (flat_map (fill_reports w.market e fs (next_trade h.facts)) (enumerate_from 0 fs)))) (is 0)))
+    (fills_met w.market e fs (next_trade h.facts) 0 fs es (In-append_right (entries h.facts) (entries (entry_facts e fs)) e (inl refl)) (λ f i. In-append_left (entries h.facts) (entries (entry_facts e fs)) f.resting.entry (fill_entered h.facts e.order f i)))
+
 -- what came fits the terms of the order that enters
 pub record Fits (w : Here) (e : Entry) : Type 0 where
   pub price : price_in w.came ≡ price_at w.tick e.order.price
@@ -323,6 +402,9 @@ accepted_hold w h o t held is = let e = entering h.facts o 0 t in hold_said w h.
 accepted_hit : (w : Here) (h : History) (o : OrderFact) (t : ℕ) → filter_map (hit_by w.row w.came) (accepted w.market h o t).replies ≡ hits_told (next_trade h.facts) (at_row w.row (trades (accepted w.market h o t).facts))
 accepted_hit w h o t = let e = entering h.facts o 0 t in hit_said w h.facts e (fills h.facts o) h.reports (λ n. reply o.who (OrderEntered (order_report w.market e o.quantity 0 n))) (λ k. refl)
 
+accepted_met : (w : Here) (h : History) (o : OrderFact) (t : ℕ) → FillsOf w.market (entries h.facts ++ entries (accepted w.market h o t).facts) (filter_map met_in (accepted w.market h o t).replies)
+accepted_met w h o t = let e = entering h.facts o 0 t in met_said w h e h.reports (λ n. reply o.who (OrderEntered (order_report w.market e o.quantity 0 n))) (λ k. refl)
+
 accepted_of : (m : Market) (h : History) (o : OrderFact) (t : ℕ) → AreOf (entries (accepted m h o t).facts) (trades (accepted m h o t).facts)
 accepted_of m h o t = trades_of_entry (entries (accepted m h o t).facts) (entering h.facts o 0 t) (fills h.facts o) (inl refl)
 
@@ -330,7 +412,7 @@ accepted-Says : (w : Here) (h : History) (o : OrderFact) (t : ℕ) → Fits w (e
 accepted-Says w h o t f none =
     let e = entering h.facts o 0 t in
     let held = no_held_facts e (fills h.facts o) in
-    (accepted_entry w h o t f, (accepted_fill w h o t, (accepted_hold w h o t None none ∙ sym (ap (map told_hold) held), (accepted_of w.market h o t, (inl held, accepted_hit w h o t)))))
+    (accepted_entry w h o t f, (accepted_fill w h o t, (accepted_hold w h o t None none ∙ sym (ap (map told_hold) held), (accepted_of w.market h o t, (inl held, (accepted_hit w h o t, accepted_met w h o t))))))
 
 replaced-Says : (w : Here) (h : History) (s : Sender) (d : ReplaceMessage) (r : Resting) (t : ℕ) → Fits w (entering h.facts (replacement d r) (filled r) t) → s.who ≡ r.entry.order.who → Says w h (replaced w.market h s d r t)
 replaced-Says w h s d r t f own =
@@ -344,7 +426,7 @@ replaced-Says w h s d r t f own =
         fill_said w h.facts e fs h.reports first (λ k. refl),
         (
           hold_said w h.facts e fs h.reports first None (λ k. refl) ∙ sym (ap (map told_hold) held),
-          (trades_of_entry (entries (entry_facts e fs)) e fs (inl refl), (inl held, hit_said w h.facts e fs h.reports first (λ k. refl))),
+          (trades_of_entry (entries (entry_facts e fs)) e fs (inl refl), (inl held, (hit_said w h.facts e fs h.reports first (λ k. refl), met_said w h e h.reports first (λ k. refl)))),
         ),
       ),
     )
@@ -377,20 +459,20 @@ order-Says : (w : Here) (h : History) (s : Sender) (d : OrderMessage) (t : ℕ) 
 order-Says w h s d t is price none =
     let o = order_asked w.market s.who d in
     let e = entering h.facts o 0 t in
-    first_of-Says w h (order_refusals w.market h s d t) (accepted w.market h o t) ((refl, (refl, (refl, (tt, (inl refl, refl))))), ((refl, (refl, (refl, (tt, (inl refl, refl))))), ((refl, (refl, (refl, (tt, (inl refl, refl))))), ((refl, (refl, (refl, (tt, (inl refl, refl))))), ((refl, (refl, (refl, (tt, (inl refl, refl))))), ((refl, (refl, (refl, (tt, (inl refl, refl))))), ((refl, (refl, (refl, (tt, (inl refl, refl))))), ((refl, (refl, (refl, (tt, (inl refl, refl))))), tt))))))))
+    first_of-Says w h (order_refusals w.market h s d t) (accepted w.market h o t) ((refl, (refl, (refl, (tt, (inl refl, (refl, tt)))))), ((refl, (refl, (refl, (tt, (inl refl, (refl, tt)))))), ((refl, (refl, (refl, (tt, (inl refl, (refl, tt)))))), ((refl, (refl, (refl, (tt, (inl refl, (refl, tt)))))), ((refl, (refl, (refl, (tt, (inl refl, (refl, tt)))))), ((refl, (refl, (refl, (tt, (inl refl, (refl, tt)))))), ((refl, (refl, (refl, (tt, (inl refl, (refl, tt)))))), ((refl, (refl, (refl, (tt, (inl refl, (refl, tt)))))), tt))))))))
     (λ n. accepted-Says w h o t (message_fits w e t d.price is price refl refl n.1.1.1.0) (λ k. none o.who (order_report w.market e o.quantity 0 k)))
 
 cancel-Says : (w : Here) (h : History) (s : Sender) (d : CancelMessage) (n : Named) → Says w h (answer_cancel_of w.market h s d n)
-cancel-Says w h s d IsUnknown = (refl, (refl, (refl, (tt, (inl refl, refl)))))
-cancel-Says w h s d (IsHeld k) = first_of-Says w h (cancel_refusals h s d None) (held_cancelled w.market h s d k) ((refl, (refl, (refl, (tt, (inl refl, refl))))), tt) (λ n. (refl, (refl, (refl, (tt, (inl refl, refl))))))
-cancel-Says w h s d (IsResting r) = first_of-Says w h (cancel_refusals h s d (Some (standing r))) (cancelled w.market h s d r) ((refl, (refl, (refl, (tt, (inl refl, refl))))), tt) (λ n. (refl, (refl, (refl, (tt, (inl refl, refl))))))
+cancel-Says w h s d IsUnknown = (refl, (refl, (refl, (tt, (inl refl, (refl, tt))))))
+cancel-Says w h s d (IsHeld k) = first_of-Says w h (cancel_refusals h s d None) (held_cancelled w.market h s d k) ((refl, (refl, (refl, (tt, (inl refl, (refl, tt)))))), tt) (λ n. (refl, (refl, (refl, (tt, (inl refl, (refl, tt)))))))
+cancel-Says w h s d (IsResting r) = first_of-Says w h (cancel_refusals h s d (Some (standing r))) (cancelled w.market h s d r) ((refl, (refl, (refl, (tt, (inl refl, (refl, tt)))))), tt) (λ n. (refl, (refl, (refl, (tt, (inl refl, (refl, tt)))))))
 
 replace-Says : (w : Here) (h : History) (s : Sender) (d : ReplaceMessage) (t : ℕ) (n : Named) → IsMessage w t → price_in w.came ≡ d.price → ((r : Resting) → n ≡ IsResting r → s.who ≡ r.entry.order.who) → Says w h (answer_replace_of w.market h s d t n)
-replace-Says w h s d t IsUnknown is price own = (refl, (refl, (refl, (tt, (inl refl, refl)))))
-replace-Says w h s d t (IsHeld k) is price own = first_of-Says w h (held_replace_refusals h s d) (replace_refused s d None IsHeldSide) ((refl, (refl, (refl, (tt, (inl refl, refl))))), tt) (λ n. (refl, (refl, (refl, (tt, (inl refl, refl))))))
+replace-Says w h s d t IsUnknown is price own = (refl, (refl, (refl, (tt, (inl refl, (refl, tt))))))
+replace-Says w h s d t (IsHeld k) is price own = first_of-Says w h (held_replace_refusals h s d) (replace_refused s d None IsHeldSide) ((refl, (refl, (refl, (tt, (inl refl, (refl, tt)))))), tt) (λ n. (refl, (refl, (refl, (tt, (inl refl, (refl, tt)))))))
 replace-Says w h s d t (IsResting r) is price own =
     let e = entering h.facts (replacement d r) (filled r) t in
-    first_of-Says w h (replace_refusals w.market h s d r t) (replaced w.market h s d r t) ((refl, (refl, (refl, (tt, (inl refl, refl))))), ((refl, (refl, (refl, (tt, (inl refl, refl))))), ((refl, (refl, (refl, (tt, (inl refl, refl))))), ((refl, (refl, (refl, (tt, (inl refl, refl))))), ((refl, (refl, (refl, (tt, (inl refl, refl))))), ((refl, (refl, (refl, (tt, (inl refl, refl))))), ((refl, (refl, (refl, (tt, (inl refl, refl))))), tt)))))))
+    first_of-Says w h (replace_refusals w.market h s d r t) (replaced w.market h s d r t) ((refl, (refl, (refl, (tt, (inl refl, (refl, tt)))))), ((refl, (refl, (refl, (tt, (inl refl, (refl, tt)))))), ((refl, (refl, (refl, (tt, (inl refl, (refl, tt)))))), ((refl, (refl, (refl, (tt, (inl refl, (refl, tt)))))), ((refl, (refl, (refl, (tt, (inl refl, (refl, tt)))))), ((refl, (refl, (refl, (tt, (inl refl, (refl, tt)))))), ((refl, (refl, (refl, (tt, (inl refl, (refl, tt)))))), tt)))))))
     (λ n. replaced-Says w h s d r t (message_fits w e t d.price is price refl refl n.1.1.0) (own r refl))
 
 -- who replaces an order is its owner
@@ -478,7 +560,13 @@ cross_accepted-Says w h s d t is came some one other apart =
           accepted_hold w h o t (Some (told_hold k)) (crossed_hold w h s d t came is.moment apart) ∙ sym (ap (map told_hold) held),
           (
             subst (λ es. AreOf es (trades (first.facts ++ Held k ∷ []))) same_entries (subst (AreOf (entries first.facts)) same_trades (accepted_of w.market h o t)),
-            (inr (k, held, second_unused h.facts s.who d one other), accepted_hit w h o t ∙ ap (λ ts. hits_told (next_trade h.facts) (at_row w.row ts)) same_trades),
+            (
+              inr (k, held, second_unused h.facts s.who d one other),
+              (
+                accepted_hit w h o t ∙ ap (λ ts. hits_told (next_trade h.facts) (at_row w.row ts)) same_trades,
+                subst (λ es. FillsOf w.market (entries h.facts ++ es) (filter_map met_in first.replies)) same_entries (accepted_met w h o t),
+              ),
+            ),
           ),
         ),
       ),
@@ -486,7 +574,7 @@ cross_accepted-Says w h s d t is came some one other apart =
 
 cross-Says : (w : Here) (h : History) (s : Sender) (d : CrossMessage) (t : ℕ) → IsMessage w t → w.came ≡ crossed w.market d → Says w h (answer_cross w.market h s d t)
 cross-Says w h s d t is came =
-    first_of-Says w h (cross_refusals w.market h s d t) (cross_accepted w.market h s d t) ((refl, (refl, (refl, (tt, (inl refl, refl))))), ((refl, (refl, (refl, (tt, (inl refl, refl))))), ((refl, (refl, (refl, (tt, (inl refl, refl))))), ((refl, (refl, (refl, (tt, (inl refl, refl))))), ((refl, (refl, (refl, (tt, (inl refl, refl))))), ((refl, (refl, (refl, (tt, (inl refl, refl))))), ((refl, (refl, (refl, (tt, (inl refl, refl))))), ((refl, (refl, (refl, (tt, (inl refl, refl))))), ((refl, (refl, (refl, (tt, (inl refl, refl))))), ((refl, (refl, (refl, (tt, (inl refl, refl))))), ((refl, (refl, (refl, (tt, (inl refl, refl))))), tt)))))))))))
+    first_of-Says w h (cross_refusals w.market h s d t) (cross_accepted w.market h s d t) ((refl, (refl, (refl, (tt, (inl refl, (refl, tt)))))), ((refl, (refl, (refl, (tt, (inl refl, (refl, tt)))))), ((refl, (refl, (refl, (tt, (inl refl, (refl, tt)))))), ((refl, (refl, (refl, (tt, (inl refl, (refl, tt)))))), ((refl, (refl, (refl, (tt, (inl refl, (refl, tt)))))), ((refl, (refl, (refl, (tt, (inl refl, (refl, tt)))))), ((refl, (refl, (refl, (tt, (inl refl, (refl, tt)))))), ((refl, (refl, (refl, (tt, (inl refl, (refl, tt)))))), ((refl, (refl, (refl, (tt, (inl refl, (refl, tt)))))), ((refl, (refl, (refl, (tt, (inl refl, (refl, tt)))))), ((refl, (refl, (refl, (tt, (inl refl, (refl, tt)))))), tt)))))))))))
     (λ n.
     let free = n.1.1.0 in
     let one = is_order_id_used h.facts s.who d.first.order_id in
@@ -502,7 +590,7 @@ due-Says w h k tick came =
       tick = ap is_tick came ∙ sym tick;
       moment = sym (ap (λ (b : Bool). moment_at b w.moment k.due) tick);
     } in
-    due_first w h k (first_of-Says w h (due_refusals w.market h k) (accepted w.market h k.order k.due) ((refl, (refl, (refl, (tt, (inl refl, refl))))), ((refl, (refl, (refl, (tt, (inl refl, refl))))), tt)) (λ n. accepted-Says w h k.order k.due fits (λ j. ap (hold_from w.moment k.order.who (order_report w.market e k.order.quantity 0 j)) came)))
+    due_first w h k (first_of-Says w h (due_refusals w.market h k) (accepted w.market h k.order k.due) ((refl, (refl, (refl, (tt, (inl refl, (refl, tt)))))), ((refl, (refl, (refl, (tt, (inl refl, (refl, tt)))))), tt)) (λ n. accepted-Says w h k.order k.due fits (λ j. ap (hold_from w.moment k.order.who (order_report w.market e k.order.quantity 0 j)) came)))
   where
     due_first : (w : Here) (h : History) (k : HeldSide) → Says w h (first_of (due_refusals w.market h k) (accepted w.market h k.order k.due)) → Says w h (answer_due w.market h k)
     due_first w h k s = s
@@ -510,33 +598,33 @@ due-Says w h k tick came =
 -- Requests and quotes.
 
 requests_silent : (w : Here) (r : Room) (rs : List ℕ) → IsSilent w (map (request_sent w.market r) rs)
-requests_silent w r [] = record { entry = refl; fill = refl; hold = refl; hit = refl }
-requests_silent w r (x ∷ xs) = let k = requests_silent w r xs in record { entry = k.entry; fill = k.fill; hold = k.hold; hit = k.hit }
+requests_silent w r [] = record { entry = refl; fill = refl; hold = refl; hit = refl; met = refl }
+requests_silent w r (x ∷ xs) = let k = requests_silent w r xs in record { entry = k.entry; fill = k.fill; hold = k.hold; hit = k.hit; met = k.met }
 
 request-Says : (w : Here) (h : History) (s : Sender) (d : RequestMessage) (t : ℕ) → Says w h (answer_request w.market h s d t)
 request-Says w h s d t =
     let r = opened w.market h s d t in
     let k = requests_silent w r r.recipients in
-    first_of-Says w h (request_refusals w.market h s d t) (request_accepted w.market r) ((refl, (refl, (refl, (tt, (inl refl, refl))))), ((refl, (refl, (refl, (tt, (inl refl, refl))))), ((refl, (refl, (refl, (tt, (inl refl, refl))))), ((refl, (refl, (refl, (tt, (inl refl, refl))))), ((refl, (refl, (refl, (tt, (inl refl, refl))))), ((refl, (refl, (refl, (tt, (inl refl, refl))))), ((refl, (refl, (refl, (tt, (inl refl, refl))))), ((refl, (refl, (refl, (tt, (inl refl, refl))))), ((refl, (refl, (refl, (tt, (inl refl, refl))))), ((refl, (refl, (refl, (tt, (inl refl, refl))))), tt)))))))))) (λ n. (k.entry, (k.fill, (k.hold, (tt, (inl refl, k.hit))))))
+    first_of-Says w h (request_refusals w.market h s d t) (request_accepted w.market r) ((refl, (refl, (refl, (tt, (inl refl, (refl, tt)))))), ((refl, (refl, (refl, (tt, (inl refl, (refl, tt)))))), ((refl, (refl, (refl, (tt, (inl refl, (refl, tt)))))), ((refl, (refl, (refl, (tt, (inl refl, (refl, tt)))))), ((refl, (refl, (refl, (tt, (inl refl, (refl, tt)))))), ((refl, (refl, (refl, (tt, (inl refl, (refl, tt)))))), ((refl, (refl, (refl, (tt, (inl refl, (refl, tt)))))), ((refl, (refl, (refl, (tt, (inl refl, (refl, tt)))))), ((refl, (refl, (refl, (tt, (inl refl, (refl, tt)))))), ((refl, (refl, (refl, (tt, (inl refl, (refl, tt)))))), tt)))))))))) (λ n. (k.entry, (k.fill, (k.hold, (tt, (inl refl, (k.hit, subst (FillsOf w.market _) (sym k.met) tt)))))))
 
 shown_silent : (w : Here) (h : History) (s : Sender) (r : Room) (d : QuoteMessage) (o : Option RoomQuote) → IsSilent w (quote_status s d (Some (symbol_of w.market.instruments r.instrument)) Accepted ∷ shown_with w.market h r o ++ quote_sent w.market r (quoted h s r d) ∷ [])
-shown_silent w h s r d None = record { entry = refl; fill = refl; hold = refl; hit = refl }
-shown_silent w h s r d (Some q) = record { entry = refl; fill = refl; hold = refl; hit = refl }
+shown_silent w h s r d None = record { entry = refl; fill = refl; hold = refl; hit = refl; met = refl }
+shown_silent w h s r d (Some q) = record { entry = refl; fill = refl; hold = refl; hit = refl; met = refl }
 
 quote-Says : (w : Here) (h : History) (s : Sender) (d : QuoteMessage) (t : ℕ) (r : Option Room) → Says w h (answer_quote_of w.market h s d t r)
-quote-Says w h s d t None = (refl, (refl, (refl, (tt, (inl refl, refl)))))
+quote-Says w h s d t None = (refl, (refl, (refl, (tt, (inl refl, (refl, tt))))))
 quote-Says w h s d t (Some r) =
     let k = shown_silent w h s r d (first_quote h.facts r.number) in
-    first_of-Says w h (quote_refusals w.market h s r d t) (quote_accepted w.market h s r d) ((refl, (refl, (refl, (tt, (inl refl, refl))))), ((refl, (refl, (refl, (tt, (inl refl, refl))))), ((refl, (refl, (refl, (tt, (inl refl, refl))))), ((refl, (refl, (refl, (tt, (inl refl, refl))))), ((refl, (refl, (refl, (tt, (inl refl, refl))))), ((refl, (refl, (refl, (tt, (inl refl, refl))))), ((refl, (refl, (refl, (tt, (inl refl, refl))))), ((refl, (refl, (refl, (tt, (inl refl, refl))))), tt)))))))) (λ n. (k.entry, (k.fill, (k.hold, (tt, (inl refl, k.hit))))))
+    first_of-Says w h (quote_refusals w.market h s r d t) (quote_accepted w.market h s r d) ((refl, (refl, (refl, (tt, (inl refl, (refl, tt)))))), ((refl, (refl, (refl, (tt, (inl refl, (refl, tt)))))), ((refl, (refl, (refl, (tt, (inl refl, (refl, tt)))))), ((refl, (refl, (refl, (tt, (inl refl, (refl, tt)))))), ((refl, (refl, (refl, (tt, (inl refl, (refl, tt)))))), ((refl, (refl, (refl, (tt, (inl refl, (refl, tt)))))), ((refl, (refl, (refl, (tt, (inl refl, (refl, tt)))))), ((refl, (refl, (refl, (tt, (inl refl, (refl, tt)))))), tt)))))))) (λ n. (k.entry, (k.fill, (k.hold, (tt, (inl refl, (k.hit, subst (FillsOf w.market _) (sym k.met) tt)))))))
 
 -- Withdrawals.
 
 told_silent : (w : Here) (q : RoomQuote) (o : Option Room) (rs : List Reply) → IsSilent w rs → IsSilent w (elim o [ None ↦ [] | Some r ↦ to_maker w.market r q Withdrawn ∷ to_requester w.market r q Withdrawn ∷ [] ] ++ rs)
 told_silent w q None rs k = k
-told_silent w q (Some r) rs k = record { entry = k.entry; fill = k.fill; hold = k.hold; hit = k.hit }
+told_silent w q (Some r) rs k = record { entry = k.entry; fill = k.fill; hold = k.hold; hit = k.hit; met = k.met }
 
 all_silent : (w : Here) (h : History) (qs : List RoomQuote) → IsSilent w (flat_map (both_told w.market h) qs)
-all_silent w h [] = record { entry = refl; fill = refl; hold = refl; hit = refl }
+all_silent w h [] = record { entry = refl; fill = refl; hold = refl; hit = refl; met = refl }
 all_silent w h (q ∷ qs) = told_silent w q (room_by_number h.facts q.room) (flat_map (both_told w.market h) qs) (all_silent w h qs)
 
 none_entered : (qs : List RoomQuote) → entries (map (λ (q : RoomQuote). WithdrawnFact (record { quote = q.number })) qs) ≡ []
@@ -560,19 +648,19 @@ withdrawn-Says w h x (q ∷ qs) k =
         silent.fill ∙ sym (ap (λ ts. fills_told (next_trade h.facts) (at_row w.row ts)) (none_traded qs)),
         (
           silent.hold ∙ sym (ap (map told_hold) (none_held qs)),
-          (subst (AreOf _) (sym (none_traded qs)) tt, (inl (none_held qs), silent.hit ∙ sym (ap (λ ts. hits_told (next_trade h.facts) (at_row w.row ts)) (none_traded qs)))),
+          (subst (AreOf _) (sym (none_traded qs)) tt, (inl (none_held qs), (silent.hit ∙ sym (ap (λ ts. hits_told (next_trade h.facts) (at_row w.row ts)) (none_traded qs)), subst (FillsOf w.market _) (sym silent.met) tt))),
         ),
       ),
     )
 
 withdraw_one-Says : (w : Here) (h : History) (s : Sender) (t : ℕ) (id : Option (List ℕ)) → Says w h (withdraw_one w.market h s t id)
-withdraw_one-Says w h s t None = (refl, (refl, (refl, (tt, (inl refl, refl)))))
-withdraw_one-Says w h s t (Some id) = withdrawn-Says w h (not_found s (Some id)) _ (refl, (refl, (refl, (tt, (inl refl, refl)))))
+withdraw_one-Says w h s t None = (refl, (refl, (refl, (tt, (inl refl, (refl, tt))))))
+withdraw_one-Says w h s t (Some id) = withdrawn-Says w h (not_found s (Some id)) _ (refl, (refl, (refl, (tt, (inl refl, (refl, tt))))))
 
 withdrawal-Says : (w : Here) (h : History) (s : Sender) (d : WithdrawalMessage) (t : ℕ) (one all : Bool) → Says w h (answer_withdrawal_of w.market h s d t one all)
 withdrawal-Says w h s d t true all = withdraw_one-Says w h s t d.quote_id
-withdrawal-Says w h s d t false true = withdrawn-Says w h (not_found s None) _ (refl, (refl, (refl, (tt, (inl refl, refl)))))
-withdrawal-Says w h s d t false false = (refl, (refl, (refl, (tt, (inl refl, refl)))))
+withdrawal-Says w h s d t false true = withdrawn-Says w h (not_found s None) _ (refl, (refl, (refl, (tt, (inl refl, (refl, tt))))))
+withdrawal-Says w h s d t false false = (refl, (refl, (refl, (tt, (inl refl, (refl, tt))))))
 
 -- Answers to quotes.
 
@@ -581,27 +669,27 @@ abbrev IsResponse : Here → Type 0
 IsResponse w = (quote : List ℕ) × (w.came ≡ came.Response quote)
 
 hit_at-Says : (w : Here) (h : History) (s : Sender) (r : Room) (q : RoomQuote) (d : ResponseMessage) (t : ℕ) (side : Side) (p : Option ℤ) → IsResponse w → Says w h (answer_hit_at w.market h s r q d t side p)
-hit_at-Says w h s r q d t side None is = (refl, (refl, (refl, (tt, (inl refl, refl)))))
-hit_at-Says w h s r q d t side (Some p) is = (refl, (refl, (refl, ((tt, tt), (inl refl, ap (λ (c : Came). filter_map (hit_by w.row c) (room_traded w.market h s r q d side p t).replies) is.1)))))
+hit_at-Says w h s r q d t side None is = (refl, (refl, (refl, (tt, (inl refl, (refl, tt))))))
+hit_at-Says w h s r q d t side (Some p) is = (refl, (refl, (refl, ((tt, tt), (inl refl, (ap (λ (c : Came). filter_map (hit_by w.row c) (room_traded w.market h s r q d side p t).replies) is.1, tt))))))
 
 hit-Says : (w : Here) (h : History) (s : Sender) (r : Room) (q : RoomQuote) (d : ResponseMessage) (t : ℕ) (side : Option Side) → IsResponse w → Says w h (answer_hit w.market h s r q d t side)
-hit-Says w h s r q d t None is = (refl, (refl, (refl, (tt, (inl refl, refl)))))
+hit-Says w h s r q d t None is = (refl, (refl, (refl, (tt, (inl refl, (refl, tt))))))
 hit-Says w h s r q d t (Some side) is = hit_at-Says w h s r q d t side (price_for side q) is
 
 response_in-Says : (w : Here) (h : History) (s : Sender) (q : RoomQuote) (d : ResponseMessage) (t : ℕ) (r : Option Room) → IsResponse w → Says w h (answer_response_in w.market h s q d t r)
-response_in-Says w h s q d t None is = (refl, (refl, (refl, (tt, (inl refl, refl)))))
+response_in-Says w h s q d t None is = (refl, (refl, (refl, (tt, (inl refl, (refl, tt))))))
 response_in-Says w h s q d t (Some r) is =
-    first_of-Says w h (response_refusals w.market h s r q d t) (answer_hit w.market h s r q d t (taken_side r.side d.side)) ((refl, (refl, (refl, (tt, (inl refl, refl))))), ((refl, (refl, (refl, (tt, (inl refl, refl))))), ((refl, (refl, (refl, (tt, (inl refl, refl))))), ((refl, (refl, (refl, (tt, (inl refl, refl))))), ((refl, (refl, (refl, (tt, (inl refl, refl))))), ((refl, (refl, (refl, (tt, (inl refl, refl))))), tt)))))) (λ n. hit-Says w h s r q d t (taken_side r.side d.side) is)
+    first_of-Says w h (response_refusals w.market h s r q d t) (answer_hit w.market h s r q d t (taken_side r.side d.side)) ((refl, (refl, (refl, (tt, (inl refl, (refl, tt)))))), ((refl, (refl, (refl, (tt, (inl refl, (refl, tt)))))), ((refl, (refl, (refl, (tt, (inl refl, (refl, tt)))))), ((refl, (refl, (refl, (tt, (inl refl, (refl, tt)))))), ((refl, (refl, (refl, (tt, (inl refl, (refl, tt)))))), ((refl, (refl, (refl, (tt, (inl refl, (refl, tt)))))), tt)))))) (λ n. hit-Says w h s r q d t (taken_side r.side d.side) is)
 
 response_to-Says : (w : Here) (h : History) (s : Sender) (d : ResponseMessage) (t : ℕ) (q : Option RoomQuote) → IsResponse w → Says w h (answer_response_to w.market h s d t q)
-response_to-Says w h s d t None is = (refl, (refl, (refl, (tt, (inl refl, refl)))))
+response_to-Says w h s d t None is = (refl, (refl, (refl, (tt, (inl refl, (refl, tt))))))
 response_to-Says w h s d t (Some q) is = response_in-Says w h s q d t (room_by_number h.facts q.room) is
 
 response-Says : (w : Here) (h : History) (s : Sender) (d : ResponseMessage) (t : ℕ) → IsResponse w → Says w h (answer_response w.market h s d t)
-response-Says w h s d t is = first_of-Says w h (kind_refusals s d) _ ((refl, (refl, (refl, (tt, (inl refl, refl))))), tt) (λ n. response_to-Says w h s d t (find_quote h.facts d.quote_id) is)
+response-Says w h s d t is = first_of-Says w h (kind_refusals s d) _ ((refl, (refl, (refl, (tt, (inl refl, (refl, tt)))))), tt) (λ n. response_to-Says w h s d t (find_quote h.facts d.quote_id) is)
 
 market_data-Says : (w : Here) (h : History) (s : Sender) (d : MarketDataMessage) → Says w h (answer_market_data w.market h s d)
-market_data-Says w h s d = first_of-Says w h (market_data_refusals w.market s d) (market_data w.market h s d) ((refl, (refl, (refl, (tt, (inl refl, refl))))), ((refl, (refl, (refl, (tt, (inl refl, refl))))), ((refl, (refl, (refl, (tt, (inl refl, refl))))), tt))) (λ n. (refl, (refl, (refl, (tt, (inl refl, refl))))))
+market_data-Says w h s d = first_of-Says w h (market_data_refusals w.market s d) (market_data w.market h s d) ((refl, (refl, (refl, (tt, (inl refl, (refl, tt)))))), ((refl, (refl, (refl, (tt, (inl refl, (refl, tt)))))), ((refl, (refl, (refl, (tt, (inl refl, (refl, tt)))))), tt))) (λ n. (refl, (refl, (refl, (tt, (inl refl, (refl, tt)))))))
 
 -- Any message, and a tick.
 
@@ -621,14 +709,14 @@ app-Says m h words n moment s (OrderCancelReplaceRequest d) t e =
     replace-Says (message_here m words n moment s (OrderCancelReplaceRequest d)) h s d t (named h s.who d.original_id) (record { tick = refl; same = refl; moment = e }) refl (named_own h s.who d.original_id)
 app-Says m h words n moment s (NewOrderCross d) t e = cross-Says (message_here m words n moment s (NewOrderCross d)) h s d t (record { tick = refl; same = refl; moment = e }) refl
 app-Says m h words n moment s (MarketDataRequest d) t e = market_data-Says (message_here m words n moment s (MarketDataRequest d)) h s d
-app-Says m h words n moment s (BusinessMessageReject d) t e = (refl, (refl, (refl, (tt, (inl refl, refl)))))
-app-Says m h words n moment s (QuoteStatusReport d) t e = (refl, (refl, (refl, (tt, (inl refl, refl)))))
-app-Says m h words n moment s (QuoteRequestReject d) t e = (refl, (refl, (refl, (tt, (inl refl, refl)))))
-app-Says m h words n moment s (ExecutionReport d) t e = (refl, (refl, (refl, (tt, (inl refl, refl)))))
-app-Says m h words n moment s (OrderCancelReject d) t e = (refl, (refl, (refl, (tt, (inl refl, refl)))))
-app-Says m h words n moment s (MarketDataSnapshot d) t e = (refl, (refl, (refl, (tt, (inl refl, refl)))))
-app-Says m h words n moment s (MarketDataRequestReject d) t e = (refl, (refl, (refl, (tt, (inl refl, refl)))))
-app-Says m h words n moment s (Unsupported kind) t e = (refl, (refl, (refl, (tt, (inl refl, refl)))))
+app-Says m h words n moment s (BusinessMessageReject d) t e = (refl, (refl, (refl, (tt, (inl refl, (refl, tt))))))
+app-Says m h words n moment s (QuoteStatusReport d) t e = (refl, (refl, (refl, (tt, (inl refl, (refl, tt))))))
+app-Says m h words n moment s (QuoteRequestReject d) t e = (refl, (refl, (refl, (tt, (inl refl, (refl, tt))))))
+app-Says m h words n moment s (ExecutionReport d) t e = (refl, (refl, (refl, (tt, (inl refl, (refl, tt))))))
+app-Says m h words n moment s (OrderCancelReject d) t e = (refl, (refl, (refl, (tt, (inl refl, (refl, tt))))))
+app-Says m h words n moment s (MarketDataSnapshot d) t e = (refl, (refl, (refl, (tt, (inl refl, (refl, tt))))))
+app-Says m h words n moment s (MarketDataRequestReject d) t e = (refl, (refl, (refl, (tt, (inl refl, (refl, tt))))))
+app-Says m h words n moment s (Unsupported kind) t e = (refl, (refl, (refl, (tt, (inl refl, (refl, tt))))))
 
 -- an input that is told at a row
 abbrev pub is_tick_input : Input → Bool
@@ -639,7 +727,7 @@ abbrev pub here : Market → List Word → TrailRow → Input → Here
 here m words r i = record { market = m; row = r.n; moment = r.moment; came = came_of m words r.n i; tick = is_tick_input i }
 
 due-or-none : (w : Here) (h : History) (k : Option HeldSide) → w.tick ≡ true → w.came ≡ came.Tick → Says w h (answer_due_of w.market h k)
-due-or-none w h None tick came = (refl, (refl, (refl, (tt, (inl refl, refl)))))
+due-or-none w h None tick came = (refl, (refl, (refl, (tt, (inl refl, (refl, tt))))))
 due-or-none w h (Some k) tick came = due-Says w h k tick came
 
 pub input-Says : (m : Market) (h : History) (words : List Word) (r : TrailRow) (i : Input) → Tells r i → Says (here m words r i) h (answer_input m h i)

@@ -172,7 +172,7 @@ prices_silent pick deaf n t to (came.Cross x) p = refl
 prices_silent pick deaf n t to came.Tick p = refl
 prices_silent pick deaf n t to came.Other p = refl
 
-abbrev what_words : ℕ → ℕ → Came → ℕ → What → List Word
+abbrev pub what_words : ℕ → ℕ → Came → ℕ → What → List Word
 what_words n t c to x = said_by n t to (said_in c x) ++ (said_by n t to (held_in c x) ++ picture_of n t to c x)
 
 -- entries
@@ -438,7 +438,7 @@ option_then : {Y : Type 0} (o : Option Y) (ys : List Y) → cons_option o [] ++ 
 option_then None ys = refl
 option_then (Some y) ys = refl
 
-replies_say : {Y : Type 0} (pick : Word → Option Y) (by : Reply → Option Y) (n t : ℕ) (c : Came) → ((r : Reply) → filter_map pick (words_in n t c r) ≡ cons_option (by r) []) → (rs : List Reply)
+pub replies_say : {Y : Type 0} (pick : Word → Option Y) (by : Reply → Option Y) (n t : ℕ) (c : Came) → ((r : Reply) → filter_map pick (words_in n t c r) ≡ cons_option (by r) []) → (rs : List Reply)
     → filter_map pick (words_of n t c rs) ≡ filter_map by rs
 replies_say pick by n t c each [] = refl
 replies_say pick by n t c each (r ∷ rs) =

@@ -16,10 +16,12 @@ use Rattle.venue_rules.specs.Readings.{trade_fact}
 use Rattle.venue_rules.specs.Run.{Input, Message, Tick, answer_input, run}
 use Rattle.trade_evidence.specs.declared.entry.Entry.{Entry as OrderEntry}
 use Rattle.trade_evidence.specs.declared.finding.Sought.TheVariants.{Request}
+use Rattle.trade_evidence.specs.declared.standing.Met.{Met}
 use Rattle.trade_evidence.specs.declared.word.Asked.{Asked}
 use Rattle.trade_evidence.specs.declared.word.Said.TheVariants as said
 use Rattle.trade_evidence.specs.declared.word.Word.{Word}
-use Rattle.trade_evidence.specs.Lines.{both_lines, evidence, is_sought, request_line, room_lines, room_word, trade_line, trade_row}
+use Rattle.trade_evidence.specs.Lines.{both_lines, evidence, is_sought, request_line, room_lines, room_word, standing_line, standing_lines, trade_line, trade_row}
+use Rattle.trade_evidence.specs.Standing.{prices_of, stood_words}
 
 -- somebody was asked in this room: its lines begin with the request's
 pub record HasRequest (words : List Word) (room : ℕ) : Type 0 where
@@ -73,6 +75,18 @@ pub record TellsOrder (m : Market) (rs : List TrailRow) (is : List Input) (e : E
   pub quantity : x.entered.quantity ≡ e.order.quantity
   pub price : x.entered.price ≡ price_told input e
 
+-- an order that is met
+abbrev pub met_told : Market → Entry → Met
+met_told m e = record { resting = e.number; side = e.order.side; symbol = symbol_of m.instruments e.order.instrument; who = e.order.who }
+
+-- what is told to have rested before the order that a trade met is what rested then: of what the venue would have shown of its instrument just before that
+-- row, what stands before the order on its side, and how many these are
+pub record HasStanding (m : Market) (rs : List TrailRow) (is : List Input) (words : List Word) (trade : Trade) (rested : Entry) : Type 0 where
+  pub row : TrailRow
+  pub input : Input
+  pub made : CameAt m rs is row input (Traded trade)
+  pub lines : standing_lines words ≡ flat_map standing_line (stood_words row.n row.moment (met_told m rested) (prices_of m (run m made.earlier).history (symbol_of m.instruments rested.order.instrument)))
+
 -- both orders of a trade in the book are found: its evidence are the lines of the order that rested, of the one that entered, of both together,
 -- and of the trade; what is told of both and of the trade is told at the row at which the second entered
 pub record HasOrders (m : Market) (rs : List TrailRow) (is : List Input) (words : List Word) (number : ℕ) (t : TradeFact) : Type 0 where
@@ -87,3 +101,4 @@ pub record HasOrders (m : Market) (rs : List TrailRow) (is : List Input) (words 
   pub tells_rested : TellsOrder m rs is rested resting
   pub tells_entered : TellsOrder m rs is entered entering
   pub lines : evidence m words t ≡ both_lines m.participants words (record { resting = resting; entering = entering; row = entering.row }) ++ trade_line m t entering.row
+  pub stood : HasStanding m rs is words trade rested
