@@ -1,5 +1,6 @@
 -- The words of a day say which orders entered on it, which trades were made and which sides were held, each at its row.
 use Rattle.std.proofs.Common.{◌≡◌, refl, sym, ap, subst, ◌∙◌, ◌⊎◌, inl, inr, ℕ, zero, suc, ◌+◌, Bool, true, false, List, [], ◌∷◌, ◌++◌, map, filter_map, length, slice_get, Option, Some, None, append-nil, append_assoc, length-append, arith}
+use Rattle.std.specs.List.{flat_map}
 use Rattle.std.proofs.lemmas.List.{map-append, length-map}
 use Rattle.std.proofs.lemmas.List.Elements.{filter_map-append}
 use Rattle.venue_rules.specs.declared.facts.Entry.{Entry}
@@ -7,10 +8,11 @@ use Rattle.venue_rules.specs.declared.facts.Fact.{Fact}
 use Rattle.venue_rules.specs.declared.facts.HeldSide.{HeldSide}
 use Rattle.venue_rules.specs.declared.facts.Place.{Place}
 use Rattle.venue_rules.specs.declared.facts.Place.TheVariants.{Book as InBook, Room as InRoom}
+use Rattle.venue_rules.specs.declared.facts.Room.{Room}
 use Rattle.venue_rules.specs.declared.facts.Trade.{Trade}
 use Rattle.venue_rules.specs.declared.replies.Reply.{Reply}
 use Rattle.venue_rules.specs.declared.trail.TrailRow.{TrailRow}
-use Rattle.venue_rules.specs.Facts.{History, entries, entry_in as entry_in_fact, held_in as held_in_fact, held_sides, next_trade, trade_in as trade_in_fact, trades}
+use Rattle.venue_rules.specs.Facts.{History, entries, entry_in as entry_in_fact, held_in as held_in_fact, held_sides, next_trade, room_in as room_in_fact, rooms, trade_in as trade_in_fact, trades}
 use Rattle.venue_rules.specs.Market.{Market}
 use Rattle.venue_rules.specs.Run.{Input, after, answer_input, run_from}
 use Rattle.trade_evidence.specs.declared.came.Came.{Came}
@@ -20,8 +22,8 @@ use Rattle.trade_evidence.specs.Standing.{stood_at}
 use Rattle.venue_core.specs.Replay.{AreTold, Tells}
 use Rattle.trade_evidence.specs.Told.{came_of, words_at, words_from}
 use Rattle.trade_evidence.proofs.Members.{In, In-append_cases, In-map}
-use Rattle.trade_evidence.proofs.Says.{HeardEntry, HeardFill, HeardHit, HeardHold, IsDeaf, entries_say, entry_by, entry-deaf, entry_in, fill_by, fill-deaf, fill_in, fills_say, hits_say, hold_by, hold-deaf, hold_in, holds_say, stood_silent, traded-deaf, traded_in}
-use Rattle.trade_evidence.proofs.Replies.{Says, at_row, fills_told, here, hits_of, hits_told, input-Says, is_tick_input, pair_told, told_entry, told_hold}
+use Rattle.trade_evidence.proofs.Says.{HeardAsked, HeardEntry, HeardFill, HeardHit, HeardHold, IsDeaf, asking-deaf, asking_in, askings_say, entries_say, entry_by, entry-deaf, entry_in, fill_by, fill-deaf, fill_in, fills_say, hits_say, hold_by, hold-deaf, hold_in, holds_say, stood_silent, traded-deaf, traded_in}
+use Rattle.trade_evidence.proofs.Replies.{Says, asked_told, at_row, fills_told, here, hits_of, hits_told, input-Says, is_tick_input, pair_told, told_entry, told_hold}
 
 -- what facts of a kind the answers of a day added, each with its row and input
 abbrev pub added : {X : Type 0} → (Fact → Option X) → Market → History → List TrailRow → List Input → List (TrailRow × Input × X)
@@ -212,3 +214,29 @@ holds_step m number h words r i rs is tells =
 
 pub day_holds : (m : Market) (number : ℕ) (h : History) (rs : List TrailRow) (is : List Input) → AreTold rs is → filter_map hold_in (words_from m h number [] rs is) ≡ map hold_at (added held_in_fact m h rs is)
 day_holds m number h rs is told = day_says hold_in (λ k xs ys. map hold_at (added held_in_fact m k xs ys)) m number (λ k. refl) (holds_step m number) h [] rs is told
+
+-- who was asked
+
+abbrev pub asked_at : Market → TrailRow × Input × Room → List HeardAsked
+asked_at m p = asked_told m p.0.n p.0.moment p.2
+
+flat_map_more : {X Y : Type 0} (g : X → List Y) (xs ys : List X) → flat_map g (xs ++ ys) ≡ flat_map g xs ++ flat_map g ys
+flat_map_more g [] ys = refl
+flat_map_more g (x ∷ xs) ys = ap (λ l. g x ++ l) (flat_map_more g xs ys) ∙ sym (append_assoc (g x) (flat_map g xs) (flat_map g ys))
+
+flat_map_map : {X Y Z : Type 0} (f : X → Y) (g : Y → List Z) (xs : List X) → flat_map g (map f xs) ≡ flat_map (λ x. g (f x)) xs
+flat_map_map f g [] = refl
+flat_map_map f g (x ∷ xs) = ap (λ l. g (f x) ++ l) (flat_map_map f g xs)
+
+asked_step : (m : Market) (number : ℕ) (h : History) (words : List Word) (r : TrailRow) (i : Input) (rs : List TrailRow) (is : List Input) → Tells r i
+    → filter_map asking_in (words_at m h number words r i) ++ flat_map (asked_at m) (added room_in_fact m (after h (answer_input m h i)) rs is) ≡ flat_map (asked_at m) (added room_in_fact m h (r ∷ rs) (i ∷ is))
+asked_step m number h words r i rs is tells =
+    let a = answer_input m h i in
+    let rest = added room_in_fact m (after h a) rs is in
+    let new = rooms a.facts in
+    ap (λ l. l ++ flat_map (asked_at m) rest)
+    (row_says asking_in asking-deaf m h number words r i ∙ (askings_say r.n r.moment (came_of m words r.n i) a.replies ∙ ((input-Says m h words r i tells).1.1.1.1.1.1.1 ∙ sym (flat_map_map (λ (x : Room). (r, i, x)) (asked_at m) new))))
+    ∙ sym (flat_map_more (asked_at m) (map (λ (x : Room). (r, i, x)) new) rest)
+
+pub day_asked : (m : Market) (number : ℕ) (h : History) (rs : List TrailRow) (is : List Input) → AreTold rs is → filter_map asking_in (words_from m h number [] rs is) ≡ flat_map (asked_at m) (added room_in_fact m h rs is)
+day_asked m number h rs is told = day_says asking_in (λ k xs ys. flat_map (asked_at m) (added room_in_fact m k xs ys)) m number (λ k. refl) (asked_step m number) h [] rs is told

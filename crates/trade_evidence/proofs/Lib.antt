@@ -2,8 +2,6 @@ pub mod Appends
 pub mod Hearing
 pub mod Shown
 pub mod Telling
-pub mod Opening
-pub mod Requests
 pub mod Members
 pub mod Says
 pub mod Replies
@@ -11,3 +9,4 @@ pub mod Days
 pub mod Holds
 pub mod Stood
 pub mod Orders
+pub mod Asking

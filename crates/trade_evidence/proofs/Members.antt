@@ -64,6 +64,14 @@ pub In-filter : {X : Type 0} (p : X → Bool) (xs : List X) (x : X) → In x (fi
 In-filter p [] x i = absurd i
 In-filter p (y ∷ ys) x i = filter_cons_In p y ys x (p y) (In-filter p ys x) i
 
+pub kept_all : {X : Type 0} (p : X → Bool) (xs : List X) → ((x : X) → In x xs → p x ≡ true) → filter p xs ≡ xs
+kept_all p [] h = refl
+kept_all p (y ∷ ys) h = ap (λ (b : Bool). cond b (y ∷ filter p ys) (filter p ys)) (h y (inl refl)) ∙ ap (λ l. y ∷ l) (kept_all p ys (λ x i. h x (inr i)))
+
+pub kept_none : {X : Type 0} (p : X → Bool) (xs : List X) → ((x : X) → In x xs → p x ≡ false) → filter p xs ≡ []
+kept_none p [] h = refl
+kept_none p (y ∷ ys) h = ap (λ (b : Bool). cond b (y ∷ filter p ys) (filter p ys)) (h y (inl refl)) ∙ kept_none p ys (λ x i. h x (inr i))
+
 -- what `filter_map` picks
 
 In-cons_option : {Y : Type 0} (o : Option Y) (ys : List Y) (y : Y) → In y ys → In y (cons_option o ys)

@@ -50,7 +50,7 @@ pub record IsNumbered (ts : List Trade) (n k : ℕ) (t : TradeFact) : Type 0 whe
   pub is_number : number ≡ n + k
   pub read_back : trade_fact number trade ≡ t
 
-numbered_trade : (ts : List Trade) (n k : ℕ) (t : TradeFact) → slice_get (map (λ p. trade_fact p.0 p.1) (enumerate_from n ts)) k ≡ Some t → IsNumbered ts n k t
+pub numbered_trade : (ts : List Trade) (n k : ℕ) (t : TradeFact) → slice_get (map (λ p. trade_fact p.0 p.1) (enumerate_from n ts)) k ≡ Some t → IsNumbered ts n k t
 numbered_trade [] n k t e = absurd (none_is_some t e)
 numbered_trade (x ∷ xs) n zero t e = record { trade = x; at = refl; number = n; is_number = from_zero n; read_back = same_some (trade_fact n x) t e }
   where
@@ -61,7 +61,7 @@ numbered_trade (x ∷ xs) n (suc k) t e = let r = numbered_trade xs (n + 1) k t 
     next : (a b : ℕ) → a + 1 + b ≡ a + suc b
     next a b = omega arith
 
-numbered_at : (ts : List TradeFact) (number : ℕ) (t : TradeFact) → numbered_in ts number ≡ Some t → slice_get ts (number - 1) ≡ Some t
+pub numbered_at : (ts : List TradeFact) (number : ℕ) (t : TradeFact) → numbered_in ts number ≡ Some t → slice_get ts (number - 1) ≡ Some t
 numbered_at ts number t e =
     (elim (number == 0) as (λ b. (if b then None else slice_get ts (number - 1)) ≡ Some t → slice_get ts (number - 1) ≡ Some t) [ true ↦ λ k. absurd (none_is_some t k) | false ↦ λ k. k ]) e
 
@@ -82,7 +82,7 @@ pub record Happened (facts : List Fact) (x : Trade) : Type 0 where
 behind : (f : Fact) (fs : List Fact) (x : Trade) → Happened fs x → Happened (f ∷ fs) x
 behind f fs x p = record { before = f ∷ p.before; follows = (p.follows.0, ap (λ (l : List Fact). f ∷ l) p.follows.1) }
 
-happened : (facts : List Fact) (k : ℕ) (x : Trade) → slice_get (trades facts) k ≡ Some x → Happened facts x
+pub happened : (facts : List Fact) (k : ℕ) (x : Trade) → slice_get (trades facts) k ≡ Some x → Happened facts x
 happened [] k x e = absurd (none_is_some x e)
 happened (fact.Traded y ∷ fs) zero x e = record { before = []; follows = (fs, ap (λ (z : Trade). fact.Traded z ∷ fs) (same_some y x e)) }
 happened (fact.Traded y ∷ fs) (suc k) x e = behind (fact.Traded y) fs x (happened fs k x e)

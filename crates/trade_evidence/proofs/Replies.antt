@@ -43,7 +43,7 @@ use Rattle.venue_rules.specs.Changes.{Named, IsResting, IsHeld, IsUnknown, named
 use Rattle.venue_rules.specs.Crosses.{answer_cross, answer_due, cross_accepted, cross_refusals, side_order, first_side, is_first, second_side, due_refusals}
 use Rattle.venue_rules.specs.Delay.{due, find_held}
 use Rattle.venue_rules.specs.Entering.{entering, entry_facts, entry_reports, fill_report, fill_reports, order_report, trade_of, unfilled_reports}
-use Rattle.venue_rules.specs.Facts.{History, entries, entry_in as entry_in_fact, held_in as held_in_fact, held_sides, is_order_id_used, next_trade, trade_in as trade_in_fact, trades}
+use Rattle.venue_rules.specs.Facts.{History, entries, entry_in as entry_in_fact, held_in as held_in_fact, held_sides, is_order_id_used, next_trade, room_in as room_in_fact, rooms, trade_in as trade_in_fact, trades}
 use Rattle.venue_rules.specs.Market.{Market}
 use Rattle.venue_rules.specs.MarketData.{answer_market_data, market_data_refusals, market_data}
 use Rattle.venue_rules.specs.Orders.{accepted, answer_order, order_asked, order_refusals}
@@ -64,7 +64,7 @@ use Rattle.trade_evidence.specs.Standing.{met_of}
 use Rattle.venue_core.specs.Replay.{Tells}
 use Rattle.trade_evidence.specs.Told.{came_of}
 use Rattle.trade_evidence.proofs.Members.{In, In-append_left, In-append_right, In-filter, In-map, found_passes}
-use Rattle.trade_evidence.proofs.Says.{HeardEntry, HeardFill, HeardHit, HeardHold, entry_by, entry_from, fill_by, hit_by, hit_from, hold_by, hold_from}
+use Rattle.trade_evidence.proofs.Says.{HeardAsked, HeardEntry, HeardFill, HeardHit, HeardHold, asking_by, entry_by, entry_from, fill_by, hit_by, hit_from, hold_by, hold_from}
 
 -- What is to be heard of facts.
 
@@ -121,6 +121,13 @@ AreOf es (t ∷ ts) = IsOf es t.place × AreOf es ts
 abbrev pub HoldsAnew : List Fact → List HeldSide → Type 0
 HoldsAnew before ks = (ks ≡ []) ⊎ ((k : HeldSide) × (ks ≡ k ∷ []) × (is_order_id_used before k.order.who k.order.id ≡ false))
 
+-- of a room, each who was asked
+abbrev pub told_asked : Market → ℕ → ℕ → Room → ℕ → HeardAsked
+told_asked m n t r to = record { row = n; moment = t; to = to; requester = r.requester; request = r.id; room = r.number; symbol = symbol_of m.instruments r.instrument; side = r.side; quantity = r.quantity }
+
+abbrev pub asked_told : Market → ℕ → ℕ → Room → List HeardAsked
+asked_told m n t r = map (told_asked m n t r) r.recipients
+
 -- the order of which a report tells a fill
 abbrev pub met_in_what : ℕ → What → Option Met
 met_in_what to (OrderFilled f) = met_of to f f.order.order
@@ -150,7 +157,8 @@ Says w h a =
     × (AreOf (entries a.facts) (trades a.facts)
     × (HoldsAnew h.facts (held_sides a.facts)
     × ((filter_map (hit_by w.row w.came) a.replies ≡ hits_told (next_trade h.facts) (at_row w.row (trades a.facts)))
-    × FillsOf w.market (entries h.facts ++ entries a.facts) (filter_map met_in a.replies))))))
+    × (FillsOf w.market (entries h.facts ++ entries a.facts) (filter_map met_in a.replies)
+    × (filter_map (asking_by w.row w.moment w.came) a.replies ≡ flat_map (asked_told w.market w.row w.moment) (rooms a.facts))))))))
 
 -- the first refusal that holds
 
@@ -287,12 +295,26 @@ hold_picks t c m e = record { steady = λ x left done f trade k. refl; rest = λ
 hit_picks : (n : ℕ) (c : Came) (m : Market) (e : Entry) → Picks (hit_by n c) m e
 hit_picks n c m e = record { steady = λ x left done f trade k. refl; rest = λ fs k. refl }
 
+abbrev pub trade_facts : Entry → List Fill → List Fact
+trade_facts e fs = map (λ f. Traded (trade_of e f)) fs
+
 met_picks : (m : Market) (e : Entry) → Picks met_in m e
 met_picks m e = record { steady = λ x left done f trade k. refl; rest = λ fs k. refl }
 
 fills_met : (m : Market) (e : Entry) (all : List Fill) (trade j : ℕ) (fs : List Fill) (es : List Entry) → In e es → ((f : Fill) → In f fs → In f.resting.entry es) → FillsOf m es (filter_map (λ (f : ℕ → Reply). met_in (f 0)) (flat_map (fill_reports m e all trade) (enumerate_from j fs)))
 fills_met m e all trade j [] es own there = tt
 fills_met m e all trade j (f ∷ fs) es own there = ((e, own, refl), ((f.resting.entry, there f (inl refl), refl), fills_met m e all trade (j + 1) fs es own (λ g i. there g (inr i))))
+
+asking_picks : (n t : ℕ) (c : Came) (m : Market) (e : Entry) → Picks (asking_by n t c) m e
+asking_picks n t c m e = record { steady = λ x left done f trade k. refl; rest = λ fs k. refl }
+
+no_askings : (n t : ℕ) (c : Came) (m : Market) (e : Entry) (all : List Fill) (trade j : ℕ) (fs : List Fill) → filter_map (λ (f : ℕ → Reply). asking_by n t c (f 0)) (flat_map (fill_reports m e all trade) (enumerate_from j fs)) ≡ []
+no_askings n t c m e all trade j [] = refl
+no_askings n t c m e all trade j (f ∷ fs) = no_askings n t c m e all trade (j + 1) fs
+
+no_rooms : (e : Entry) (fs : List Fill) → rooms (trade_facts e fs) ≡ []
+no_rooms e [] = refl
+no_rooms e (f ∷ fs) = no_rooms e fs
 
 no_hits : (n : ℕ) (c : Came) (m : Market) (e : Entry) (all : List Fill) (trade j : ℕ) (fs : List Fill) → filter_map (λ (f : ℕ → Reply). hit_by n c (f 0)) (flat_map (fill_reports m e all trade) (enumerate_from j fs)) ≡ []
 no_hits n c m e all trade j [] = refl
@@ -305,9 +327,6 @@ no_entries n t c m e all trade j (f ∷ fs) = no_entries n t c m e all trade (j 
 no_holds : (t : ℕ) (c : Came) (m : Market) (e : Entry) (all : List Fill) (trade j : ℕ) (fs : List Fill) → filter_map (λ (f : ℕ → Reply). hold_by t c (f 0)) (flat_map (fill_reports m e all trade) (enumerate_from j fs)) ≡ []
 no_holds t c m e all trade j [] = refl
 no_holds t c m e all trade j (f ∷ fs) = no_holds t c m e all trade (j + 1) fs
-
-abbrev pub trade_facts : Entry → List Fill → List Fact
-trade_facts e fs = map (λ f. Traded (trade_of e f)) fs
 
 both_filled : (n : ℕ) (m : Market) (e : Entry) (all : List Fill) (trade j : ℕ) (fs : List Fill) → filter_map (λ (f : ℕ → Reply). fill_by n (f 0)) (flat_map (fill_reports m e all trade) (enumerate_from j fs)) ≡ fills_told (trade + j) (at_row n (trades (trade_facts e fs)))
 both_filled n m e all trade j [] = refl
@@ -369,6 +388,13 @@ hit_said w facts e fs n first is =
     ∙ (ap (λ o. cons_option o (filter_map (λ (f : ℕ → Reply). hit_by w.row w.came (f 0)) (flat_map (fill_reports w.market e fs (next_trade facts)) (enumerate_from 0 fs)))) (is 0)
     ∙ (no_hits w.row w.came w.market e fs (next_trade facts) 0 fs ∙ sym (none_in_rooms w.row (next_trade facts) e fs)))
 
+asking_said : (w : Here) (facts : List Fact) (e : Entry) (fs : List Fill) (n : ℕ) (first : ℕ → Reply) → ((k : ℕ) → asking_by w.row w.moment w.came (first k) ≡ None)
+    → filter_map (asking_by w.row w.moment w.came) (numbered n (first ∷ entry_reports w.market facts e fs)) ≡ flat_map (asked_told w.market w.row w.moment) (rooms (entry_facts e fs))
+asking_said w facts e fs n first is =
+    entry_picked (asking_by w.row w.moment w.came) w.market facts e (asking_picks w.row w.moment w.came w.market e) fs n first (λ k. is k ∙ sym (is 0))
+    ∙ (ap (λ o. cons_option o (filter_map (λ (f : ℕ → Reply). asking_by w.row w.moment w.came (f 0)) (flat_map (fill_reports w.market e fs (next_trade facts)) (enumerate_from 0 fs)))) (is 0)
+    ∙ (no_askings w.row w.moment w.came w.market e fs (next_trade facts) 0 fs ∙ sym (ap (flat_map (asked_told w.market w.row w.moment)) (no_rooms e fs))))
+
 met_said : (w : Here) (h : History) (e : Entry) (n : ℕ) (first : ℕ → Reply) → ((k : ℕ) → met_in (first k) ≡ None) → FillsOf w.market (entries h.facts ++ entries (entry_facts e (fills h.facts e.order))) (filter_map met_in (numbered n (first ∷ entry_reports w.market h.facts e (fills h.facts e.order))))
 met_said w h e n first is =
     let fs = fills h.facts e.order in
@@ -405,6 +431,9 @@ accepted_hit w h o t = let e = entering h.facts o 0 t in hit_said w h.facts e (f
 accepted_met : (w : Here) (h : History) (o : OrderFact) (t : ℕ) → FillsOf w.market (entries h.facts ++ entries (accepted w.market h o t).facts) (filter_map met_in (accepted w.market h o t).replies)
 accepted_met w h o t = let e = entering h.facts o 0 t in met_said w h e h.reports (λ n. reply o.who (OrderEntered (order_report w.market e o.quantity 0 n))) (λ k. refl)
 
+accepted_asking : (w : Here) (h : History) (o : OrderFact) (t : ℕ) → filter_map (asking_by w.row w.moment w.came) (accepted w.market h o t).replies ≡ flat_map (asked_told w.market w.row w.moment) (rooms (accepted w.market h o t).facts)
+accepted_asking w h o t = let e = entering h.facts o 0 t in asking_said w h.facts e (fills h.facts o) h.reports (λ n. reply o.who (OrderEntered (order_report w.market e o.quantity 0 n))) (λ k. refl)
+
 accepted_of : (m : Market) (h : History) (o : OrderFact) (t : ℕ) → AreOf (entries (accepted m h o t).facts) (trades (accepted m h o t).facts)
 accepted_of m h o t = trades_of_entry (entries (accepted m h o t).facts) (entering h.facts o 0 t) (fills h.facts o) (inl refl)
 
@@ -412,7 +441,7 @@ accepted-Says : (w : Here) (h : History) (o : OrderFact) (t : ℕ) → Fits w (e
 accepted-Says w h o t f none =
     let e = entering h.facts o 0 t in
     let held = no_held_facts e (fills h.facts o) in
-    (accepted_entry w h o t f, (accepted_fill w h o t, (accepted_hold w h o t None none ∙ sym (ap (map told_hold) held), (accepted_of w.market h o t, (inl held, (accepted_hit w h o t, accepted_met w h o t))))))
+    (accepted_entry w h o t f, (accepted_fill w h o t, (accepted_hold w h o t None none ∙ sym (ap (map told_hold) held), (accepted_of w.market h o t, (inl held, (accepted_hit w h o t, (accepted_met w h o t, accepted_asking w h o t)))))))
 
 replaced-Says : (w : Here) (h : History) (s : Sender) (d : ReplaceMessage) (r : Resting) (t : ℕ) → Fits w (entering h.facts (replacement d r) (filled r) t) → s.who ≡ r.entry.order.who → Says w h (replaced w.market h s d r t)
 replaced-Says w h s d r t f own =
@@ -426,7 +455,7 @@ replaced-Says w h s d r t f own =
         fill_said w h.facts e fs h.reports first (λ k. refl),
         (
           hold_said w h.facts e fs h.reports first None (λ k. refl) ∙ sym (ap (map told_hold) held),
-          (trades_of_entry (entries (entry_facts e fs)) e fs (inl refl), (inl held, (hit_said w h.facts e fs h.reports first (λ k. refl), met_said w h e h.reports first (λ k. refl)))),
+          (trades_of_entry (entries (entry_facts e fs)) e fs (inl refl), (inl held, (hit_said w h.facts e fs h.reports first (λ k. refl), (met_said w h e h.reports first (λ k. refl), asking_said w h.facts e fs h.reports first (λ k. refl))))),
         ),
       ),
     )
@@ -459,20 +488,20 @@ order-Says : (w : Here) (h : History) (s : Sender) (d : OrderMessage) (t : ℕ) 
 order-Says w h s d t is price none =
     let o = order_asked w.market s.who d in
     let e = entering h.facts o 0 t in
-    first_of-Says w h (order_refusals w.market h s d t) (accepted w.market h o t) ((refl, (refl, (refl, (tt, (inl refl, (refl, tt)))))), ((refl, (refl, (refl, (tt, (inl refl, (refl, tt)))))), ((refl, (refl, (refl, (tt, (inl refl, (refl, tt)))))), ((refl, (refl, (refl, (tt, (inl refl, (refl, tt)))))), ((refl, (refl, (refl, (tt, (inl refl, (refl, tt)))))), ((refl, (refl, (refl, (tt, (inl refl, (refl, tt)))))), ((refl, (refl, (refl, (tt, (inl refl, (refl, tt)))))), ((refl, (refl, (refl, (tt, (inl refl, (refl, tt)))))), tt))))))))
+    first_of-Says w h (order_refusals w.market h s d t) (accepted w.market h o t) ((refl, (refl, (refl, (tt, (inl refl, (refl, (tt, refl))))))), ((refl, (refl, (refl, (tt, (inl refl, (refl, (tt, refl))))))), ((refl, (refl, (refl, (tt, (inl refl, (refl, (tt, refl))))))), ((refl, (refl, (refl, (tt, (inl refl, (refl, (tt, refl))))))), ((refl, (refl, (refl, (tt, (inl refl, (refl, (tt, refl))))))), ((refl, (refl, (refl, (tt, (inl refl, (refl, (tt, refl))))))), ((refl, (refl, (refl, (tt, (inl refl, (refl, (tt, refl))))))), ((refl, (refl, (refl, (tt, (inl refl, (refl, (tt, refl))))))), tt))))))))
     (λ n. accepted-Says w h o t (message_fits w e t d.price is price refl refl n.1.1.1.0) (λ k. none o.who (order_report w.market e o.quantity 0 k)))
 
 cancel-Says : (w : Here) (h : History) (s : Sender) (d : CancelMessage) (n : Named) → Says w h (answer_cancel_of w.market h s d n)
-cancel-Says w h s d IsUnknown = (refl, (refl, (refl, (tt, (inl refl, (refl, tt))))))
-cancel-Says w h s d (IsHeld k) = first_of-Says w h (cancel_refusals h s d None) (held_cancelled w.market h s d k) ((refl, (refl, (refl, (tt, (inl refl, (refl, tt)))))), tt) (λ n. (refl, (refl, (refl, (tt, (inl refl, (refl, tt)))))))
-cancel-Says w h s d (IsResting r) = first_of-Says w h (cancel_refusals h s d (Some (standing r))) (cancelled w.market h s d r) ((refl, (refl, (refl, (tt, (inl refl, (refl, tt)))))), tt) (λ n. (refl, (refl, (refl, (tt, (inl refl, (refl, tt)))))))
+cancel-Says w h s d IsUnknown = (refl, (refl, (refl, (tt, (inl refl, (refl, (tt, refl)))))))
+cancel-Says w h s d (IsHeld k) = first_of-Says w h (cancel_refusals h s d None) (held_cancelled w.market h s d k) ((refl, (refl, (refl, (tt, (inl refl, (refl, (tt, refl))))))), tt) (λ n. (refl, (refl, (refl, (tt, (inl refl, (refl, (tt, refl))))))))
+cancel-Says w h s d (IsResting r) = first_of-Says w h (cancel_refusals h s d (Some (standing r))) (cancelled w.market h s d r) ((refl, (refl, (refl, (tt, (inl refl, (refl, (tt, refl))))))), tt) (λ n. (refl, (refl, (refl, (tt, (inl refl, (refl, (tt, refl))))))))
 
 replace-Says : (w : Here) (h : History) (s : Sender) (d : ReplaceMessage) (t : ℕ) (n : Named) → IsMessage w t → price_in w.came ≡ d.price → ((r : Resting) → n ≡ IsResting r → s.who ≡ r.entry.order.who) → Says w h (answer_replace_of w.market h s d t n)
-replace-Says w h s d t IsUnknown is price own = (refl, (refl, (refl, (tt, (inl refl, (refl, tt))))))
-replace-Says w h s d t (IsHeld k) is price own = first_of-Says w h (held_replace_refusals h s d) (replace_refused s d None IsHeldSide) ((refl, (refl, (refl, (tt, (inl refl, (refl, tt)))))), tt) (λ n. (refl, (refl, (refl, (tt, (inl refl, (refl, tt)))))))
+replace-Says w h s d t IsUnknown is price own = (refl, (refl, (refl, (tt, (inl refl, (refl, (tt, refl)))))))
+replace-Says w h s d t (IsHeld k) is price own = first_of-Says w h (held_replace_refusals h s d) (replace_refused s d None IsHeldSide) ((refl, (refl, (refl, (tt, (inl refl, (refl, (tt, refl))))))), tt) (λ n. (refl, (refl, (refl, (tt, (inl refl, (refl, (tt, refl))))))))
 replace-Says w h s d t (IsResting r) is price own =
     let e = entering h.facts (replacement d r) (filled r) t in
-    first_of-Says w h (replace_refusals w.market h s d r t) (replaced w.market h s d r t) ((refl, (refl, (refl, (tt, (inl refl, (refl, tt)))))), ((refl, (refl, (refl, (tt, (inl refl, (refl, tt)))))), ((refl, (refl, (refl, (tt, (inl refl, (refl, tt)))))), ((refl, (refl, (refl, (tt, (inl refl, (refl, tt)))))), ((refl, (refl, (refl, (tt, (inl refl, (refl, tt)))))), ((refl, (refl, (refl, (tt, (inl refl, (refl, tt)))))), ((refl, (refl, (refl, (tt, (inl refl, (refl, tt)))))), tt)))))))
+    first_of-Says w h (replace_refusals w.market h s d r t) (replaced w.market h s d r t) ((refl, (refl, (refl, (tt, (inl refl, (refl, (tt, refl))))))), ((refl, (refl, (refl, (tt, (inl refl, (refl, (tt, refl))))))), ((refl, (refl, (refl, (tt, (inl refl, (refl, (tt, refl))))))), ((refl, (refl, (refl, (tt, (inl refl, (refl, (tt, refl))))))), ((refl, (refl, (refl, (tt, (inl refl, (refl, (tt, refl))))))), ((refl, (refl, (refl, (tt, (inl refl, (refl, (tt, refl))))))), ((refl, (refl, (refl, (tt, (inl refl, (refl, (tt, refl))))))), tt)))))))
     (λ n. replaced-Says w h s d r t (message_fits w e t d.price is price refl refl n.1.1.0) (own r refl))
 
 -- who replaces an order is its owner
@@ -552,6 +581,7 @@ cross_accepted-Says w h s d t is came some one other apart =
     let k : HeldSide = record { order = side_order w.market s.who d (second_side d); cross = d.cross_id; due = t + delay_of w.market.instruments (instrument_of w.market.instruments d.symbol) } in
     let same_entries : entries first.facts ≡ entries (first.facts ++ Held k ∷ []) = sym (filter_map-append entry_in_fact first.facts (Held k ∷ []) ∙ append-nil (entries first.facts)) in
     let same_trades : trades first.facts ≡ trades (first.facts ++ Held k ∷ []) = sym (filter_map-append trade_in_fact first.facts (Held k ∷ []) ∙ append-nil (trades first.facts)) in
+    let same_rooms : rooms first.facts ≡ rooms (first.facts ++ Held k ∷ []) = sym (filter_map-append room_in_fact first.facts (Held k ∷ []) ∙ append-nil (rooms first.facts)) in
     let held : held_sides (first.facts ++ Held k ∷ []) ≡ k ∷ [] = filter_map-append held_in_fact first.facts (Held k ∷ []) ∙ ap (λ ks. ks ++ k ∷ []) (no_held_facts e (fills h.facts o)) in (
       accepted_entry w h o t (message_fits w e t d.price is (ap price_in came) refl refl some) ∙ ap (map (told_entry w.market w.row w.moment w.tick)) same_entries,
       (
@@ -564,7 +594,10 @@ cross_accepted-Says w h s d t is came some one other apart =
               inr (k, held, second_unused h.facts s.who d one other),
               (
                 accepted_hit w h o t ∙ ap (λ ts. hits_told (next_trade h.facts) (at_row w.row ts)) same_trades,
-                subst (λ es. FillsOf w.market (entries h.facts ++ es) (filter_map met_in first.replies)) same_entries (accepted_met w h o t),
+                (
+                  subst (λ es. FillsOf w.market (entries h.facts ++ es) (filter_map met_in first.replies)) same_entries (accepted_met w h o t),
+                  accepted_asking w h o t ∙ ap (flat_map (asked_told w.market w.row w.moment)) same_rooms,
+                ),
               ),
             ),
           ),
@@ -574,7 +607,7 @@ cross_accepted-Says w h s d t is came some one other apart =
 
 cross-Says : (w : Here) (h : History) (s : Sender) (d : CrossMessage) (t : ℕ) → IsMessage w t → w.came ≡ crossed w.market d → Says w h (answer_cross w.market h s d t)
 cross-Says w h s d t is came =
-    first_of-Says w h (cross_refusals w.market h s d t) (cross_accepted w.market h s d t) ((refl, (refl, (refl, (tt, (inl refl, (refl, tt)))))), ((refl, (refl, (refl, (tt, (inl refl, (refl, tt)))))), ((refl, (refl, (refl, (tt, (inl refl, (refl, tt)))))), ((refl, (refl, (refl, (tt, (inl refl, (refl, tt)))))), ((refl, (refl, (refl, (tt, (inl refl, (refl, tt)))))), ((refl, (refl, (refl, (tt, (inl refl, (refl, tt)))))), ((refl, (refl, (refl, (tt, (inl refl, (refl, tt)))))), ((refl, (refl, (refl, (tt, (inl refl, (refl, tt)))))), ((refl, (refl, (refl, (tt, (inl refl, (refl, tt)))))), ((refl, (refl, (refl, (tt, (inl refl, (refl, tt)))))), ((refl, (refl, (refl, (tt, (inl refl, (refl, tt)))))), tt)))))))))))
+    first_of-Says w h (cross_refusals w.market h s d t) (cross_accepted w.market h s d t) ((refl, (refl, (refl, (tt, (inl refl, (refl, (tt, refl))))))), ((refl, (refl, (refl, (tt, (inl refl, (refl, (tt, refl))))))), ((refl, (refl, (refl, (tt, (inl refl, (refl, (tt, refl))))))), ((refl, (refl, (refl, (tt, (inl refl, (refl, (tt, refl))))))), ((refl, (refl, (refl, (tt, (inl refl, (refl, (tt, refl))))))), ((refl, (refl, (refl, (tt, (inl refl, (refl, (tt, refl))))))), ((refl, (refl, (refl, (tt, (inl refl, (refl, (tt, refl))))))), ((refl, (refl, (refl, (tt, (inl refl, (refl, (tt, refl))))))), ((refl, (refl, (refl, (tt, (inl refl, (refl, (tt, refl))))))), ((refl, (refl, (refl, (tt, (inl refl, (refl, (tt, refl))))))), ((refl, (refl, (refl, (tt, (inl refl, (refl, (tt, refl))))))), tt)))))))))))
     (λ n.
     let free = n.1.1.0 in
     let one = is_order_id_used h.facts s.who d.first.order_id in
@@ -590,7 +623,7 @@ due-Says w h k tick came =
       tick = ap is_tick came ∙ sym tick;
       moment = sym (ap (λ (b : Bool). moment_at b w.moment k.due) tick);
     } in
-    due_first w h k (first_of-Says w h (due_refusals w.market h k) (accepted w.market h k.order k.due) ((refl, (refl, (refl, (tt, (inl refl, (refl, tt)))))), ((refl, (refl, (refl, (tt, (inl refl, (refl, tt)))))), tt)) (λ n. accepted-Says w h k.order k.due fits (λ j. ap (hold_from w.moment k.order.who (order_report w.market e k.order.quantity 0 j)) came)))
+    due_first w h k (first_of-Says w h (due_refusals w.market h k) (accepted w.market h k.order k.due) ((refl, (refl, (refl, (tt, (inl refl, (refl, (tt, refl))))))), ((refl, (refl, (refl, (tt, (inl refl, (refl, (tt, refl))))))), tt)) (λ n. accepted-Says w h k.order k.due fits (λ j. ap (hold_from w.moment k.order.who (order_report w.market e k.order.quantity 0 j)) came)))
   where
     due_first : (w : Here) (h : History) (k : HeldSide) → Says w h (first_of (due_refusals w.market h k) (accepted w.market h k.order k.due)) → Says w h (answer_due w.market h k)
     due_first w h k s = s
@@ -601,21 +634,31 @@ requests_silent : (w : Here) (r : Room) (rs : List ℕ) → IsSilent w (map (req
 requests_silent w r [] = record { entry = refl; fill = refl; hold = refl; hit = refl; met = refl }
 requests_silent w r (x ∷ xs) = let k = requests_silent w r xs in record { entry = k.entry; fill = k.fill; hold = k.hold; hit = k.hit; met = k.met }
 
-request-Says : (w : Here) (h : History) (s : Sender) (d : RequestMessage) (t : ℕ) → Says w h (answer_request w.market h s d t)
-request-Says w h s d t =
+asks_each : (w : Here) (r : Room) (rs : List ℕ) → w.came ≡ came.Request (record { requester = r.requester; request = r.id }) → filter_map (asking_by w.row w.moment w.came) (map (request_sent w.market r) rs) ≡ map (told_asked w.market w.row w.moment r) rs
+asks_each w r [] is = refl
+asks_each w r (to ∷ rs) is =
+    ap (λ (c : Came). cons_option (asking_by w.row w.moment c (request_sent w.market r to)) (filter_map (asking_by w.row w.moment w.came) (map (request_sent w.market r) rs))) is
+    ∙ ap (λ l. told_asked w.market w.row w.moment r to ∷ l) (asks_each w r rs is)
+
+request-Says : (w : Here) (h : History) (s : Sender) (d : RequestMessage) (t : ℕ) → w.came ≡ came.Request (record { requester = s.who; request = d.request_id }) → Says w h (answer_request w.market h s d t)
+request-Says w h s d t came =
     let r = opened w.market h s d t in
     let k = requests_silent w r r.recipients in
-    first_of-Says w h (request_refusals w.market h s d t) (request_accepted w.market r) ((refl, (refl, (refl, (tt, (inl refl, (refl, tt)))))), ((refl, (refl, (refl, (tt, (inl refl, (refl, tt)))))), ((refl, (refl, (refl, (tt, (inl refl, (refl, tt)))))), ((refl, (refl, (refl, (tt, (inl refl, (refl, tt)))))), ((refl, (refl, (refl, (tt, (inl refl, (refl, tt)))))), ((refl, (refl, (refl, (tt, (inl refl, (refl, tt)))))), ((refl, (refl, (refl, (tt, (inl refl, (refl, tt)))))), ((refl, (refl, (refl, (tt, (inl refl, (refl, tt)))))), ((refl, (refl, (refl, (tt, (inl refl, (refl, tt)))))), ((refl, (refl, (refl, (tt, (inl refl, (refl, tt)))))), tt)))))))))) (λ n. (k.entry, (k.fill, (k.hold, (tt, (inl refl, (k.hit, subst (FillsOf w.market _) (sym k.met) tt)))))))
+    first_of-Says w h (request_refusals w.market h s d t) (request_accepted w.market r) ((refl, (refl, (refl, (tt, (inl refl, (refl, (tt, refl))))))), ((refl, (refl, (refl, (tt, (inl refl, (refl, (tt, refl))))))), ((refl, (refl, (refl, (tt, (inl refl, (refl, (tt, refl))))))), ((refl, (refl, (refl, (tt, (inl refl, (refl, (tt, refl))))))), ((refl, (refl, (refl, (tt, (inl refl, (refl, (tt, refl))))))), ((refl, (refl, (refl, (tt, (inl refl, (refl, (tt, refl))))))), ((refl, (refl, (refl, (tt, (inl refl, (refl, (tt, refl))))))), ((refl, (refl, (refl, (tt, (inl refl, (refl, (tt, refl))))))), ((refl, (refl, (refl, (tt, (inl refl, (refl, (tt, refl))))))), ((refl, (refl, (refl, (tt, (inl refl, (refl, (tt, refl))))))), tt)))))))))) (λ n. (k.entry, (k.fill, (k.hold, (tt, (inl refl, (k.hit, (subst (FillsOf w.market _) (sym k.met) tt, asks_each w r r.recipients came ∙ sym (append-nil (asked_told w.market w.row w.moment r))))))))))
 
 shown_silent : (w : Here) (h : History) (s : Sender) (r : Room) (d : QuoteMessage) (o : Option RoomQuote) → IsSilent w (quote_status s d (Some (symbol_of w.market.instruments r.instrument)) Accepted ∷ shown_with w.market h r o ++ quote_sent w.market r (quoted h s r d) ∷ [])
 shown_silent w h s r d None = record { entry = refl; fill = refl; hold = refl; hit = refl; met = refl }
 shown_silent w h s r d (Some q) = record { entry = refl; fill = refl; hold = refl; hit = refl; met = refl }
 
+shown_asks_none : (w : Here) (h : History) (s : Sender) (r : Room) (d : QuoteMessage) (o : Option RoomQuote) → filter_map (asking_by w.row w.moment w.came) (quote_status s d (Some (symbol_of w.market.instruments r.instrument)) Accepted ∷ shown_with w.market h r o ++ quote_sent w.market r (quoted h s r d) ∷ []) ≡ []
+shown_asks_none w h s r d None = refl
+shown_asks_none w h s r d (Some q) = refl
+
 quote-Says : (w : Here) (h : History) (s : Sender) (d : QuoteMessage) (t : ℕ) (r : Option Room) → Says w h (answer_quote_of w.market h s d t r)
-quote-Says w h s d t None = (refl, (refl, (refl, (tt, (inl refl, (refl, tt))))))
+quote-Says w h s d t None = (refl, (refl, (refl, (tt, (inl refl, (refl, (tt, refl)))))))
 quote-Says w h s d t (Some r) =
     let k = shown_silent w h s r d (first_quote h.facts r.number) in
-    first_of-Says w h (quote_refusals w.market h s r d t) (quote_accepted w.market h s r d) ((refl, (refl, (refl, (tt, (inl refl, (refl, tt)))))), ((refl, (refl, (refl, (tt, (inl refl, (refl, tt)))))), ((refl, (refl, (refl, (tt, (inl refl, (refl, tt)))))), ((refl, (refl, (refl, (tt, (inl refl, (refl, tt)))))), ((refl, (refl, (refl, (tt, (inl refl, (refl, tt)))))), ((refl, (refl, (refl, (tt, (inl refl, (refl, tt)))))), ((refl, (refl, (refl, (tt, (inl refl, (refl, tt)))))), ((refl, (refl, (refl, (tt, (inl refl, (refl, tt)))))), tt)))))))) (λ n. (k.entry, (k.fill, (k.hold, (tt, (inl refl, (k.hit, subst (FillsOf w.market _) (sym k.met) tt)))))))
+    first_of-Says w h (quote_refusals w.market h s r d t) (quote_accepted w.market h s r d) ((refl, (refl, (refl, (tt, (inl refl, (refl, (tt, refl))))))), ((refl, (refl, (refl, (tt, (inl refl, (refl, (tt, refl))))))), ((refl, (refl, (refl, (tt, (inl refl, (refl, (tt, refl))))))), ((refl, (refl, (refl, (tt, (inl refl, (refl, (tt, refl))))))), ((refl, (refl, (refl, (tt, (inl refl, (refl, (tt, refl))))))), ((refl, (refl, (refl, (tt, (inl refl, (refl, (tt, refl))))))), ((refl, (refl, (refl, (tt, (inl refl, (refl, (tt, refl))))))), ((refl, (refl, (refl, (tt, (inl refl, (refl, (tt, refl))))))), tt)))))))) (λ n. (k.entry, (k.fill, (k.hold, (tt, (inl refl, (k.hit, (subst (FillsOf w.market _) (sym k.met) tt, shown_asks_none w h s r d (first_quote h.facts r.number)))))))))
 
 -- Withdrawals.
 
@@ -626,6 +669,19 @@ told_silent w q (Some r) rs k = record { entry = k.entry; fill = k.fill; hold = 
 all_silent : (w : Here) (h : History) (qs : List RoomQuote) → IsSilent w (flat_map (both_told w.market h) qs)
 all_silent w h [] = record { entry = refl; fill = refl; hold = refl; hit = refl; met = refl }
 all_silent w h (q ∷ qs) = told_silent w q (room_by_number h.facts q.room) (flat_map (both_told w.market h) qs) (all_silent w h qs)
+
+told_asks_none : (w : Here) (q : RoomQuote) (o : Option Room) (rs : List Reply) → filter_map (asking_by w.row w.moment w.came) rs ≡ []
+    → filter_map (asking_by w.row w.moment w.came) (elim o [ None ↦ [] | Some r ↦ to_maker w.market r q Withdrawn ∷ to_requester w.market r q Withdrawn ∷ [] ] ++ rs) ≡ []
+told_asks_none w q None rs k = k
+told_asks_none w q (Some r) rs k = k
+
+all_ask_none : (w : Here) (h : History) (qs : List RoomQuote) → filter_map (asking_by w.row w.moment w.came) (flat_map (both_told w.market h) qs) ≡ []
+all_ask_none w h [] = refl
+all_ask_none w h (q ∷ qs) = told_asks_none w q (room_by_number h.facts q.room) (flat_map (both_told w.market h) qs) (all_ask_none w h qs)
+
+none_asked : (qs : List RoomQuote) → rooms (map (λ (q : RoomQuote). WithdrawnFact (record { quote = q.number })) qs) ≡ []
+none_asked [] = refl
+none_asked (q ∷ qs) = none_asked qs
 
 none_entered : (qs : List RoomQuote) → entries (map (λ (q : RoomQuote). WithdrawnFact (record { quote = q.number })) qs) ≡ []
 none_entered [] = refl
@@ -648,19 +704,19 @@ withdrawn-Says w h x (q ∷ qs) k =
         silent.fill ∙ sym (ap (λ ts. fills_told (next_trade h.facts) (at_row w.row ts)) (none_traded qs)),
         (
           silent.hold ∙ sym (ap (map told_hold) (none_held qs)),
-          (subst (AreOf _) (sym (none_traded qs)) tt, (inl (none_held qs), (silent.hit ∙ sym (ap (λ ts. hits_told (next_trade h.facts) (at_row w.row ts)) (none_traded qs)), subst (FillsOf w.market _) (sym silent.met) tt))),
+          (subst (AreOf _) (sym (none_traded qs)) tt, (inl (none_held qs), (silent.hit ∙ sym (ap (λ ts. hits_told (next_trade h.facts) (at_row w.row ts)) (none_traded qs)), (subst (FillsOf w.market _) (sym silent.met) tt, all_ask_none w h (q ∷ qs) ∙ sym (ap (flat_map (asked_told w.market w.row w.moment)) (none_asked qs)))))),
         ),
       ),
     )
 
 withdraw_one-Says : (w : Here) (h : History) (s : Sender) (t : ℕ) (id : Option (List ℕ)) → Says w h (withdraw_one w.market h s t id)
-withdraw_one-Says w h s t None = (refl, (refl, (refl, (tt, (inl refl, (refl, tt))))))
-withdraw_one-Says w h s t (Some id) = withdrawn-Says w h (not_found s (Some id)) _ (refl, (refl, (refl, (tt, (inl refl, (refl, tt))))))
+withdraw_one-Says w h s t None = (refl, (refl, (refl, (tt, (inl refl, (refl, (tt, refl)))))))
+withdraw_one-Says w h s t (Some id) = withdrawn-Says w h (not_found s (Some id)) _ (refl, (refl, (refl, (tt, (inl refl, (refl, (tt, refl)))))))
 
 withdrawal-Says : (w : Here) (h : History) (s : Sender) (d : WithdrawalMessage) (t : ℕ) (one all : Bool) → Says w h (answer_withdrawal_of w.market h s d t one all)
 withdrawal-Says w h s d t true all = withdraw_one-Says w h s t d.quote_id
-withdrawal-Says w h s d t false true = withdrawn-Says w h (not_found s None) _ (refl, (refl, (refl, (tt, (inl refl, (refl, tt))))))
-withdrawal-Says w h s d t false false = (refl, (refl, (refl, (tt, (inl refl, (refl, tt))))))
+withdrawal-Says w h s d t false true = withdrawn-Says w h (not_found s None) _ (refl, (refl, (refl, (tt, (inl refl, (refl, (tt, refl)))))))
+withdrawal-Says w h s d t false false = (refl, (refl, (refl, (tt, (inl refl, (refl, (tt, refl)))))))
 
 -- Answers to quotes.
 
@@ -669,27 +725,27 @@ abbrev IsResponse : Here → Type 0
 IsResponse w = (quote : List ℕ) × (w.came ≡ came.Response quote)
 
 hit_at-Says : (w : Here) (h : History) (s : Sender) (r : Room) (q : RoomQuote) (d : ResponseMessage) (t : ℕ) (side : Side) (p : Option ℤ) → IsResponse w → Says w h (answer_hit_at w.market h s r q d t side p)
-hit_at-Says w h s r q d t side None is = (refl, (refl, (refl, (tt, (inl refl, (refl, tt))))))
-hit_at-Says w h s r q d t side (Some p) is = (refl, (refl, (refl, ((tt, tt), (inl refl, (ap (λ (c : Came). filter_map (hit_by w.row c) (room_traded w.market h s r q d side p t).replies) is.1, tt))))))
+hit_at-Says w h s r q d t side None is = (refl, (refl, (refl, (tt, (inl refl, (refl, (tt, refl)))))))
+hit_at-Says w h s r q d t side (Some p) is = (refl, (refl, (refl, ((tt, tt), (inl refl, (ap (λ (c : Came). filter_map (hit_by w.row c) (room_traded w.market h s r q d side p t).replies) is.1, (tt, refl)))))))
 
 hit-Says : (w : Here) (h : History) (s : Sender) (r : Room) (q : RoomQuote) (d : ResponseMessage) (t : ℕ) (side : Option Side) → IsResponse w → Says w h (answer_hit w.market h s r q d t side)
-hit-Says w h s r q d t None is = (refl, (refl, (refl, (tt, (inl refl, (refl, tt))))))
+hit-Says w h s r q d t None is = (refl, (refl, (refl, (tt, (inl refl, (refl, (tt, refl)))))))
 hit-Says w h s r q d t (Some side) is = hit_at-Says w h s r q d t side (price_for side q) is
 
 response_in-Says : (w : Here) (h : History) (s : Sender) (q : RoomQuote) (d : ResponseMessage) (t : ℕ) (r : Option Room) → IsResponse w → Says w h (answer_response_in w.market h s q d t r)
-response_in-Says w h s q d t None is = (refl, (refl, (refl, (tt, (inl refl, (refl, tt))))))
+response_in-Says w h s q d t None is = (refl, (refl, (refl, (tt, (inl refl, (refl, (tt, refl)))))))
 response_in-Says w h s q d t (Some r) is =
-    first_of-Says w h (response_refusals w.market h s r q d t) (answer_hit w.market h s r q d t (taken_side r.side d.side)) ((refl, (refl, (refl, (tt, (inl refl, (refl, tt)))))), ((refl, (refl, (refl, (tt, (inl refl, (refl, tt)))))), ((refl, (refl, (refl, (tt, (inl refl, (refl, tt)))))), ((refl, (refl, (refl, (tt, (inl refl, (refl, tt)))))), ((refl, (refl, (refl, (tt, (inl refl, (refl, tt)))))), ((refl, (refl, (refl, (tt, (inl refl, (refl, tt)))))), tt)))))) (λ n. hit-Says w h s r q d t (taken_side r.side d.side) is)
+    first_of-Says w h (response_refusals w.market h s r q d t) (answer_hit w.market h s r q d t (taken_side r.side d.side)) ((refl, (refl, (refl, (tt, (inl refl, (refl, (tt, refl))))))), ((refl, (refl, (refl, (tt, (inl refl, (refl, (tt, refl))))))), ((refl, (refl, (refl, (tt, (inl refl, (refl, (tt, refl))))))), ((refl, (refl, (refl, (tt, (inl refl, (refl, (tt, refl))))))), ((refl, (refl, (refl, (tt, (inl refl, (refl, (tt, refl))))))), ((refl, (refl, (refl, (tt, (inl refl, (refl, (tt, refl))))))), tt)))))) (λ n. hit-Says w h s r q d t (taken_side r.side d.side) is)
 
 response_to-Says : (w : Here) (h : History) (s : Sender) (d : ResponseMessage) (t : ℕ) (q : Option RoomQuote) → IsResponse w → Says w h (answer_response_to w.market h s d t q)
-response_to-Says w h s d t None is = (refl, (refl, (refl, (tt, (inl refl, (refl, tt))))))
+response_to-Says w h s d t None is = (refl, (refl, (refl, (tt, (inl refl, (refl, (tt, refl)))))))
 response_to-Says w h s d t (Some q) is = response_in-Says w h s q d t (room_by_number h.facts q.room) is
 
 response-Says : (w : Here) (h : History) (s : Sender) (d : ResponseMessage) (t : ℕ) → IsResponse w → Says w h (answer_response w.market h s d t)
-response-Says w h s d t is = first_of-Says w h (kind_refusals s d) _ ((refl, (refl, (refl, (tt, (inl refl, (refl, tt)))))), tt) (λ n. response_to-Says w h s d t (find_quote h.facts d.quote_id) is)
+response-Says w h s d t is = first_of-Says w h (kind_refusals s d) _ ((refl, (refl, (refl, (tt, (inl refl, (refl, (tt, refl))))))), tt) (λ n. response_to-Says w h s d t (find_quote h.facts d.quote_id) is)
 
 market_data-Says : (w : Here) (h : History) (s : Sender) (d : MarketDataMessage) → Says w h (answer_market_data w.market h s d)
-market_data-Says w h s d = first_of-Says w h (market_data_refusals w.market s d) (market_data w.market h s d) ((refl, (refl, (refl, (tt, (inl refl, (refl, tt)))))), ((refl, (refl, (refl, (tt, (inl refl, (refl, tt)))))), ((refl, (refl, (refl, (tt, (inl refl, (refl, tt)))))), tt))) (λ n. (refl, (refl, (refl, (tt, (inl refl, (refl, tt)))))))
+market_data-Says w h s d = first_of-Says w h (market_data_refusals w.market s d) (market_data w.market h s d) ((refl, (refl, (refl, (tt, (inl refl, (refl, (tt, refl))))))), ((refl, (refl, (refl, (tt, (inl refl, (refl, (tt, refl))))))), ((refl, (refl, (refl, (tt, (inl refl, (refl, (tt, refl))))))), tt))) (λ n. (refl, (refl, (refl, (tt, (inl refl, (refl, (tt, refl))))))))
 
 -- Any message, and a tick.
 
@@ -699,7 +755,7 @@ message_here m words n t s a = record { market = m; row = n; moment = t; came = 
 
 app-Says : (m : Market) (h : History) (words : List Word) (n moment : ℕ) (s : Sender) (a : App) (t : ℕ) → moment ≡ t → Says (message_here m words n moment s a) h (answer_app m h s a t)
 unfolding came_in
-app-Says m h words n moment s (QuoteRequest d) t e = request-Says (message_here m words n moment s (QuoteRequest d)) h s d t
+app-Says m h words n moment s (QuoteRequest d) t e = request-Says (message_here m words n moment s (QuoteRequest d)) h s d t refl
 app-Says m h words n moment s (Quote d) t e = quote-Says (message_here m words n moment s (Quote d)) h s d t (find_room h.facts d.request_id)
 app-Says m h words n moment s (QuoteCancel d) t e = withdrawal-Says (message_here m words n moment s (QuoteCancel d)) h s d t (d.cancel_type == 5) (d.cancel_type == 4)
 app-Says m h words n moment s (QuoteResponse d) t e = response-Says (message_here m words n moment s (QuoteResponse d)) h s d t (d.quote_id, refl)
@@ -709,14 +765,14 @@ app-Says m h words n moment s (OrderCancelReplaceRequest d) t e =
     replace-Says (message_here m words n moment s (OrderCancelReplaceRequest d)) h s d t (named h s.who d.original_id) (record { tick = refl; same = refl; moment = e }) refl (named_own h s.who d.original_id)
 app-Says m h words n moment s (NewOrderCross d) t e = cross-Says (message_here m words n moment s (NewOrderCross d)) h s d t (record { tick = refl; same = refl; moment = e }) refl
 app-Says m h words n moment s (MarketDataRequest d) t e = market_data-Says (message_here m words n moment s (MarketDataRequest d)) h s d
-app-Says m h words n moment s (BusinessMessageReject d) t e = (refl, (refl, (refl, (tt, (inl refl, (refl, tt))))))
-app-Says m h words n moment s (QuoteStatusReport d) t e = (refl, (refl, (refl, (tt, (inl refl, (refl, tt))))))
-app-Says m h words n moment s (QuoteRequestReject d) t e = (refl, (refl, (refl, (tt, (inl refl, (refl, tt))))))
-app-Says m h words n moment s (ExecutionReport d) t e = (refl, (refl, (refl, (tt, (inl refl, (refl, tt))))))
-app-Says m h words n moment s (OrderCancelReject d) t e = (refl, (refl, (refl, (tt, (inl refl, (refl, tt))))))
-app-Says m h words n moment s (MarketDataSnapshot d) t e = (refl, (refl, (refl, (tt, (inl refl, (refl, tt))))))
-app-Says m h words n moment s (MarketDataRequestReject d) t e = (refl, (refl, (refl, (tt, (inl refl, (refl, tt))))))
-app-Says m h words n moment s (Unsupported kind) t e = (refl, (refl, (refl, (tt, (inl refl, (refl, tt))))))
+app-Says m h words n moment s (BusinessMessageReject d) t e = (refl, (refl, (refl, (tt, (inl refl, (refl, (tt, refl)))))))
+app-Says m h words n moment s (QuoteStatusReport d) t e = (refl, (refl, (refl, (tt, (inl refl, (refl, (tt, refl)))))))
+app-Says m h words n moment s (QuoteRequestReject d) t e = (refl, (refl, (refl, (tt, (inl refl, (refl, (tt, refl)))))))
+app-Says m h words n moment s (ExecutionReport d) t e = (refl, (refl, (refl, (tt, (inl refl, (refl, (tt, refl)))))))
+app-Says m h words n moment s (OrderCancelReject d) t e = (refl, (refl, (refl, (tt, (inl refl, (refl, (tt, refl)))))))
+app-Says m h words n moment s (MarketDataSnapshot d) t e = (refl, (refl, (refl, (tt, (inl refl, (refl, (tt, refl)))))))
+app-Says m h words n moment s (MarketDataRequestReject d) t e = (refl, (refl, (refl, (tt, (inl refl, (refl, (tt, refl)))))))
+app-Says m h words n moment s (Unsupported kind) t e = (refl, (refl, (refl, (tt, (inl refl, (refl, (tt, refl)))))))
 
 -- an input that is told at a row
 abbrev pub is_tick_input : Input → Bool
@@ -727,7 +783,7 @@ abbrev pub here : Market → List Word → TrailRow → Input → Here
 here m words r i = record { market = m; row = r.n; moment = r.moment; came = came_of m words r.n i; tick = is_tick_input i }
 
 due-or-none : (w : Here) (h : History) (k : Option HeldSide) → w.tick ≡ true → w.came ≡ came.Tick → Says w h (answer_due_of w.market h k)
-due-or-none w h None tick came = (refl, (refl, (refl, (tt, (inl refl, (refl, tt))))))
+due-or-none w h None tick came = (refl, (refl, (refl, (tt, (inl refl, (refl, (tt, refl)))))))
 due-or-none w h (Some k) tick came = due-Says w h k tick came
 
 pub input-Says : (m : Market) (h : History) (words : List Word) (r : TrailRow) (i : Input) → Tells r i → Says (here m words r i) h (answer_input m h i)

@@ -60,6 +60,18 @@ pub record HeardHit : Type 0 where
   pub room : ℕ
   pub trade : ℕ
 
+-- a recipient who is asked
+pub record HeardAsked : Type 0 where
+  pub row : ℕ
+  pub moment : ℕ
+  pub to : ℕ
+  pub requester : ℕ
+  pub request : List ℕ
+  pub room : ℕ
+  pub symbol : List ℕ
+  pub side : Option Side
+  pub quantity : ℕ
+
 -- in a word
 
 abbrev pub entry_of_said : Word → Said → Option HeardEntry
@@ -89,6 +101,13 @@ trade_of_said w _ = None
 
 abbrev pub traded_in : Word → Option HeardHit
 traded_in w = trade_of_said w w.said
+
+abbrev pub asking_of_said : Word → Said → Option HeardAsked
+asking_of_said w (said.Asked a) = Some (record { row = w.row; moment = w.moment; to = w.to; requester = a.requester; request = a.request; room = a.room; symbol = a.symbol; side = a.side; quantity = a.quantity })
+asking_of_said w _ = None
+
+abbrev pub asking_in : Word → Option HeardAsked
+asking_in w = asking_of_said w w.said
 
 -- in a reply
 
@@ -137,6 +156,17 @@ hit_what n c _ = None
 abbrev pub hit_by : ℕ → Came → Reply → Option HeardHit
 hit_by n c r = hit_what n c r.what
 
+abbrev pub asking_from : ℕ → ℕ → ℕ → RequestSent → Came → Option HeardAsked
+asking_from n t to r (came.Request q) = Some (record { row = n; moment = t; to = to; requester = q.requester; request = q.request; room = r.room; symbol = r.symbol; side = r.side; quantity = r.quantity })
+asking_from n t to r _ = None
+
+abbrev pub asking_what : ℕ → ℕ → Came → ℕ → What → Option HeardAsked
+asking_what n t c to (what.RequestSent r) = asking_from n t to r c
+asking_what n t c to _ = None
+
+abbrev pub asking_by : ℕ → ℕ → Came → Reply → Option HeardAsked
+asking_by n t c r = asking_what n t c r.to r.what
+
 -- The words of a reply say what the reply does.
 
 -- neither what was shown nor what rested is picked
@@ -153,6 +183,9 @@ fill-deaf = record { shown = λ n t to s. refl; stood = λ n t to s. refl; count
 
 pub hold-deaf : IsDeaf hold_in
 hold-deaf = record { shown = λ n t to s. refl; stood = λ n t to s. refl; counted = λ n t to s. refl }
+
+pub asking-deaf : IsDeaf asking_in
+asking-deaf = record { shown = λ n t to s. refl; stood = λ n t to s. refl; counted = λ n t to s. refl }
 
 pub traded-deaf : IsDeaf traded_in
 traded-deaf = record { shown = λ n t to s. refl; stood = λ n t to s. refl; counted = λ n t to s. refl }
@@ -303,6 +336,70 @@ what_fill n t c to (what.RequestRefused r) = refl
 what_fill n t c to (what.QuoteStatus r) = refl
 what_fill n t c to (what.PricesRefused r) = refl
 what_fill n t c to (what.Unprocessed r) = refl
+
+-- recipients who are asked
+
+asked_asking : (n t : ℕ) (c : Came) (to : ℕ) (r : RequestSent) → filter_map asking_in (said_by n t to (asked_in c r) ++ []) ≡ cons_option (asking_from n t to r c) []
+asked_asking n t (came.Request x) to r = refl
+asked_asking n t came.Quote to r = refl
+asked_asking n t (came.Response x) to r = refl
+asked_asking n t (came.Order x) to r = refl
+asked_asking n t (came.Cross x) to r = refl
+asked_asking n t came.Tick to r = refl
+asked_asking n t came.Other to r = refl
+
+hit_asking : (n t : ℕ) (c : Came) (to : ℕ) (r : RoomReport) → filter_map asking_in (said_by n t to (hit_in c r) ++ []) ≡ []
+hit_asking n t (came.Request x) to r = refl
+hit_asking n t came.Quote to r = refl
+hit_asking n t (came.Response x) to r = refl
+hit_asking n t (came.Order x) to r = refl
+hit_asking n t (came.Cross x) to r = refl
+hit_asking n t came.Tick to r = refl
+hit_asking n t came.Other to r = refl
+
+prices_asking : (n t : ℕ) (c : Came) (to : ℕ) (p : Prices) → filter_map asking_in (said_by n t to (pictured_in c p) ++ prices_words n t to c p) ≡ []
+prices_asking n t (came.Request x) to p = refl
+prices_asking n t came.Quote to p = shown_silent asking_in asking-deaf n t to p.request_id p.entries
+prices_asking n t (came.Response x) to p = refl
+prices_asking n t (came.Order x) to p = refl
+prices_asking n t (came.Cross x) to p = refl
+prices_asking n t came.Tick to p = refl
+prices_asking n t came.Other to p = refl
+
+held_asking : (n t : ℕ) (c : Came) (to : ℕ) (r : OrderReport) → filter_map asking_in (said_by n t to (held_by c r) ++ []) ≡ []
+held_asking n t (came.Request x) to r = refl
+held_asking n t came.Quote to r = refl
+held_asking n t (came.Response x) to r = refl
+held_asking n t (came.Order x) to r = refl
+held_asking n t (came.Cross x) to r = refl
+held_asking n t came.Tick to r = refl
+held_asking n t came.Other to r = refl
+
+entered_asking : (n t : ℕ) (c : Came) (to : ℕ) (original : Option (List ℕ)) (r : OrderReport) (o : Option ℕ) (rest : List Word) → filter_map asking_in rest ≡ [] → filter_map asking_in (said_by n t to (entered_of c original r o) ++ rest) ≡ []
+entered_asking n t c to original r None rest k = k
+entered_asking n t c to original r (Some order) rest k = k
+
+filled_asking : (n t to : ℕ) (f : FilledReport) (o : Option ℕ) → filter_map asking_in (said_by n t to (filled_of f o) ++ []) ≡ []
+filled_asking n t to f None = refl
+filled_asking n t to f (Some order) = refl
+
+what_asking : (n t : ℕ) (c : Came) (to : ℕ) (x : What) → filter_map asking_in (what_words n t c to x) ≡ cons_option (asking_what n t c to x) []
+what_asking n t c to (what.RequestSent r) = asked_asking n t c to r
+what_asking n t c to (what.Prices p) = prices_asking n t c to p
+what_asking n t c to (what.QuoteSent q) = refl
+what_asking n t c to (what.OrderEntered r) = entered_asking n t c to None r r.order (said_by n t to (held_by c r) ++ []) (held_asking n t c to r)
+what_asking n t c to (what.OrderReplaced r) = entered_asking n t c to (Some r.original_id) r.order r.order.order [] refl
+what_asking n t c to (what.OrderFilled f) = filled_asking n t to f f.order.order
+what_asking n t c to (what.RoomTraded r) = hit_asking n t c to r
+what_asking n t c to (what.OrderRefused r) = refl
+what_asking n t c to (what.CrossRefused r) = refl
+what_asking n t c to (what.OrderUnfilled r) = refl
+what_asking n t c to (what.OrderCancelled r) = refl
+what_asking n t c to (what.ChangeRefused r) = refl
+what_asking n t c to (what.RequestRefused r) = refl
+what_asking n t c to (what.QuoteStatus r) = refl
+what_asking n t c to (what.PricesRefused r) = refl
+what_asking n t c to (what.Unprocessed r) = refl
 
 -- hits
 
@@ -458,6 +555,10 @@ fills_say n t c rs = replies_say fill_in (fill_by n) n t c (λ r. what_fill n t 
 pub holds_say : (n t : ℕ) (c : Came) (rs : List Reply) → filter_map hold_in (words_of n t c rs) ≡ filter_map (hold_by t c) rs
 unfolding words_in
 holds_say n t c rs = replies_say hold_in (hold_by t c) n t c (λ r. what_hold n t c r.to r.what) rs
+
+pub askings_say : (n t : ℕ) (c : Came) (rs : List Reply) → filter_map asking_in (words_of n t c rs) ≡ filter_map (asking_by n t c) rs
+unfolding words_in
+askings_say n t c rs = replies_say asking_in (asking_by n t c) n t c (λ r. what_asking n t c r.to r.what) rs
 
 pub hits_say : (n t : ℕ) (c : Came) (rs : List Reply) → filter_map traded_in (words_of n t c rs) ≡ filter_map (hit_by n c) rs
 unfolding words_in

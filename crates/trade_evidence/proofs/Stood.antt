@@ -388,7 +388,7 @@ stood_here m number h r i rs is told k old new x at place from =
     let a = answer_input m h i in
     let met = some_met (met_after number None a.replies) old
     (met_told_by m h r i number told.0 ∙ own_fills number old new None (next_trade h.facts) k (at_row r.n (trades a.facts)) (r.n, x) (slice_map (λ (y : Trade). (r.n, y)) (trades a.facts) k x at) place from) in
-    let of = fill_of m (entries h.facts ++ entries a.facts) (filter_map met_in a.replies) met.0 (input-Says m h [] r i told.0).1.1.1.1.1.1 (not_before (filter_map met_in a.replies) met.0 (met_among number None a.replies met.0 met.1)) in
+    let of = fill_of m (entries h.facts ++ entries a.facts) (filter_map met_in a.replies) met.0 (input-Says m h [] r i told.0).1.1.1.1.1.1.0 (not_before (filter_map met_in a.replies) met.0 (met_among number None a.replies met.0 met.1)) in
     let grows = run_grows m (after h a) [] is in
     let known : In of.0 (entries (h.facts ++ a.facts)) = subst (In of.0) (sym (filter_map-append entry_in_fact h.facts a.facts)) of.1 in
     let rest = stood_none m number (after h a) rs is told.1 (higher (length (trades (h.facts ++ a.facts)) + 1) (next_trade h.facts) (length (trades a.facts)) k (next_trades h a.facts) from (slice_within (trades a.facts) k x at)) in

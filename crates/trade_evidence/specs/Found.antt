@@ -1,12 +1,13 @@
 -- What is found of a trade in the words of its day, so that its lines are there.
-use Rattle.std.specs.Prelude.{◌≡◌, ℕ, ℤ, ◌-◌, min, List, ◌∷◌, ◌++◌, Contains, Option, None, Some, find, flat_map, length, slice_get}
+use Rattle.std.specs.Prelude.{◌≡◌, ℕ, ℤ, ◌-◌, min, List, ◌∷◌, ◌++◌, Contains, Option, None, Some, filter, find, flat_map, length, map, slice_get}
 use Rattle.instruments.specs.Listing.{symbol_of}
 use Rattle.participants.specs.ParticipantFile.{ParticipantFile}
 use Rattle.sef_moment.specs.Utc.{greatest}
 use Rattle.venue_rules.specs.declared.facts.Entry.{Entry}
 use Rattle.venue_rules.specs.declared.facts.Fact.{Fact}
-use Rattle.venue_rules.specs.declared.facts.Fact.TheVariants.{Entered, Traded}
+use Rattle.venue_rules.specs.declared.facts.Fact.TheVariants.{Asked as RoomAsked, Entered, Traded}
 use Rattle.venue_rules.specs.declared.facts.Place.TheVariants.{Book as InBook}
+use Rattle.venue_rules.specs.declared.facts.Room.{Room}
 use Rattle.venue_rules.specs.declared.facts.Trade.{Trade}
 use Rattle.venue_rules.specs.declared.trail.TradeFact.{TradeFact}
 use Rattle.venue_rules.specs.declared.trail.TrailRow.{TrailRow}
@@ -20,17 +21,8 @@ use Rattle.trade_evidence.specs.declared.standing.Met.{Met}
 use Rattle.trade_evidence.specs.declared.word.Asked.{Asked}
 use Rattle.trade_evidence.specs.declared.word.Said.TheVariants as said
 use Rattle.trade_evidence.specs.declared.word.Word.{Word}
-use Rattle.trade_evidence.specs.Lines.{both_lines, evidence, is_sought, request_line, room_lines, room_word, standing_line, standing_lines, trade_line, trade_row}
+use Rattle.trade_evidence.specs.Lines.{both_lines, evidence, is_asked, is_sought, request_line, room_lines, room_word, standing_line, standing_lines, trade_line, trade_row}
 use Rattle.trade_evidence.specs.Standing.{prices_of, stood_words}
-
--- somebody was asked in this room: its lines begin with the request's
-pub record HasRequest (words : List Word) (room : ℕ) : Type 0 where
-  pub word : Word
-  pub asked : Asked
-  pub found : find (is_sought (Request room)) words ≡ Some word
-  pub says : word.said ≡ said.Asked asked
-  pub here : asked.room ≡ room
-  pub lines : (file : ParticipantFile) → room_lines file words room ≡ request_line file word asked ++ flat_map (room_word file words asked) words
 
 -- a row, and the input that it tells, whose answer made this a fact
 pub record CameAt (m : Market) (rs : List TrailRow) (is : List Input) (row : TrailRow) (input : Input) (fact : Fact) : Type 0 where
@@ -39,6 +31,29 @@ pub record CameAt (m : Market) (rs : List TrailRow) (is : List Input) (row : Tra
   pub taken : is ≡ earlier ++ input ∷ later
   pub told : slice_get rs (length earlier) ≡ Some row
   pub made : Contains (answer_input m (run m earlier).history input).facts fact
+
+-- the request of a room is found: its lines begin with it; it tells what was asked for when the room was opened, and by whom, at the row and the
+-- moment of the message that did; and who are told to have been asked are its recipients
+pub record HasRequest (m : Market) (rs : List TrailRow) (is : List Input) (words : List Word) (room : ℕ) : Type 0 where
+  pub word : Word
+  pub asked : Asked
+  pub found : find (is_sought (Request room)) words ≡ Some word
+  pub says : word.said ≡ said.Asked asked
+  pub here : asked.room ≡ room
+  pub lines : (file : ParticipantFile) → room_lines file words room ≡ request_line file word asked ++ flat_map (room_word file words asked) words
+  pub opened : Room
+  pub row : TrailRow
+  pub input : Input
+  pub came : CameAt m rs is row input (RoomAsked opened)
+  pub number : opened.number ≡ room
+  pub at_row : word.row ≡ row.n
+  pub moment : word.moment ≡ row.moment
+  pub requester : asked.requester ≡ opened.requester
+  pub request : asked.request ≡ opened.id
+  pub symbol : asked.symbol ≡ symbol_of m.instruments opened.instrument
+  pub side : asked.side ≡ opened.side
+  pub quantity : asked.quantity ≡ opened.quantity
+  pub recipients : map (λ (w : Word). w.to) (filter (is_asked room) words) ≡ opened.recipients
 
 -- a trade is told at the row of the input by which it was made
 pub record HasRow (m : Market) (rs : List TrailRow) (is : List Input) (words : List Word) (number : ℕ) (t : TradeFact) : Type 0 where
