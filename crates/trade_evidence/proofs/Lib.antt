@@ -2,5 +2,11 @@ pub mod Appends
 pub mod Hearing
 pub mod Shown
 pub mod Telling
-pub mod Opening
-pub mod Requests
+pub mod Members
+pub mod Says
+pub mod Replies
+pub mod Days
+pub mod Holds
+pub mod Stood
+pub mod Orders
+pub mod Asking

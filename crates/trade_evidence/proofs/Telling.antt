@@ -14,7 +14,7 @@ use Rattle.venue_core.specs.State.{State}
 use Rattle.trade_evidence.specs.declared.evidence.EvidenceFault.{EvidenceFault}
 use Rattle.trade_evidence.specs.declared.evidence.EvidenceFault.TheVariants.{Memory, NoTrade, Output}
 use Rattle.trade_evidence.specs.declared.word.Word.{Word}
-use Rattle.trade_evidence.specs.Laws.{RoomTradesHaveRequests}
+use Rattle.trade_evidence.specs.Laws.{BookTradesHaveOrders, RoomTradesHaveRequests, TradesHaveRows}
 use Rattle.trade_evidence.specs.Lines.{evidence}
 use Rattle.trade_evidence.specs.Told.{AreOf, HasNoTrade, IsEvidence, IsHeard, TellsTrade, UnlessWriting, trade_numbered}
 
@@ -25,15 +25,17 @@ TellTheirInputs = (rs : List TrailRow) (is told : List Input) → rs ≡ rows is
 are_of : TellTheirInputs → (rs : List TrailRow) (items : List Input) → AreTold rs items → AreOf rs items
 are_of law rs items told = record { told = told; of_run = λ is same fits. law rs is items same fits told }
 
-pub trade_told : TellTheirInputs → RoomTradesHaveRequests → (m : Market) (rs : List TrailRow) (s : State) (words : List Word) (number : ℕ) (trade : TradeFact) (text : List ℕ) → IsHeard m number rs s words
+pub trade_told : TellTheirInputs → RoomTradesHaveRequests → BookTradesHaveOrders → TradesHaveRows → (m : Market) (rs : List TrailRow) (s : State) (words : List Word) (number : ℕ) (trade : TradeFact) (text : List ℕ) → IsHeard m number rs s words
     → ((h : History) → IsHistory s h → Some trade ≡ trade_numbered h number) → text ≡ evidence s.market words trade → IsEvidence m rs number text
-trade_told law requests m rs s words number trade text heard numbered is = let found = sym (numbered (run m heard.items).history heard.stands.history) in record {
+trade_told law requests orders rows_made m rs s words number trade text heard numbered is = let found = sym (numbered (run m heard.items).history heard.stands.history) in record {
   items = heard.items;
   told = are_of law rs heard.items heard.told;
   trade = trade;
   numbered = found;
   is = is ∙ (λ k. evidence (heard.stands.market k) (heard.said k) trade);
+  made = rows_made m rs heard.items number trade heard.told found;
   requested = λ room placed. requests m rs heard.items number room trade heard.told found placed;
+  ordered = λ placed. orders m rs heard.items number trade heard.told found placed;
 }
 
 pub no_trade : TellTheirInputs → (m : Market) (rs : List TrailRow) (s : State) (words : List Word) (number : ℕ) → IsHeard m number rs s words

@@ -1,17 +1,119 @@
 -- What is found of a trade in the words of its day, so that its lines are there.
-use Rattle.std.specs.Prelude.{◌≡◌, ℕ, List, ◌++◌, Some, find, flat_map}
+use Rattle.std.specs.Prelude.{◌≡◌, ℕ, ℤ, ◌-◌, min, List, ◌∷◌, ◌++◌, Contains, Option, None, Some, filter, find, flat_map, length, map, slice_get}
+use Rattle.instruments.specs.Listing.{symbol_of}
 use Rattle.participants.specs.ParticipantFile.{ParticipantFile}
+use Rattle.sef_moment.specs.Utc.{greatest}
+use Rattle.venue_rules.specs.declared.facts.Entry.{Entry}
+use Rattle.venue_rules.specs.declared.facts.Fact.{Fact}
+use Rattle.venue_rules.specs.declared.facts.Fact.TheVariants.{Asked as RoomAsked, Entered, Traded}
+use Rattle.venue_rules.specs.declared.facts.Place.TheVariants.{Book as InBook}
+use Rattle.venue_rules.specs.declared.facts.Room.{Room}
+use Rattle.venue_rules.specs.declared.facts.Trade.{Trade}
+use Rattle.venue_rules.specs.declared.trail.TradeFact.{TradeFact}
+use Rattle.venue_rules.specs.declared.trail.TrailRow.{TrailRow}
+use Rattle.venue_rules.specs.Facts.{trades}
+use Rattle.venue_rules.specs.Market.{Market}
+use Rattle.venue_rules.specs.Readings.{trade_fact}
+use Rattle.venue_rules.specs.Run.{Input, Message, Tick, answer_input, run}
+use Rattle.trade_evidence.specs.declared.entry.Entry.{Entry as OrderEntry}
 use Rattle.trade_evidence.specs.declared.finding.Sought.TheVariants.{Request}
+use Rattle.trade_evidence.specs.declared.standing.Met.{Met}
 use Rattle.trade_evidence.specs.declared.word.Asked.{Asked}
 use Rattle.trade_evidence.specs.declared.word.Said.TheVariants as said
 use Rattle.trade_evidence.specs.declared.word.Word.{Word}
-use Rattle.trade_evidence.specs.Lines.{is_sought, request_line, room_lines, room_word}
+use Rattle.trade_evidence.specs.Lines.{both_lines, evidence, is_asked, is_sought, request_line, room_lines, room_word, standing_line, standing_lines, trade_line, trade_row}
+use Rattle.trade_evidence.specs.Standing.{prices_of, stood_words}
 
--- somebody was asked in this room: its lines begin with the request's
-pub record HasRequest (words : List Word) (room : ℕ) : Type 0 where
+-- a row, and the input that it tells, whose answer made this a fact
+pub record CameAt (m : Market) (rs : List TrailRow) (is : List Input) (row : TrailRow) (input : Input) (fact : Fact) : Type 0 where
+  pub earlier : List Input
+  pub later : List Input
+  pub taken : is ≡ earlier ++ input ∷ later
+  pub told : slice_get rs (length earlier) ≡ Some row
+  pub made : Contains (answer_input m (run m earlier).history input).facts fact
+
+-- the request of a room is found: its lines begin with it; it tells what was asked for when the room was opened, and by whom, at the row and the
+-- moment of the message that did; and who are told to have been asked are its recipients
+pub record HasRequest (m : Market) (rs : List TrailRow) (is : List Input) (words : List Word) (room : ℕ) : Type 0 where
   pub word : Word
   pub asked : Asked
   pub found : find (is_sought (Request room)) words ≡ Some word
   pub says : word.said ≡ said.Asked asked
   pub here : asked.room ≡ room
   pub lines : (file : ParticipantFile) → room_lines file words room ≡ request_line file word asked ++ flat_map (room_word file words asked) words
+  pub opened : Room
+  pub row : TrailRow
+  pub input : Input
+  pub came : CameAt m rs is row input (RoomAsked opened)
+  pub number : opened.number ≡ room
+  pub at_row : word.row ≡ row.n
+  pub moment : word.moment ≡ row.moment
+  pub requester : asked.requester ≡ opened.requester
+  pub request : asked.request ≡ opened.id
+  pub symbol : asked.symbol ≡ symbol_of m.instruments opened.instrument
+  pub side : asked.side ≡ opened.side
+  pub quantity : asked.quantity ≡ opened.quantity
+  pub recipients : map (λ (w : Word). w.to) (filter (is_asked room) words) ≡ opened.recipients
+
+-- a trade is told at the row of the input by which it was made
+pub record HasRow (m : Market) (rs : List TrailRow) (is : List Input) (words : List Word) (number : ℕ) (t : TradeFact) : Type 0 where
+  pub trade : Trade
+  pub numbered : slice_get (trades (run m is).history.facts) (number - 1) ≡ Some trade
+  pub read_back : t ≡ trade_fact number trade
+  pub row : TrailRow
+  pub input : Input
+  pub made : CameAt m rs is row input (Traded trade)
+  pub at_row : trade_row words t ≡ row.n
+
+-- the price in an order's line: a held side, which enters at a tick, is told without one
+abbrev pub price_told : Input → Entry → Option ℤ
+price_told (Message taken t) e = Some e.order.price
+price_told (Tick t) e = None
+
+-- the moment in an order's line: a held side entered where its delay was over, which may be before the tick
+abbrev pub moment_told : Input → Entry → ℕ
+moment_told (Message taken t) e = e.moment
+moment_told (Tick t) e = min e.moment greatest
+
+-- what an order's lines are made of is what the order was as it entered, and the row is that at which it did
+pub record TellsOrder (m : Market) (rs : List TrailRow) (is : List Input) (e : Entry) (x : OrderEntry) : Type 0 where
+  pub row : TrailRow
+  pub input : Input
+  pub came : CameAt m rs is row input (Entered e)
+  pub at_row : x.row ≡ row.n
+  pub moment : x.moment ≡ moment_told input e
+  pub whose : x.to ≡ e.order.who
+  pub number : x.entered.order ≡ e.number
+  pub id : x.entered.id ≡ e.order.id
+  pub symbol : x.entered.symbol ≡ symbol_of m.instruments e.order.instrument
+  pub side : x.entered.side ≡ e.order.side
+  pub quantity : x.entered.quantity ≡ e.order.quantity
+  pub price : x.entered.price ≡ price_told input e
+
+-- an order that is met
+abbrev pub met_told : Market → Entry → Met
+met_told m e = record { resting = e.number; side = e.order.side; symbol = symbol_of m.instruments e.order.instrument; who = e.order.who }
+
+-- what is told to have rested before the order that a trade met is what rested then: of what the venue would have shown of its instrument just before that
+-- row, what stands before the order on its side, and how many these are
+pub record HasStanding (m : Market) (rs : List TrailRow) (is : List Input) (words : List Word) (trade : Trade) (rested : Entry) : Type 0 where
+  pub row : TrailRow
+  pub input : Input
+  pub made : CameAt m rs is row input (Traded trade)
+  pub lines : standing_lines words ≡ flat_map standing_line (stood_words row.n row.moment (met_told m rested) (prices_of m (run m made.earlier).history (symbol_of m.instruments rested.order.instrument)))
+
+-- both orders of a trade in the book are found: its evidence are the lines of the order that rested, of the one that entered, of both together,
+-- and of the trade; what is told of both and of the trade is told at the row at which the second entered
+pub record HasOrders (m : Market) (rs : List TrailRow) (is : List Input) (words : List Word) (number : ℕ) (t : TradeFact) : Type 0 where
+  pub trade : Trade
+  pub rested : Entry
+  pub entered : Entry
+  pub numbered : slice_get (trades (run m is).history.facts) (number - 1) ≡ Some trade
+  pub read_back : t ≡ trade_fact number trade
+  pub between : trade.place ≡ InBook rested.number entered.number
+  pub resting : OrderEntry
+  pub entering : OrderEntry
+  pub tells_rested : TellsOrder m rs is rested resting
+  pub tells_entered : TellsOrder m rs is entered entering
+  pub lines : evidence m words t ≡ both_lines m.participants words (record { resting = resting; entering = entering; row = entering.row }) ++ trade_line m t entering.row
+  pub stood : HasStanding m rs is words trade rested

@@ -19,7 +19,7 @@ use Rattle.trade_evidence.specs.declared.came.Came.TheVariants as came
 use Rattle.trade_evidence.specs.declared.evidence.EvidenceFault.{EvidenceFault}
 use Rattle.trade_evidence.specs.declared.evidence.EvidenceFault.TheVariants as fault
 use Rattle.trade_evidence.specs.declared.word.Word.{Word}
-use Rattle.trade_evidence.specs.Found.{HasRequest}
+use Rattle.trade_evidence.specs.Found.{HasOrders, HasRequest, HasRow}
 use Rattle.trade_evidence.specs.Lines.{evidence}
 use Rattle.trade_evidence.specs.Said.{came_in, words_of}
 use Rattle.trade_evidence.specs.Standing.{stood_at}
@@ -77,15 +77,17 @@ pub record AreOf (rs : List TrailRow) (items : List Input) : Type 0 where
   pub told : AreTold rs items
   pub of_run : (is : List Input) → rs ≡ rows is → AreFitting is → items ≡ is
 
--- A text is the evidence for the trade with this number in the run of the inputs that these rows tell; and where the trade came about in a
--- room its request is found.
+-- A text is the evidence for the trade with this number in the run of the inputs that these rows tell: the row at which it was made is found,
+-- where it came about in a room its request is, and where it did in the book both its orders are.
 pub record IsEvidence (m : Market) (rs : List TrailRow) (number : ℕ) (text : List ℕ) : Type 0 where
   pub items : List Input
   pub told : AreOf rs items
   pub trade : TradeFact
   pub numbered : trade_numbered (run m items).history number ≡ Some trade
   pub is : text ≡ evidence m (words_told m number rs items) trade
-  pub requested : (room : ℕ) → trade.room ≡ Some room → HasRequest (words_told m number rs items) room
+  pub made : HasRow m rs items (words_told m number rs items) number trade
+  pub requested : (room : ℕ) → trade.room ≡ Some room → HasRequest m rs items (words_told m number rs items) room
+  pub ordered : trade.room ≡ None → HasOrders m rs items (words_told m number rs items) number trade
 
 -- what was written is the evidence for this trade, and nothing else
 pub record TellsTrade (m : Market) (rs : List TrailRow) (number : ℕ) (before after : Option (List ℕ)) : Type 0 where

@@ -13,7 +13,9 @@ ghost use Rattle.trade_evidence.specs.declared.evidence.EvidenceFault.TheVariant
 use crate::book::append_book;
 use crate::finding::{Sought, row_of};
 use crate::gathering::gather;
-use crate::laws::each_room_trade_has_its_request;
+use crate::laws::{
+    each_book_trade_has_its_orders, each_room_trade_has_its_request, each_trade_has_its_row,
+};
 use crate::room::{append_room, append_row};
 use crate::word::Word;
 use instruments::Instruments;
@@ -142,6 +144,8 @@ fn evidence_in(
 {
     rows_tell_their_inputs();
     each_room_trade_has_its_request();
+    each_book_trade_has_its_orders();
+    each_trade_has_its_row();
     let words = gather(alloc, venue, rows, number)?;
     let Some(trade) = trade_numbered(venue, number) else {
         return Err(EvidenceFault::NoTrade);

@@ -15,4 +15,6 @@ mod standing;
 mod word;
 
 pub use evidence::{EvidenceFault, print_evidence};
-pub use laws::each_room_trade_has_its_request;
+pub use laws::{
+    each_book_trade_has_its_orders, each_room_trade_has_its_request, each_trade_has_its_row,
+};

@@ -15,7 +15,7 @@ returns-in_err-evidence_of-clause-refused c = memory_alone c.from_residual-in_er
 
 pub returns-clause-told : goal.returns-clause-told
 returns-clause-told c =
-    trade_told c.rows_tell_their_inputs.ensures c.each_room_trade_has_its_request.ensures c.args.venue.now.market c.args.rows.now c.gather.new.venue c.in_ok-words.words.items c.args.number c.in-Some.trade.now c.in_ok-evidence_of.field-0.items
+    trade_told c.rows_tell_their_inputs.ensures c.each_room_trade_has_its_request.ensures c.each_book_trade_has_its_orders.ensures c.each_trade_has_its_row.ensures c.args.venue.now.market c.args.rows.now c.gather.new.venue c.in_ok-words.words.items c.args.number c.in-Some.trade.now c.in_ok-evidence_of.field-0.items
     c.in_ok-words.ensures c.in-Some.ensures
     (c.in_ok-evidence_of.ensures
     ∙ (λ k. evidence (record { participants = c.participants.ensures k; instruments = c.instruments.ensures k }) (c.deref.ensures.value k) c.in-Some.trade.now))
