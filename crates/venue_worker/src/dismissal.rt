@@ -1,7 +1,10 @@
 //! How the sessions end where the trail takes no more rows.
 
-ghost use Rattle.std.specs.Prelude.{◌≡◌, ◌<◌, length};
+ghost use Rattle.std.specs.Prelude.{◌≡◌, ◌<◌, true, length, ℕ, slice_get, Some, []};
+ghost use Rattle.taken_and_owed.specs.declared.queue.Queue.{Queue};
 ghost use Rattle.venue_worker.specs.Calls.{IsSameElse};
+ghost use Rattle.venue_worker.specs.Turns.{AreServed};
+ghost use Rattle.venue_worker.specs.Dismissal.{AreSeenOff, AreLookedAt, CutsServed, SeesOff};
 
 use crate::clock::{Clock, tell};
 use crate::worker::Worker;
@@ -16,9 +19,11 @@ const PATIENCE: u64 = 30_000;
 impl<'a, K: Keep + Drop> Worker<'a, K> {
     /// Has the sessions end where the trail takes no more rows: each participant is given what it is owed, and is cut a while after. So
     /// many rounds are made at most, each behind an answer of the clock; fewer where each mark is in its seat, or where no session takes
-    /// anything for half a minute.
+    /// anything for half a minute. What a participant has not taken by then still waits for it.
     pub fn dismiss<C: Clock>(&mut self, clock: &mut C, rounds: u64)
         ensures only { IsSameElse self.old self.new }
+        ensures seen_off { AreSeenOff self.old self.new }
+        ensures served { 0 < rounds → AreServed self.old self.new }
     {
         let mut since = clock.now();
         for _ in 0..rounds {
@@ -44,6 +49,9 @@ impl<'a, K: Keep + Drop> Worker<'a, K> {
     // One delivery to each participant, who is first cut where it may be and nothing waits for it. Whether a message was handed over.
     fn see_all_off<C: Clock>(&mut self, clock: &mut C, may_cut: bool) -> bool
         ensures only { IsSameElse self.old self.new }
+        ensures seen_off { AreSeenOff self.old self.new }
+        ensures served { AreServed self.old self.new }
+        ensures looked { AreLookedAt self.old self.new }
     {
         let mut moved = false;
         let count = self.hands.len();
@@ -56,21 +64,31 @@ impl<'a, K: Keep + Drop> Worker<'a, K> {
     // A delivery to a participant, who is first cut where it may be and nothing waits for it.
     fn see_off<C: Clock>(&mut self, clock: &mut C, j: usize, may_cut: bool) -> bool
         requires named { j < length self.old.hands }
-        ensures only { IsSameElse self.old self.new }
+        ensures sees { SeesOff j self.old self.new }
     {
-        if may_cut && self.is_served(j) {
-            self.cut(j);
-        }
+        self.cut_served(j, may_cut);
         let delivered = self.deliver(j);
         tell(clock, j, delivered);
         delivered
     }
 
-    // Nothing waits for a participant.
-    fn is_served(&self, j: usize) -> bool
+    // A participant for whom nothing waits is cut, where it may be.
+    fn cut_served(&mut self, j: usize, may_cut: bool)
+        requires named { j < length self.old.hands }
+        ensures cuts { CutsServed self.old self.new j }
+    {
+        if !self.is_served(j, may_cut) {
+            return;
+        }
+        self.cut(j);
+    }
+
+    // Nothing waits for a participant, who may be cut.
+    fn is_served(&self, j: usize, may_cut: bool) -> bool
         requires named { j < length self.now.hands }
         ensures long { length self.now.ledger.queues ≡ length self.now.hands }
+        ensures served { (q : Queue) → slice_get self.now.ledger.queues j ≡ Some q → result ≡ true → q.waiting.items ≡ [] }
     {
-        self.desk.queues[j].waiting.is_empty()
+        self.desk.queues[j].waiting.is_empty() && may_cut
     }
 }
