@@ -3,7 +3,7 @@ use Rattle.std.specs.List.{remove, insert, list_any}
 use Rattle.std.specs.Option.{unwrap_or}
 use Rattle.std.specs.declared.cmp.Ordering.{Ordering}
 use Rattle.std.specs.declared.cmp.Ordering.TheVariants.{Less, Equal}
-use Rattle.std.specs.Ordering.{nat_cmp, ordering_index}
+use Rattle.std.specs.Ordering.{nat_cmp, ordering_then, ordering_index}
 use Rattle.std.proofs.lemmas.Bool.{cases_lt}
 use Rattle.std.proofs.lemmas.Bool.Decides.{nat_tests}
 use Rattle.std.proofs.lemmas.Cmp.{tied_itself}
@@ -13,64 +13,76 @@ use Rattle.std.proofs.Math.Seq.{get_or-append_seam}
 use Rattle.venue_rules.specs.Book.{Resting}
 use Rattle.sorted_names.specs.declared.names.Name.{Name}
 use Rattle.sorted_names.specs.Search.{AreRising, IsPlace}
-use Rattle.sorted_names.specs.Names.{is_of, name_at, name_cmp, name_order, place_cmp, lowered, closed, IsIndex, IsFirst}
+use Rattle.sorted_names.specs.Names.{is_of, mark_of, name_at, name_cmp, name_order, marked_order, spelled_order, place_cmp, lowered, closed, IsIndex, IsFirst}
 use Rattle.sorted_names.specs.Names.{answer_at as name_answer, answer_behind as name_behind}
 use Rattle.sorted_names.proofs.Ordered.{name_total, then-less, nat-less, rising-at, rising-behind, first-found, none-found}
 use Rattle.sorted_names.proofs.Inserted.{added}
 use Rattle.sorted_names.proofs.Closed.{less}
+use Rattle.venue_rules.specs.declared.facts.Entry.{Entry}
+use Rattle.price_book.specs.declared.name_key.NameKey.{NameKey}
 use Rattle.price_book.specs.declared.slot.Slot.{Slot}
 use Rattle.price_book.specs.Live.{is_live, seen_slot, reduced, entry_name, names_of, find_live, Ledger, IsPlaceOf}
-use Rattle.price_book.specs.Numbered.{numbered, slot_at, slot_order, IsNumbered, IsNamed, IsListed, IsAt, numbers_of, number_at, answer_at, answer_behind}
+use Rattle.price_book.specs.Numbered.{numbered, slot_at, slot_order, IsNumbered, IsNamed, IsListed, IsAt, number_at, key_of, no_key, keys_of, key_at, key_order, answer_at, answer_behind}
 use Rattle.price_book.proofs.SlotSteps.{map-remove}
 use Rattle.price_book.proofs.Current.{AreLive, first-current, none-current}
 use Rattle.price_book.proofs.Numbers.{number-one, number-read, numbered-at, mapped-reduced}
 
--- lists of numbers
+-- lists of keys
 
-get_or-mapped : (f : ℕ → ℕ) (xs : List ℕ) (i : ℕ) → i < length xs → get_or (map f xs) i 0 ≡ f (get_or xs i 0)
+get_or-mapped : (f : ℕ → NameKey) (xs : List ℕ) (i : ℕ) → i < length xs → get_or (map f xs) i no_key ≡ f (get_or xs i 0)
 get_or-mapped f [] i h = absurd (omega (arith, h))
 get_or-mapped f (x ∷ xs) zero h = refl
 get_or-mapped f (x ∷ xs) (suc i) h = get_or-mapped f xs i (omega (arith, h))
 
-map-within : (f g : ℕ → ℕ) (xs : List ℕ) → ((i : ℕ) → i < length xs → f (get_or xs i 0) ≡ g (get_or xs i 0)) → map f xs ≡ map g xs
+map-within : (f g : ℕ → NameKey) (xs : List ℕ) → ((i : ℕ) → i < length xs → f (get_or xs i 0) ≡ g (get_or xs i 0)) → map f xs ≡ map g xs
 map-within f g [] h = refl
 map-within f g (x ∷ xs) h = ap (λ y. y ∷ map f xs) (h 0 (omega arith)) ∙ ap (λ ys. g x ∷ ys) (map-within f g xs (λ i l. h (suc i) (omega (arith, l))))
 
-map-twice : (f g : ℕ → ℕ) (xs : List ℕ) → map f (map g xs) ≡ map (λ k. f (g k)) xs
+map-twice : (f : ℕ → NameKey) (g : ℕ → ℕ) (xs : List ℕ) → map f (map g xs) ≡ map (λ k. f (g k)) xs
 map-twice f g [] = refl
 map-twice f g (x ∷ xs) = ap (λ ys. f (g x) ∷ ys) (map-twice f g xs)
 
-map-insert : (f : ℕ → ℕ) (xs : List ℕ) (i x : ℕ) → map f (insert xs i x) ≡ insert (map f xs) i (f x)
+map-insert : (f : ℕ → NameKey) (xs : List ℕ) (i x : ℕ) → map f (insert xs i x) ≡ insert (map f xs) i (f x)
 map-insert f [] zero x = refl
 map-insert f [] (suc i) x = refl
 map-insert f (y ∷ ys) zero x = refl
 map-insert f (y ∷ ys) (suc i) x = ap (λ zs. f y ∷ zs) (map-insert f ys i x)
 
--- the count of names, of numbers and of orders is one
+-- the count of names, of keys and of orders is one
 
 names-count : (rs : List Resting) → length (names_of rs) ≡ length rs
 names-count rs = length-map rs (λ (r : Resting). entry_name r.entry)
 
-numbers-count : (rs : List Resting) → length (numbers_of rs) ≡ length rs
-numbers-count rs = length-map rs (λ (r : Resting). r.entry.number)
+keys-count : (rs : List Resting) → length (keys_of rs) ≡ length rs
+keys-count rs = length-map rs (λ (r : Resting). key_of r.entry)
 
-index-count : (rs : List Resting) (ns : List ℕ) (n : IsNamed rs ns) → length ns ≡ length n.index
-index-count rs ns n = ap length n.numbers ∙ length-map n.index (number_at rs)
+index-count : (rs : List Resting) (ks : List NameKey) (n : IsNamed rs ks) → length ks ≡ length n.index
+index-count rs ks n = ap length n.keys ∙ length-map n.index (key_at rs)
 
-pub named-count : (rs : List Resting) (ns : List ℕ) → IsNamed rs ns → length ns ≡ length rs
-named-count rs ns n = index-count rs ns n ∙ n.is.count ∙ names-count rs
+pub named-count : (rs : List Resting) (ks : List NameKey) → IsNamed rs ks → length ks ≡ length rs
+named-count rs ks n = index-count rs ks n ∙ n.is.count ∙ names-count rs
 
-number-there : (rs : List Resting) (ns : List ℕ) (n : IsNamed rs ns) (k : ℕ) → k < length n.index → get_or ns k 0 ≡ number_at rs (get_or n.index k 0)
-number-there rs ns n k h = ap (λ xs. get_or xs k 0) n.numbers ∙ get_or-mapped (number_at rs) n.index k h
+key-there : (rs : List Resting) (ks : List NameKey) (n : IsNamed rs ks) (k : ℕ) → k < length n.index → get_or ks k no_key ≡ key_at rs (get_or n.index k 0)
+key-there rs ks n k h = ap (λ xs. get_or xs k no_key) n.keys ∙ get_or-mapped (key_at rs) n.index k h
 
-within : (rs : List Resting) (ns : List ℕ) (n : IsNamed rs ns) (k : ℕ) → k < length n.index → get_or n.index k 0 < length rs
-within rs ns n k h = omega (arith, n.is.within k h, names-count rs)
+key-number : (rs : List Resting) (k : ℕ) → k < length rs → (key_at rs k).number ≡ number_at rs k
+key-number [] k h = absurd (omega (arith, h))
+key-number (r ∷ rs) zero h = refl
+key-number (r ∷ rs) (suc k) h = key-number rs k (omega (arith, h))
 
--- a search by numbers is one by names
+key-read : (rs : List Resting) (j : ℕ) (d : Resting) → j < length rs → key_at rs j ≡ key_of (get_or rs j d).entry
+key-read [] j d h = absurd (omega (arith, h))
+key-read (r ∷ rs) zero d h = refl
+key-read (r ∷ rs) (suc j) d h = key-read rs j d (omega (arith, h))
 
-order-seen : (o : Option Slot) (r : Resting) (who : ℕ) (id : List ℕ) → option_map seen_slot o ≡ Some r → slot_order o who id ≡ name_order (entry_name r.entry) who id
+within : (rs : List Resting) (ks : List NameKey) (n : IsNamed rs ks) (k : ℕ) → k < length n.index → get_or n.index k 0 < length rs
+within rs ks n k h = omega (arith, n.is.within k h, names-count rs)
+
+-- a search by keys is one by names
+
+order-seen : (o : Option Slot) (r : Resting) (who : ℕ) (id : List ℕ) → option_map seen_slot o ≡ Some r → slot_order o who id ≡ spelled_order (entry_name r.entry) who id
 order-seen None r who id h = cc
-order-seen (Some s) r who id h = ap (λ (t : Resting). name_order (entry_name t.entry) who id) (ap (λ o. unwrap_or o (seen_slot s)) h)
+order-seen (Some s) r who id h = ap (λ (t : Resting). spelled_order (entry_name t.entry) who id) (ap (λ o. unwrap_or o (seen_slot s)) h)
 
 name-read : (rs : List Resting) (j : ℕ) (d : Resting) → j < length rs → entry_name (get_or rs j d).entry ≡ name_at (names_of rs) j
 name-read [] j d h = absurd (omega (arith, h))
@@ -81,15 +93,18 @@ some-order : (rs : List Resting) (j : ℕ) → j < length rs → Resting
 some-order [] j h = absurd (omega (arith, h))
 some-order (r ∷ rs) j h = r
 
-answer-same : (rs : List Resting) (es : List (ℕ × Slot)) (ns : List ℕ) (l : IsListed rs es ns) (who : ℕ) (id : List ℕ) (k : ℕ) → k < length ns → answer_at es ns who id k ≡ name_answer (names_of rs) l.named.index who id k
-answer-same rs es ns l who id k h =
-    let in-index : k < length l.named.index = omega (arith, h, index-count rs ns l.named) in
+answer-same : (rs : List Resting) (es : List (ℕ × Slot)) (ks : List NameKey) (l : IsListed rs es ks) (who : ℕ) (id : List ℕ) (k : ℕ) → k < length ks → answer_at es ks (mark_of who id) who id k ≡ name_answer (names_of rs) l.named.index who id k
+answer-same rs es ks l who id k h =
+    let in-index : k < length l.named.index = omega (arith, h, index-count rs ks l.named) in
     let j = get_or l.named.index k 0 in
-    let below : j < length rs = within rs ns l.named k in-index in
+    let below : j < length rs = within rs ks l.named k in-index in
     let d = some-order rs j below in
-    ap (λ n. slot_order (slot_at es n) who id) (number-there rs ns l.named k in-index)
-    ∙ order-seen (slot_at es (number_at rs j)) (get_or rs j d) who id (l.slots (number_at rs j) ∙ numbered-at 0 rs j d l.ledger below)
-    ∙ ap (λ n. name_order n who id) (name-read rs j d below)
+    let e : Entry = (get_or rs j d).entry in
+    let m = mark_of who id in
+    let slot : option_map seen_slot (slot_at es e.number) ≡ Some (get_or rs j d) = l.slots e.number ∙ ap (λ n. numbered n rs) (sym (number-read rs j d below)) ∙ numbered-at 0 rs j d l.ledger below in
+    ap (λ (key : NameKey). key_order es key m who id) (key-there rs ks l.named k in-index ∙ key-read rs j d below)
+    ∙ ap (λ o. ordering_then (nat_cmp (mark_of e.order.who e.order.id) m) o) (order-seen (slot_at es e.number) (get_or rs j d) who id slot)
+    ∙ ap (λ n. marked_order n m who id) (name-read rs j d below)
 
 rising-same : (a b : ℕ → Ordering) (n m : ℕ) → n ≡ m → ((k : ℕ) → k < n → a k ≡ b k) → AreRising b m → AreRising a n
 rising-same a b n m e same r i j h l = omega (arith, ap ordering_index (same i (omega (arith, h, l))), ap ordering_index (same j l), r i j h (omega (arith, e, l)))
@@ -103,11 +118,11 @@ place-same a b n m place found e same p = record {
   nowhere = λ f k h l. omega (arith, p.nowhere f k h (omega (arith, l, e)), ap ordering_index (same k (omega (arith, l, e))));
 }
 
-pub listed-rising : (rs : List Resting) (es : List (ℕ × Slot)) (ns : List ℕ) (who : ℕ) (id : List ℕ) → IsListed rs es ns → AreRising (answer_at es ns who id) (length ns)
-listed-rising rs es ns who id l = rising-same (answer_at es ns who id) (name_answer (names_of rs) l.named.index who id) (length ns) (length l.named.index) (index-count rs ns l.named) (answer-same rs es ns l who id) (rising-at (names_of rs) l.named.index who id l.named.is)
+pub listed-rising : (rs : List Resting) (es : List (ℕ × Slot)) (ks : List NameKey) (who : ℕ) (id : List ℕ) → IsListed rs es ks → AreRising (answer_at es ks (mark_of who id) who id) (length ks)
+listed-rising rs es ks who id l = rising-same (answer_at es ks (mark_of who id) who id) (name_answer (names_of rs) l.named.index who id) (length ks) (length l.named.index) (index-count rs ks l.named) (answer-same rs es ks l who id) (rising-at (names_of rs) l.named.index who id l.named.is)
 
-pub behind-rising : (rs : List Resting) (es : List (ℕ × Slot)) (ns : List ℕ) (who : ℕ) (id : List ℕ) → IsListed rs es ns → AreRising (answer_behind es ns who id) (length ns)
-behind-rising rs es ns who id l = rising-same (answer_behind es ns who id) (name_behind (names_of rs) l.named.index who id) (length ns) (length l.named.index) (index-count rs ns l.named) (λ k h. ap lowered (answer-same rs es ns l who id k h)) (rising-behind (names_of rs) l.named.index who id l.named.is)
+pub behind-rising : (rs : List Resting) (es : List (ℕ × Slot)) (ks : List NameKey) (who : ℕ) (id : List ℕ) → IsListed rs es ks → AreRising (answer_behind es ks (mark_of who id) who id) (length ks)
+behind-rising rs es ks who id l = rising-same (answer_behind es ks (mark_of who id) who id) (name_behind (names_of rs) l.named.index who id) (length ks) (length l.named.index) (index-count rs ks l.named) (λ k h. ap lowered (answer-same rs es ks l who id k h)) (rising-behind (names_of rs) l.named.index who id l.named.is)
 
 -- the first order of a name
 
@@ -115,19 +130,19 @@ ledger-alive : (low : ℕ) (rs : List Resting) → Ledger low rs → AreLive rs
 ledger-alive low [] l = tt
 ledger-alive low (r ∷ rs) l = (l.1, ledger-alive r.entry.number rs l.2)
 
-pub listed-found : (rs : List Resting) (es : List (ℕ × Slot)) (ns : List ℕ) (who : ℕ) (id : List ℕ) (at : ℕ) → IsListed rs es ns → IsPlace (answer_at es ns who id) (length ns) at true → option_map seen_slot (slot_at es (get_or ns at 0)) ≡ find_live who id rs
-listed-found rs es ns who id at l p =
-    let q : IsPlace (name_answer (names_of rs) l.named.index who id) (length l.named.index) at true = place-same (answer_at es ns who id) (name_answer (names_of rs) l.named.index who id) (length ns) (length l.named.index) at true (index-count rs ns l.named) (answer-same rs es ns l who id) p in
+pub listed-found : (rs : List Resting) (es : List (ℕ × Slot)) (ks : List NameKey) (who : ℕ) (id : List ℕ) (at : ℕ) → IsListed rs es ks → IsPlace (answer_at es ks (mark_of who id) who id) (length ks) at true → option_map seen_slot (slot_at es (get_or ks at no_key).number) ≡ find_live who id rs
+listed-found rs es ks who id at l p =
+    let q : IsPlace (name_answer (names_of rs) l.named.index who id) (length l.named.index) at true = place-same (answer_at es ks (mark_of who id) who id) (name_answer (names_of rs) l.named.index who id) (length ks) (length l.named.index) at true (index-count rs ks l.named) (answer-same rs es ks l who id) p in
     let first : IsFirst (names_of rs) who id (Some (get_or l.named.index at 0)) = first-found (names_of rs) l.named.index who id at l.named.is q in
     let j = get_or l.named.index at 0 in
-    let below : j < length rs = within rs ns l.named at (q.here refl).0 in
+    let below : j < length rs = within rs ks l.named at (q.here refl).0 in
     let d = some-order rs j below in
-    ap (λ n. option_map seen_slot (slot_at es n)) (number-there rs ns l.named at (q.here refl).0) ∙ l.slots (number_at rs j) ∙ numbered-at 0 rs j d l.ledger below
+    ap (λ n. option_map seen_slot (slot_at es n)) (ap (λ (key : NameKey). key.number) (key-there rs ks l.named at (q.here refl).0) ∙ key-number rs j below) ∙ l.slots (number_at rs j) ∙ numbered-at 0 rs j d l.ledger below
     ∙ sym (first-current who id rs j d (ledger-alive 0 rs l.ledger) below first.1 first.2)
 
-pub listed-none : (rs : List Resting) (es : List (ℕ × Slot)) (ns : List ℕ) (who : ℕ) (id : List ℕ) (at : ℕ) → IsListed rs es ns → IsPlace (answer_at es ns who id) (length ns) at false → find_live who id rs ≡ None
-listed-none rs es ns who id at l p =
-    let q : IsPlace (name_answer (names_of rs) l.named.index who id) (length l.named.index) at false = place-same (answer_at es ns who id) (name_answer (names_of rs) l.named.index who id) (length ns) (length l.named.index) at false (index-count rs ns l.named) (answer-same rs es ns l who id) p in
+pub listed-none : (rs : List Resting) (es : List (ℕ × Slot)) (ks : List NameKey) (who : ℕ) (id : List ℕ) (at : ℕ) → IsListed rs es ks → IsPlace (answer_at es ks (mark_of who id) who id) (length ks) at false → find_live who id rs ≡ None
+listed-none rs es ks who id at l p =
+    let q : IsPlace (name_answer (names_of rs) l.named.index who id) (length l.named.index) at false = place-same (answer_at es ks (mark_of who id) who id) (name_answer (names_of rs) l.named.index who id) (length ks) (length l.named.index) at false (index-count rs ks l.named) (answer-same rs es ks l who id) p in
     none-current who id rs (ledger-alive 0 rs l.ledger) (none-found (names_of rs) l.named.index who id at l.named.is q)
 
 -- an order more
@@ -135,21 +150,21 @@ listed-none rs es ns who id at l p =
 mapped-push : (rs : List Resting) (r : Resting) → names_of (rs ++ r ∷ []) ≡ names_of rs ++ entry_name r.entry ∷ []
 mapped-push rs r = map-append (λ (t : Resting). entry_name t.entry) rs (r ∷ [])
 
-numbers-push : (rs : List Resting) (r : Resting) → numbers_of (rs ++ r ∷ []) ≡ numbers_of rs ++ r.entry.number ∷ []
-numbers-push rs r = map-append (λ (t : Resting). t.entry.number) rs (r ∷ [])
+keys-push : (rs : List Resting) (r : Resting) → keys_of (rs ++ r ∷ []) ≡ keys_of rs ++ key_of r.entry ∷ []
+keys-push rs r = map-append (λ (t : Resting). key_of t.entry) rs (r ∷ [])
 
-pub named-pushed : (rs : List Resting) (es : List (ℕ × Slot)) (ns : List ℕ) (r : Resting) (at : ℕ) (found : Bool) → IsListed rs es ns → length ns < 2 ^ 32 → IsPlace (answer_behind es ns (entry_name r.entry).who (entry_name r.entry).id) (length ns) at found → IsNamed (rs ++ r ∷ []) (insert ns at r.entry.number)
-named-pushed rs es ns r at found l few p =
+pub named-pushed : (rs : List Resting) (es : List (ℕ × Slot)) (ks : List NameKey) (r : Resting) (at : ℕ) (found : Bool) → IsListed rs es ks → length ks < 2 ^ 32 → IsPlace (answer_behind es ks (mark_of (entry_name r.entry).who (entry_name r.entry).id) (entry_name r.entry).who (entry_name r.entry).id) (length ks) at found → IsNamed (rs ++ r ∷ []) (insert ks at (key_of r.entry))
+named-pushed rs es ks r at found l few p =
     let n : Name = entry_name r.entry in
     let index = l.named.index in
-    let q : IsPlace (name_behind (names_of rs) index n.who n.id) (length index) at found = place-same (answer_behind es ns n.who n.id) (name_behind (names_of rs) index n.who n.id) (length ns) (length index) at found (index-count rs ns l.named) (λ k h. ap lowered (answer-same rs es ns l n.who n.id k h)) p in
-    let is : IsIndex (names_of rs ++ n ∷ []) (insert index at (length (names_of rs))) = added (names_of rs) index n at found l.named.is q (omega (arith, few, named-count rs ns l.named, names-count rs)) in
-    let last : number_at (rs ++ r ∷ []) (length (names_of rs)) ≡ r.entry.number = ap (λ xs. get_or xs (length (names_of rs)) 0) (numbers-push rs r) ∙ ap (λ k. get_or (numbers_of rs ++ r.entry.number ∷ []) k 0) (names-count rs ∙ sym (numbers-count rs)) ∙ get_or-append_seam (numbers_of rs) r.entry.number [] 0 in
-    let before : map (number_at rs) index ≡ map (number_at (rs ++ r ∷ [])) index = map-within (number_at rs) (number_at (rs ++ r ∷ [])) index (λ i h. sym (ap (λ xs. get_or xs (get_or index i 0) 0) (numbers-push rs r) ∙ get_or_append_left (numbers_of rs) (r.entry.number ∷ []) 0 (get_or index i 0) (omega (arith, within rs ns l.named i h, numbers-count rs)))) in
+    let q : IsPlace (name_behind (names_of rs) index n.who n.id) (length index) at found = place-same (answer_behind es ks (mark_of n.who n.id) n.who n.id) (name_behind (names_of rs) index n.who n.id) (length ks) (length index) at found (index-count rs ks l.named) (λ k h. ap lowered (answer-same rs es ks l n.who n.id k h)) p in
+    let is : IsIndex (names_of rs ++ n ∷ []) (insert index at (length (names_of rs))) = added (names_of rs) index n at found l.named.is q (omega (arith, few, named-count rs ks l.named, names-count rs)) in
+    let last : key_at (rs ++ r ∷ []) (length (names_of rs)) ≡ key_of r.entry = ap (λ xs. get_or xs (length (names_of rs)) no_key) (keys-push rs r) ∙ ap (λ k. get_or (keys_of rs ++ key_of r.entry ∷ []) k no_key) (names-count rs ∙ sym (keys-count rs)) ∙ get_or-append_seam (keys_of rs) (key_of r.entry) [] no_key in
+    let before : map (key_at rs) index ≡ map (key_at (rs ++ r ∷ [])) index = map-within (key_at rs) (key_at (rs ++ r ∷ [])) index (λ i h. sym (ap (λ xs. get_or xs (get_or index i 0) no_key) (keys-push rs r) ∙ get_or_append_left (keys_of rs) (key_of r.entry ∷ []) no_key (get_or index i 0) (omega (arith, within rs ks l.named i h, keys-count rs)))) in
     record {
       index = insert index at (length (names_of rs));
       is = rw (mapped-push rs r) is;
-      numbers = ap (λ xs. insert xs at r.entry.number) (l.named.numbers ∙ before) ∙ ap (λ y. insert (map (number_at (rs ++ r ∷ [])) index) at y) (sym last) ∙ sym (map-insert (number_at (rs ++ r ∷ [])) index at (length (names_of rs)));
+      keys = ap (λ xs. insert xs at (key_of r.entry)) (l.named.keys ∙ before) ∙ ap (λ y. insert (map (key_at (rs ++ r ∷ [])) index) at y) (sym last) ∙ sym (map-insert (key_at (rs ++ r ∷ [])) index at (length (names_of rs)));
     }
 
 -- an order less
@@ -167,28 +182,28 @@ lt : (a b : ℕ) (c : Bool) → nat_lt a b ≡ c → (c ≡ true → a < b) × (
 lt a b true e = ((λ h. grind (arith, nat_tests)), (λ h. cc))
 lt a b false e = ((λ h. cc), (λ h. grind (arith, nat_tests)))
 
--- a number that stays is at the closed place
-number-kept : (rs : List Resting) (g k : ℕ) → g < length rs → k < length rs → (k ≡ g → ⊥) → number_at (remove rs g) (closed g k) ≡ number_at rs k
-number-kept rs g k h l other = ap (λ xs. get_or xs (closed g k) 0) (sym (map-remove (λ (r : Resting). r.entry.number) rs g)) ∙ by (nat_lt g k) refl
+-- a key that stays is at the closed place
+key-kept : (rs : List Resting) (g k : ℕ) → g < length rs → k < length rs → (k ≡ g → ⊥) → key_at (remove rs g) (closed g k) ≡ key_at rs k
+key-kept rs g k h l other = ap (λ xs. get_or xs (closed g k) no_key) (sym (map-remove (λ (r : Resting). key_of r.entry) rs g)) ∙ by (nat_lt g k) refl
   where
-    ks : List ℕ
-    ks = numbers_of rs
+    ks : List NameKey
+    ks = keys_of rs
 
-    by : (b : Bool) → nat_lt g k ≡ b → get_or (remove ks g) (if b then k - 1 else k) 0 ≡ get_or ks k 0
+    by : (b : Bool) → nat_lt g k ≡ b → get_or (remove ks g) (if b then k - 1 else k) no_key ≡ get_or ks k no_key
     by true e =
         let more : g < k = (lt g k true e).0 refl in
         let next : k - 1 + 1 ≡ k = omega (arith, more) in
-        get_or-remove_above ks g 0 (k - 1) (omega (arith, more)) (omega (arith, h, numbers-count rs)) ∙ ap (λ m. get_or ks m 0) next
+        get_or-remove_above ks g no_key (k - 1) (omega (arith, more)) (omega (arith, h, keys-count rs)) ∙ ap (λ m. get_or ks m no_key) next
     by false e =
         let no_more : k ≤ g = (lt g k false e).1 refl in
         let fewer : k < g = elim (cases_lt k g) [ inl y ↦ y | inr z ↦ absurd (other (omega (arith, z, no_more))) ] in
-        get_or-remove_below ks g 0 k fewer (omega (arith, h, numbers-count rs))
+        get_or-remove_below ks g no_key k fewer (omega (arith, h, keys-count rs))
 
-pub named-removed : (rs : List Resting) (ns : List ℕ) (k at : ℕ) → Ledger 0 rs → IsNamed rs ns → k < length rs → at < length ns → get_or ns at 0 ≡ number_at rs k → IsNamed (remove rs k) (remove ns at)
-named-removed rs ns k at l n below there same =
+pub named-removed : (rs : List Resting) (ks : List NameKey) (k at : ℕ) → Ledger 0 rs → IsNamed rs ks → k < length rs → at < length ks → (get_or ks at no_key).number ≡ number_at rs k → IsNamed (remove rs k) (remove ks at)
+named-removed rs ks k at l n below there same =
     let index = n.index in
-    let at-index : at < length index = omega (arith, there, index-count rs ns n) in
-    let here : get_or index at 0 ≡ k = number-one 0 rs (get_or index at 0) k l (within rs ns n at at-index) below (sym (number-there rs ns n at at-index) ∙ same) in
+    let at-index : at < length index = omega (arith, there, index-count rs ks n) in
+    let here : get_or index at 0 ≡ k = number-one 0 rs (get_or index at 0) k l (within rs ks n at at-index) below (sym (key-number rs (get_or index at 0) (within rs ks n at at-index)) ∙ ap (λ (key : NameKey). key.number) (sym (key-there rs ks n at at-index)) ∙ same) in
     let is : IsIndex (remove (names_of rs) k) (map (closed k) (remove index at)) = less (names_of rs) index at k n.is at-index here in
     let other : (i j : ℕ) → i < length index → (i ≡ at → ⊥) → get_or index i 0 ≡ k → ⊥ = λ i j h off e. elim (cases_lt i at) [
       | inl y ↦ differ (names_of rs) index i at n.is y at-index (e ∙ sym here)
@@ -198,35 +213,35 @@ named-removed rs ns k at l n below there same =
       ]
     ] in
     let fewer = length-remove index at at-index in
-    let stays : (i : ℕ) → i < length (remove index at) → number_at rs (get_or (remove index at) i 0) ≡ number_at (remove rs k) (closed k (get_or (remove index at) i 0)) = λ i h. elim (cases_lt i at) [
+    let stays : (i : ℕ) → i < length (remove index at) → key_at rs (get_or (remove index at) i 0) ≡ key_at (remove rs k) (closed k (get_or (remove index at) i 0)) = λ i h. elim (cases_lt i at) [
       | inl y ↦ let read = get_or-remove_below index at 0 i y at-index in
-          rw read (sym (number-kept rs k (get_or index i 0) below (within rs ns n i (omega (arith, y, at-index))) (other i 0 (omega (arith, y, at-index)) (λ e. omega (arith, e, y)))))
+          rw read (sym (key-kept rs k (get_or index i 0) below (within rs ks n i (omega (arith, y, at-index))) (other i 0 (omega (arith, y, at-index)) (λ e. omega (arith, e, y)))))
       | inr z ↦ let read = get_or-remove_above index at 0 i z at-index in
-          rw read (sym (number-kept rs k (get_or index (i + 1) 0) below (within rs ns n (i + 1) (omega (arith, h, fewer))) (other (i + 1) 0 (omega (arith, h, fewer)) (λ e. omega (arith, e, z)))))
+          rw read (sym (key-kept rs k (get_or index (i + 1) 0) below (within rs ks n (i + 1) (omega (arith, h, fewer))) (other (i + 1) 0 (omega (arith, h, fewer)) (λ e. omega (arith, e, z)))))
     ] in
     record {
       index = map (closed k) (remove index at);
       is = rw (sym (map-remove (λ (r : Resting). entry_name r.entry) rs k)) is;
-      numbers = ap (λ xs. remove xs at) n.numbers ∙ map-remove (number_at rs) index at ∙ map-within (number_at rs) (λ j. number_at (remove rs k) (closed k j)) (remove index at) stays ∙ sym (map-twice (number_at (remove rs k)) (closed k) (remove index at));
+      keys = ap (λ xs. remove xs at) n.keys ∙ map-remove (key_at rs) index at ∙ map-within (key_at rs) (λ j. key_at (remove rs k) (closed k j)) (remove index at) stays ∙ sym (map-twice (key_at (remove rs k)) (closed k) (remove index at));
     }
 
--- where the number of an order stands
-pub named-there : (rs : List Resting) (es : List (ℕ × Slot)) (ns : List ℕ) (n : Name) (from k : ℕ) (found : Bool) → IsListed rs es ns → IsPlace (answer_at es ns n.who n.id) (length ns) from found → k < length rs → name_at (names_of rs) k ≡ n → (i : ℕ) × (from ≤ i) × (i < length ns) × (get_or ns i 0 ≡ number_at rs k)
-named-there rs es ns n from k found l p h name =
+-- where the key of an order stands
+pub named-there : (rs : List Resting) (es : List (ℕ × Slot)) (ks : List NameKey) (n : Name) (from k : ℕ) (found : Bool) → IsListed rs es ks → IsPlace (answer_at es ks (mark_of n.who n.id) n.who n.id) (length ks) from found → k < length rs → name_at (names_of rs) k ≡ n → (i : ℕ) × (from ≤ i) × (i < length ks) × ((get_or ks i no_key).number ≡ number_at rs k)
+named-there rs es ks n from k found l p h name =
     let c = l.named.is.covers k (omega (arith, h, names-count rs)) in
-    let in-ns : c.0 < length ns = omega (arith, c.1, index-count rs ns l.named) in
-    let equal : ordering_index (answer_at es ns n.who n.id c.0) ≡ 1 = ap ordering_index (answer-same rs es ns l n.who n.id c.0 in-ns ∙ ap (λ j. name_order (name_at (names_of rs) j) n.who n.id) c.2 ∙ ap (λ m. name_order m n.who n.id) name ∙ tied_itself name_total n) in
+    let in-ks : c.0 < length ks = omega (arith, c.1, index-count rs ks l.named) in
+    let equal : ordering_index (answer_at es ks (mark_of n.who n.id) n.who n.id c.0) ≡ 1 = ap ordering_index (answer-same rs es ks l n.who n.id c.0 in-ks ∙ ap (λ j. name_order (name_at (names_of rs) j) n.who n.id) c.2 ∙ ap (λ m. name_order m n.who n.id) name ∙ tied_itself name_total n) in
     let behind : from ≤ c.0 = elim (cases_lt c.0 from) [ inl y ↦ absurd (omega (arith, equal, p.below c.0 y)) | inr z ↦ z ] in
-    (c.0, behind, in-ns, number-there rs ns l.named c.0 c.1 ∙ ap (number_at rs) c.2)
+    (c.0, behind, in-ks, ap (λ (key : NameKey). key.number) (key-there rs ks l.named c.0 c.1) ∙ key-number rs (get_or l.named.index c.0 0) (within rs ks l.named c.0 c.1) ∙ ap (number_at rs) c.2)
 
 -- the place of an order has its name and its number
 pub place-at : (n : ℕ) (rs : List Resting) (k : ℕ) (r : Resting) → IsPlaceOf n rs k → r ≡ get_or rs k r → IsAt rs (entry_name r.entry) n k
 place-at n rs k r p e = (p.0, sym (name-read rs k r p.0) ∙ ap (λ (t : Resting). entry_name t.entry) (sym e), number-read rs k r p.0 ∙ p.1 r)
 
 -- some of an order is left
-pub named-reduced : (n q : ℕ) (rs : List Resting) (r : Resting) (ns : List ℕ) → numbered n rs ≡ Some r → q < r.left → IsNamed rs ns → IsNamed (reduced n q rs) ns
-named-reduced n q rs r ns some more named = record {
+pub named-reduced : (n q : ℕ) (rs : List Resting) (r : Resting) (ks : List NameKey) → numbered n rs ≡ Some r → q < r.left → IsNamed rs ks → IsNamed (reduced n q rs) ks
+named-reduced n q rs r ks some more named = record {
   index = named.index;
   is = rw (sym (mapped-reduced entry_name n q rs r some more)) named.is;
-  numbers = named.numbers ∙ ap (λ xs. map (λ k. get_or xs k 0) named.index) (mapped-reduced (λ e. e.number) n q rs r some more);
+  keys = named.keys ∙ ap (λ xs. map (λ k. get_or xs k no_key) named.index) (mapped-reduced key_of n q rs r some more);
 }

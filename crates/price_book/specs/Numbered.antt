@@ -1,10 +1,13 @@
-use Rattle.std.specs.Prelude.{◌≡◌, ℕ, ◌<◌, ◌==◌, nat_eq, List, map, length, get_or, find, All, Option, Some, None, option_map, MatchOption}
+use Rattle.std.specs.Prelude.{◌≡◌, ℕ, ◌<◌, ◌==◌, nat_eq, List, map, length, get_or, slice_index_or, find, All, Option, Some, None, option_map, MatchOption}
 use Rattle.std.specs.Map.{lookup}
 use Rattle.std.specs.declared.cmp.Ordering.{Ordering}
 use Rattle.std.specs.declared.cmp.Ordering.TheVariants.{Less}
 use Rattle.sorted_names.specs.declared.names.Name.{Name}
-use Rattle.sorted_names.specs.Names.{name_order, name_at, lowered, IsIndex}
+use Rattle.std.specs.Ordering.{nat_cmp, ordering_then}
+use Rattle.sorted_names.specs.Names.{mark_of, spelled_order, name_at, lowered, IsIndex}
+use Rattle.venue_rules.specs.declared.facts.Entry.{Entry}
 use Rattle.venue_rules.specs.Book.{Resting}
+use Rattle.price_book.specs.declared.name_key.NameKey.{NameKey}
 use Rattle.price_book.specs.declared.slot.Slot.{Slot}
 use Rattle.price_book.specs.Live.{seen_slot, entry_name, names_of, Ledger}
 
@@ -31,34 +34,49 @@ numbers_of rs = map (λ (r : Resting). r.entry.number) rs
 abbrev pub number_at : List Resting → ℕ → ℕ
 number_at rs k = get_or (numbers_of rs) k 0
 
--- the numbers of orders in the order of their names, and of one name in the order of their entry
-pub record IsNamed (rs : List Resting) (ns : List ℕ) : Type 0 where
+-- an order's key: the mark of its name, and its number
+abbrev pub key_of : Entry → NameKey
+key_of e = record { mark = mark_of e.order.who e.order.id; number = e.number }
+
+abbrev pub no_key : NameKey
+no_key = record { mark = 0; number = 0 }
+
+-- the keys of orders, in the order of their entry
+abbrev pub keys_of : List Resting → List NameKey
+keys_of rs = map (λ (r : Resting). key_of r.entry) rs
+
+abbrev pub key_at : List Resting → ℕ → NameKey
+key_at rs k = get_or (keys_of rs) k no_key
+
+-- the keys of orders in the order of their names, and of one name in the order of their entry
+pub record IsNamed (rs : List Resting) (ks : List NameKey) : Type 0 where
   pub index : List ℕ
   pub is : IsIndex (names_of rs) index
-  pub numbers : ns ≡ map (number_at rs) index
+  pub keys : ks ≡ map (key_at rs) index
 
--- how the name of an order compares with a participant's identifier
+-- how the name of an order compares with a participant's identifier of the same mark
 
 abbrev pub slot_order : Option Slot → ℕ → List ℕ → Ordering
 slot_order None who id = Less
-slot_order (Some s) who id = name_order (entry_name s.entry) who id
+slot_order (Some s) who id = spelled_order (entry_name s.entry) who id
 
-abbrev pub number_order : List (ℕ × Slot) → ℕ → ℕ → List ℕ → Ordering
-number_order es number who id = slot_order (slot_at es number) who id
+-- how the name of a key's order compares with a participant's identifier of the mark m: the order decides only where the marks do not
+abbrev pub key_order : List (ℕ × Slot) → NameKey → ℕ → ℕ → List ℕ → Ordering
+key_order es key m who id = ordering_then (nat_cmp key.mark m) (slot_order (slot_at es key.number) who id)
 
--- how the name of the k-th number compares with it
-abbrev pub answer_at : List (ℕ × Slot) → List ℕ → ℕ → List ℕ → ℕ → Ordering
-answer_at es numbers who id k = number_order es (get_or numbers k 0) who id
+-- how that of the k-th key compares with it
+abbrev pub answer_at : List (ℕ × Slot) → List NameKey → ℕ → ℕ → List ℕ → ℕ → Ordering
+answer_at es keys m who id k = key_order es (slice_index_or keys k no_key) m who id
 
 -- the same, where the name itself counts as lesser
-abbrev pub answer_behind : List (ℕ × Slot) → List ℕ → ℕ → List ℕ → ℕ → Ordering
-answer_behind es numbers who id k = lowered (answer_at es numbers who id k)
+abbrev pub answer_behind : List (ℕ × Slot) → List NameKey → ℕ → ℕ → List ℕ → ℕ → Ordering
+answer_behind es keys m who id k = lowered (answer_at es keys m who id k)
 
 -- orders that rest, by number and by name
-pub record IsListed (rs : List Resting) (es : List (ℕ × Slot)) (ns : List ℕ) : Type 0 where
+pub record IsListed (rs : List Resting) (es : List (ℕ × Slot)) (ks : List NameKey) : Type 0 where
   pub ledger : Ledger 0 rs
   pub slots : IsNumbered rs es
-  pub named : IsNamed rs ns
+  pub named : IsNamed rs ks
 
 -- an order of this name and number stands at a place
 abbrev pub IsAt : List Resting → Name → ℕ → ℕ → Type 0

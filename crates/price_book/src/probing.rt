@@ -1,9 +1,10 @@
-//! The numbers of orders, in the order of their names, as a search looks at them.
+//! The keys of orders, in the order of their names, as a search looks at them.
 ghost use Rattle.std.specs.Prelude.{◌≡◌, ℕ, ◌<◌, List, length};
-ghost use Rattle.sorted_names.specs.Names.{name_order, lowered};
+ghost use Rattle.sorted_names.specs.Names.{spelled_order, lowered};
 ghost use Rattle.price_book.specs.Live.{entry_name};
-ghost use Rattle.price_book.specs.Numbered.{number_order, answer_at, answer_behind};
+ghost use Rattle.price_book.specs.Numbered.{slot_at, slot_order, key_order, answer_at, answer_behind};
 
+use crate::name_key::NameKey;
 use crate::numbered::Numbered;
 use fix_dictionary::Identifier;
 use participants::Who;
@@ -11,9 +12,9 @@ use sorted_names::Probe;
 use std::cmp::Ordering;
 use venue_rules::Entry;
 
-// How the name of an order compares with a participant's identifier: by participant, then by the bytes.
-fn compare_name(entry: &Entry, who: Who, id: &Identifier) -> Ordering
-    ensures { result ≡ name_order (entry_name entry.now) who id.now }
+// How the name of an order compares with a participant's identifier as they are spelled: by participant, then by the bytes.
+fn compare_spelled(entry: &Entry, who: Who, id: &Identifier) -> Ordering
+    ensures { result ≡ spelled_order (entry_name entry.now) who id.now }
 {
     match entry.order.who.place().cmp(&who.place()) {
         Ordering::Less => Ordering::Less,
@@ -22,13 +23,25 @@ fn compare_name(entry: &Entry, who: Who, id: &Identifier) -> Ordering
     }
 }
 
-// How the name of the order of a number compares with it.
-fn compare(slots: &Numbered, number: u64, who: Who, id: &Identifier) -> Ordering
-    ensures { result ≡ number_order slots.now.entries number who id.now }
+// The same for the order of a number.
+fn compare_number(slots: &Numbered, number: u64, who: Who, id: &Identifier) -> Ordering
+    ensures { result ≡ slot_order (slot_at slots.now.entries number) who id.now }
 {
     match slots.get(&number) {
-        Some(slot) => compare_name(&slot.entry, who, id),
+        Some(slot) => compare_spelled(&slot.entry, who, id),
         None => Ordering::Less,
+    }
+}
+
+// How the name of a key's order compares with a participant's identifier of this mark. The order is looked up only where the marks
+// do not decide.
+fn compare(slots: &Numbered, key: NameKey, mark: u64, who: Who, id: &Identifier) -> Ordering
+    ensures { result ≡ key_order slots.now.entries key mark who id.now }
+{
+    match key.mark.cmp(&mark) {
+        Ordering::Less => Ordering::Less,
+        Ordering::Equal => compare_number(slots, key.number, who, id),
+        Ordering::Greater => Ordering::Greater,
     }
 }
 
@@ -42,51 +55,53 @@ fn lowered(order: Ordering) -> Ordering
 }
 
 #[derive(Drop)]
-/// Numbers, to find the first place of a name.
+/// Keys, to find the first place of a name of this mark.
 pub(crate) struct FirstProbe<'a> {
     pub(crate) slots: &'a Numbered,
-    pub(crate) numbers: &'a [u64],
+    pub(crate) keys: &'a [NameKey],
+    pub(crate) mark: u64,
     pub(crate) count: u64,
 }
 
 impl<'a> Probe for FirstProbe<'a> {
-    ghost size = { λ p. length p.numbers.now };
+    ghost size = { λ p. length p.keys.now };
 
-    ghost answer = { λ p who id k. answer_at p.slots.now.entries p.numbers.now who id k };
+    ghost answer = { λ p who id k. answer_at p.slots.now.entries p.keys.now p.mark who id k };
 
     ghost count = { λ p. p.count };
 
     fn len(&self) -> usize {
-        self.numbers.len()
+        self.keys.len()
     }
 
     fn compare(&mut self, k: usize, who: Who, id: &Identifier) -> Ordering {
         self.count += 1;
-        compare(self.slots, self.numbers[k], who, id)
+        compare(self.slots, self.keys[k], self.mark, who, id)
     }
 }
 
 #[derive(Drop)]
-/// Numbers, to find the place behind a name.
+/// Keys, to find the place behind a name of this mark.
 pub(crate) struct LastProbe<'a> {
     pub(crate) slots: &'a Numbered,
-    pub(crate) numbers: &'a [u64],
+    pub(crate) keys: &'a [NameKey],
+    pub(crate) mark: u64,
     pub(crate) count: u64,
 }
 
 impl<'a> Probe for LastProbe<'a> {
-    ghost size = { λ p. length p.numbers.now };
+    ghost size = { λ p. length p.keys.now };
 
-    ghost answer = { λ p who id k. answer_behind p.slots.now.entries p.numbers.now who id k };
+    ghost answer = { λ p who id k. answer_behind p.slots.now.entries p.keys.now p.mark who id k };
 
     ghost count = { λ p. p.count };
 
     fn len(&self) -> usize {
-        self.numbers.len()
+        self.keys.len()
     }
 
     fn compare(&mut self, k: usize, who: Who, id: &Identifier) -> Ordering {
         self.count += 1;
-        lowered(compare(self.slots, self.numbers[k], who, id))
+        lowered(compare(self.slots, self.keys[k], self.mark, who, id))
     }
 }
