@@ -1,5 +1,5 @@
 use Rattle.std.proofs.Common.{◌≡◌, refl, sym, ap, ◌∙◌, ℕ, zero, suc, ◌+◌, ◌-◌, ◌≤◌, ◌<◌, ◌^◌, Bool, true, false, List, [], ◌∷◌, ◌++◌, map, length, get_or, nat_lt, Option, Some, None, option_map, inl, inr, arith, if◌then◌else◌}
-use Rattle.std.specs.List.{remove, insert, list_any}
+use Rattle.std.specs.List.{remove, insert}
 use Rattle.std.specs.Option.{unwrap_or}
 use Rattle.std.specs.declared.cmp.Ordering.{Ordering}
 use Rattle.std.specs.declared.cmp.Ordering.TheVariants.{Less, Equal}
@@ -13,7 +13,7 @@ use Rattle.std.proofs.Math.Seq.{get_or-append_seam}
 use Rattle.venue_rules.specs.Book.{Resting}
 use Rattle.sorted_names.specs.declared.names.Name.{Name}
 use Rattle.sorted_names.specs.Search.{AreRising, IsPlace}
-use Rattle.sorted_names.specs.Names.{is_of, mark_of, name_at, name_cmp, name_order, marked_order, spelled_order, place_cmp, lowered, closed, IsIndex, IsFirst}
+use Rattle.sorted_names.specs.Names.{mark_of, name_at, name_cmp, name_order, marked_order, spelled_order, lowered, closed, IsIndex, IsFirst}
 use Rattle.sorted_names.specs.Names.{answer_at as name_answer, answer_behind as name_behind}
 use Rattle.sorted_names.proofs.Ordered.{name_total, then-less, nat-less, rising-at, rising-behind, first-found, none-found}
 use Rattle.sorted_names.proofs.Inserted.{added}
@@ -21,8 +21,8 @@ use Rattle.sorted_names.proofs.Closed.{less}
 use Rattle.venue_rules.specs.declared.facts.Entry.{Entry}
 use Rattle.price_book.specs.declared.name_key.NameKey.{NameKey}
 use Rattle.price_book.specs.declared.slot.Slot.{Slot}
-use Rattle.price_book.specs.Live.{is_live, seen_slot, reduced, entry_name, names_of, find_live, Ledger, IsPlaceOf}
-use Rattle.price_book.specs.Numbered.{numbered, slot_at, slot_order, IsNumbered, IsNamed, IsListed, IsAt, number_at, key_of, no_key, keys_of, key_at, key_order, answer_at, answer_behind}
+use Rattle.price_book.specs.Live.{seen_slot, reduced, entry_name, names_of, find_live, Ledger, IsPlaceOf}
+use Rattle.price_book.specs.Numbered.{numbered, slot_at, slot_order, IsNamed, IsListed, IsAt, number_at, key_of, no_key, keys_of, key_at, key_order, answer_at, answer_behind}
 use Rattle.price_book.proofs.SlotSteps.{map-remove}
 use Rattle.price_book.proofs.Current.{AreLive, first-current, none-current}
 use Rattle.price_book.proofs.Numbers.{number-one, number-read, numbered-at, mapped-reduced}

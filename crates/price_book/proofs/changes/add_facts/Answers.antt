@@ -1,11 +1,10 @@
-use Rattle.std.proofs.Common.{◌≡◌, ◌∙◌, ap, sym, refl, subst, drop, List, length, ◌+◌, [], ◌∷◌}
+use Rattle.std.proofs.Common.{◌≡◌, ◌∙◌, sym, refl, drop, List, length, ◌+◌, [], ◌∷◌}
 use Rattle.venue_rules.specs.declared.facts.Fact.{Fact}
-use Rattle.venue_rules.specs.Book.{Resting}
 use Rattle.venue_rules.specs.Facts.{entries}
 use Rattle.price_book.specs.Live.{step, steps, Ledger, AreLedgers}
-use Rattle.price_book.specs.Rungs.{IsInStep, HasRoom}
+use Rattle.price_book.specs.Rungs.{HasRoom}
 use Rattle.price_book.proofs.SlotSteps.{steps-more, steps-end, entries-rest, ledgers-more}
-use Rattle.price_book.proofs.Numbers.{Going, ledger-head}
+use Rattle.price_book.proofs.Numbers.{ledger-head}
 use Rattle.price_book.proofs.changes.add_facts.Goals as goal
 
 pub loop-fact-init : goal.loop-fact-init

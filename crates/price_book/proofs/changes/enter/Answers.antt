@@ -1,5 +1,4 @@
-use Rattle.std.proofs.Common.{◌≡◌, ◌∙◌, ap, sym, refl, List, [], ◌∷◌, ◌++◌, length, cond, true, ◌==◌, arith}
-use Rattle.venue_rules.specs.Book.{Resting}
+use Rattle.std.proofs.Common.{◌≡◌, ◌∙◌, ap, sym, refl, [], ◌∷◌, ◌++◌, length, cond, true, ◌==◌, arith}
 use Rattle.price_book.specs.Live.{is_live, whole_order, entered}
 use Rattle.price_book.specs.Rows.{row_of}
 use Rattle.price_book.specs.Rungs.{rung, held}
