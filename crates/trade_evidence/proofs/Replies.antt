@@ -274,7 +274,7 @@ entry_steady pick m facts e p fs =
     (unfilled_steady pick m e p fs (not (is_day e.order.life) && nat_lt (filled_by fs) e.order.quantity))
 
 -- a report on the entry, then those of its fills and of its rest: the last is of no account
-entry_picked : {Y : Type 0} (pick : Reply → Option Y) (m : Market) (facts : List Fact) (e : Entry) → Picks pick m e → (fs : List Fill) (n : ℕ) (first : ℕ → Reply) → ((k : ℕ) → pick (first k) ≡ pick (first 0))
+pub entry_picked : {Y : Type 0} (pick : Reply → Option Y) (m : Market) (facts : List Fact) (e : Entry) → Picks pick m e → (fs : List Fill) (n : ℕ) (first : ℕ → Reply) → ((k : ℕ) → pick (first k) ≡ pick (first 0))
     → filter_map pick (numbered n (first ∷ entry_reports m facts e fs)) ≡ cons_option (pick (first 0)) (filter_map (λ f. pick (f 0)) (flat_map (fill_reports m e fs (next_trade facts)) (enumerate_from 0 fs)))
 entry_picked pick m facts e p fs n first same =
     numbered_picked pick n (first ∷ entry_reports m facts e fs) (same, entry_steady pick m facts e p fs)
@@ -341,11 +341,11 @@ none_in_rooms : (n trade : ℕ) (e : Entry) (fs : List Fill) → hits_told trade
 none_in_rooms n trade e [] = refl
 none_in_rooms n trade e (f ∷ fs) = none_in_rooms n (trade + 1) e fs
 
-no_entry_facts : (e : Entry) (fs : List Fill) → entries (trade_facts e fs) ≡ []
+pub no_entry_facts : (e : Entry) (fs : List Fill) → entries (trade_facts e fs) ≡ []
 no_entry_facts e [] = refl
 no_entry_facts e (f ∷ fs) = no_entry_facts e fs
 
-no_held_facts : (e : Entry) (fs : List Fill) → held_sides (trade_facts e fs) ≡ []
+pub no_held_facts : (e : Entry) (fs : List Fill) → held_sides (trade_facts e fs) ≡ []
 no_held_facts e [] = refl
 no_held_facts e (f ∷ fs) = no_held_facts e fs
 
@@ -523,11 +523,11 @@ and_right : (a b : Bool) → (a && b) ≡ true → b ≡ true
 and_right true b e = e
 and_right false b e = absurd (true≢false (sym e))
 
-named_rests : (o : Option Resting) (k : Option HeldSide) (r : Resting) → elim o [ Some x ↦ IsResting x | None ↦ elim k [ Some y ↦ IsHeld y | None ↦ IsUnknown ] ] ≡ IsResting r → o ≡ Some r
+pub named_rests : (o : Option Resting) (k : Option HeldSide) (r : Resting) → elim o [ Some x ↦ IsResting x | None ↦ elim k [ Some y ↦ IsHeld y | None ↦ IsUnknown ] ] ≡ IsResting r → o ≡ Some r
 named_rests (Some x) k r e = ap rest_of e
 named_rests None k r e = sym (held_rests_not k) ∙ ap rest_of e
 
-named_own : (h : History) (who : ℕ) (id : List ℕ) (r : Resting) → named h who id ≡ IsResting r → who ≡ r.entry.order.who
+pub named_own : (h : History) (who : ℕ) (id : List ℕ) (r : Resting) → named h who id ≡ IsResting r → who ≡ r.entry.order.who
 named_own h who id r e =
     let p : Resting → Bool = λ x. rests x.entry.order.instrument x.entry.order.side x && (x.entry.order.who == who && bytes_eq x.entry.order.id id) in
     let passes = (found_passes p (map (with_left (left h.facts)) (entries h.facts)) r (named_rests (find_order h.facts who id) (find_held h.facts who id) r e)).1 in
@@ -535,18 +535,18 @@ named_own h who id r e =
 
 -- Crosses, and held sides as they enter.
 
-or_left : (a b : Bool) → (a || b) ≡ false → a ≡ false
+pub or_left : (a b : Bool) → (a || b) ≡ false → a ≡ false
 or_left true b e = e
 or_left false b e = refl
 
-or_right : (a b : Bool) → (a || b) ≡ false → b ≡ false
+pub or_right : (a b : Bool) → (a || b) ≡ false → b ≡ false
 or_right true b e = absurd (true≢false e)
 or_right false b e = e
 
 same_bytes : (a : List ℕ) → bytes_eq a a ≡ true
 same_bytes a = (bytes_eq-Decides a a).1 refl
 
-other_bytes : (a b : List ℕ) → bytes_eq a b ≡ false → bytes_eq b a ≡ false
+pub other_bytes : (a b : List ℕ) → bytes_eq a b ≡ false → bytes_eq b a ≡ false
 other_bytes a b e = false_from_ne_true (bytes_eq b a) (λ k. true≢false (sym ((bytes_eq-Decides a b).1 (sym ((bytes_eq-Decides b a).0 k))) ∙ e))
 
 -- the side that is held is named as the one that did not enter

@@ -190,7 +190,7 @@ asking-deaf = record { shown = λ n t to s. refl; stood = λ n t to s. refl; cou
 pub traded-deaf : IsDeaf traded_in
 traded-deaf = record { shown = λ n t to s. refl; stood = λ n t to s. refl; counted = λ n t to s. refl }
 
-shown_silent : {Y : Type 0} (pick : Word → Option Y) → IsDeaf pick → (n t to : ℕ) (request : List ℕ) (es : List PictureEntry) → filter_map pick (map (shown_word n t to request) es) ≡ []
+pub shown_silent : {Y : Type 0} (pick : Word → Option Y) → IsDeaf pick → (n t to : ℕ) (request : List ℕ) (es : List PictureEntry) → filter_map pick (map (shown_word n t to request) es) ≡ []
 shown_silent pick deaf n t to request [] = refl
 shown_silent pick deaf n t to request (e ∷ es) =
     ap (λ o. cons_option o (filter_map pick (map (shown_word n t to request) es))) (deaf.shown n t to (record { request = request; side = e.side; price = e.price; left = e.left; order = e.order }))
