@@ -1,6 +1,6 @@
 -- The link in an order's line is the one that the order carries by the rules.
-use Rattle.std.proofs.Common.{◌≡◌, refl, sym, ap, subst, ◌∙◌, ◌⊎◌, inl, inr, ℕ, ℤ, ◌+◌, ◌-◌, ◌==◌, Bool, true, false, cond, not, ◌&&◌, ◌||◌, nat_lt, if◌then◌else◌, List, [], ◌∷◌, ◌++◌, map, filter_map, flat_map, take, Option, Some, None, is_none, append-nil, append_assoc, arith, find, eq-eqb, eqb-true}
-use Rattle.std.specs.Prelude.{bytes_eq, filter, sum_by, unwrap_or}
+use Rattle.std.proofs.Common.{◌≡◌, refl, sym, ap, subst, ◌∙◌, ◌⊎◌, inl, inr, ℕ, ℤ, ◌+◌, ◌==◌, Bool, true, false, cond, not, ◌&&◌, ◌||◌, if◌then◌else◌, List, [], ◌∷◌, ◌++◌, map, filter_map, flat_map, Option, Some, None, append-nil, find, eq-eqb, eqb-true}
+use Rattle.std.specs.Prelude.{bytes_eq, filter}
 use Rattle.std.specs.List.{cons_option, enumerate_from, list_any}
 use Rattle.std.proofs.lemmas.List.{map-append}
 use Rattle.std.proofs.lemmas.List.Folds.{list_any-append}
@@ -19,7 +19,6 @@ use Rattle.fix_dictionary.specs.declared.messages.QuoteCancel.{QuoteCancel as Wi
 use Rattle.fix_dictionary.specs.declared.messages.QuoteResponse.{QuoteResponse as ResponseMessage}
 use Rattle.fix_dictionary.specs.declared.messages.MarketDataRequest.{MarketDataRequest as MarketDataMessage}
 use Rattle.fix_dictionary.specs.declared.values.Side.{Side}
-use Rattle.instruments.specs.declared.instruments.Instrument.{Instrument}
 use Rattle.instruments.specs.Listing.{delay_of, instrument_of, symbol_of}
 use Rattle.venue_rules.specs.declared.facts.Entry.{Entry}
 use Rattle.venue_rules.specs.declared.facts.Fact.{Fact}
@@ -27,11 +26,8 @@ use Rattle.venue_rules.specs.declared.facts.Fact.TheVariants.{Held, Removed, Tra
 use Rattle.venue_rules.specs.declared.facts.Fact.TheVariants as fact
 use Rattle.venue_rules.specs.declared.facts.HeldSide.{HeldSide}
 use Rattle.venue_rules.specs.declared.facts.OrderFact.{OrderFact}
-use Rattle.venue_rules.specs.declared.facts.Place.{Place}
-use Rattle.venue_rules.specs.declared.facts.Place.TheVariants.{Book as InBook, Room as InRoom}
 use Rattle.venue_rules.specs.declared.facts.Room.{Room}
 use Rattle.venue_rules.specs.declared.facts.RoomQuote.{RoomQuote}
-use Rattle.venue_rules.specs.declared.facts.Trade.{Trade}
 use Rattle.venue_rules.specs.declared.refusals.ChangeRefusal.TheVariants.{HeldSide as IsHeldSide}
 use Rattle.venue_rules.specs.declared.replies.QuoteState.TheVariants.{Accepted, Withdrawn}
 use Rattle.venue_rules.specs.declared.replies.OrderReport.{OrderReport}
@@ -46,21 +42,21 @@ use Rattle.venue_rules.specs.declared.replies.RequestSent.{RequestSent}
 use Rattle.venue_rules.specs.declared.replies.RoomReport.{RoomReport}
 use Rattle.venue_rules.specs.Answer.{Answer, Sender, first_of, numbered, reply}
 use Rattle.venue_rules.specs.Answers.{answer_app, type_of}
-use Rattle.venue_rules.specs.Book.{Fill, Resting, accepts, against, fills, filled, filled_by, find_order, is_better, is_day, is_killed, left, opposite, paired, rank, ranked, rests, shares, with_left}
+use Rattle.venue_rules.specs.Book.{Fill, Resting, fills, filled, find_order, left, rests, with_left}
 use Rattle.venue_rules.specs.Changes.{Named, IsResting, IsHeld, IsUnknown, named, standing, answer_cancel_of, answer_replace_of, cancel_refusals, held_replace_refusals, replace_refusals, replace_refused, cancelled, held_cancelled, replaced, replacement}
 use Rattle.venue_rules.specs.Crosses.{answer_cross, answer_due, cross_accepted, cross_refusals, side_order, first_side, is_first, second_side, due_refusals}
 use Rattle.venue_rules.specs.Delay.{due, find_held, held, releases}
-use Rattle.venue_rules.specs.Entering.{entering, entry_facts, entry_reports, fill_report, fill_reports, order_report, trade_of, unfilled_reports}
-use Rattle.venue_rules.specs.Facts.{History, entries, entry_in as entry_in_fact, held_in as held_in_fact, held_sides, is_order_id_used, next_trade, no_history, room_in as room_in_fact, uses_order_id, rooms, trade_in as trade_in_fact, trades}
+use Rattle.venue_rules.specs.Entering.{entering, entry_facts, entry_reports, fill_reports, order_report}
+use Rattle.venue_rules.specs.Facts.{History, entries, entry_in as entry_in_fact, held_in as held_in_fact, held_sides, is_order_id_used, next_trade, no_history, uses_order_id}
 use Rattle.venue_rules.specs.Market.{Market}
 use Rattle.venue_rules.specs.MarketData.{answer_market_data, market_data_refusals, market_data}
 use Rattle.venue_rules.specs.Orders.{accepted, answer_order, order_asked, order_refusals}
 use Rattle.venue_rules.specs.Quotes.{answer_quote_of, quote_refusals, quote_accepted, quote_sent, quote_status, quoted, shown_with}
 use Rattle.venue_rules.specs.Requests.{answer_request, request_accepted, request_refusals, request_sent, opened}
-use Rattle.venue_rules.specs.Responses.{answer_response, answer_response_to, answer_response_in, answer_hit, answer_hit_at, response_refusals, kind_refusals, room_traded, taken_side, price_for}
+use Rattle.venue_rules.specs.Responses.{answer_response, answer_response_to, answer_response_in, answer_hit, answer_hit_at, response_refusals, kind_refusals, taken_side, price_for}
 use Rattle.venue_rules.specs.Rooms.{find_room, find_quote, first_quote, room_by_number}
 use Rattle.venue_rules.specs.Run.{Input, Message, Tick, after, answer_input, answer_due_of, run, run_from}
-use Rattle.venue_rules.specs.Withdrawals.{answer_withdrawal_of, withdraw_one, withdrawn_or, withdrawn_all, not_found, both_told, to_maker, to_requester}
+use Rattle.venue_rules.specs.Withdrawals.{answer_withdrawal_of, withdraw_one, withdrawn_or, not_found, both_told, to_maker, to_requester}
 use Rattle.trade_evidence.specs.declared.came.Came.{Came}
 use Rattle.trade_evidence.specs.declared.came.Came.TheVariants as came
 use Rattle.trade_evidence.specs.declared.finding.Sought.TheVariants.{Entry as EntrySought, Order}
@@ -68,17 +64,15 @@ use Rattle.trade_evidence.specs.declared.word.Entered.{Entered}
 use Rattle.trade_evidence.specs.declared.word.Said.{Said}
 use Rattle.trade_evidence.specs.declared.word.Said.TheVariants as said
 use Rattle.trade_evidence.specs.declared.word.Word.{Word}
-use Rattle.trade_evidence.specs.declared.standing.Met.{Met}
-use Rattle.trade_evidence.specs.Found.{met_told}
-use Rattle.trade_evidence.specs.Said.{asked_in, came_in, entered_of, filled_of, held_by, hit_in, link_at, link_in, link_known, pictured_in, prices_words, said_by, word, words_in, words_of}
+use Rattle.trade_evidence.specs.Said.{asked_in, came_in, entered_of, filled_of, held_by, hit_in, link_at, link_in, link_known, pictured_in, prices_words, said_by, words_in, words_of}
 use Rattle.trade_evidence.specs.Standing.{stood_at}
-use Rattle.venue_core.specs.Replay.{AreTold, Tells}
-use Rattle.trade_evidence.specs.Lines.{enters_said, is_entry_said, is_sought, link_id, link_in as link_of_word, link_of, link_said}
+use Rattle.venue_core.specs.Replay.{AreTold}
+use Rattle.trade_evidence.specs.Lines.{enters_said, is_entry_said, is_sought, link_id, link_of, link_said}
 use Rattle.trade_evidence.specs.Told.{came_of, words_at, words_from, words_told}
-use Rattle.trade_evidence.proofs.Members.{In, In-append_cases, In-append_left, In-append_right, In-filter, In-filter_map, In-map, found_first, found_longer, found_map, found_passes, found_past, found_picked, none_is_some, picked_from, picked_passes, same_some}
+use Rattle.trade_evidence.proofs.Members.{In, In-append_cases, In-filter, In-map, found_first, found_longer, found_map, found_passes, found_past, found_picked, none_is_some, picked_from, picked_passes, same_some}
 use Rattle.trade_evidence.proofs.Says.{IsDeaf, replies_say, shown_silent, stood_silent, what_words}
-use Rattle.trade_evidence.proofs.Replies.{HoldsAnew, NoneHolds, Picks, entered_once, entry_picked, input-Says, named_own, named_rests, no_entry_facts, no_held_facts, or_left, or_right, other_bytes, trade_facts}
-use Rattle.trade_evidence.proofs.Holds.{any_In, and_parts, and_true, due_in_held, has_name, unused_apart}
+use Rattle.trade_evidence.proofs.Replies.{HoldsAnew, NoneHolds, Picks, entered_once, entry_picked, input-Says, named_own, named_rests, no_held_facts, or_left, or_right, other_bytes}
+use Rattle.trade_evidence.proofs.Holds.{any_In, and_parts, and_true, due_in_held, unused_apart}
 
 -- an order's link, as it enters
 pub record HeardLink : Type 0 where

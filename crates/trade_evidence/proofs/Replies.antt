@@ -1,5 +1,5 @@
 -- The replies to each message, and to a tick, say which orders enter by it, what trades are made, and which side is held.
-use Rattle.std.proofs.Common.{◌≡◌, refl, sym, ap, subst, ◌∙◌, ◌⊎◌, inl, inr, ℕ, ℤ, ◌+◌, ◌-◌, ◌==◌, Bool, true, false, cond, not, ◌&&◌, ◌||◌, nat_lt, if◌then◌else◌, List, [], ◌∷◌, ◌++◌, map, filter_map, flat_map, take, Option, Some, None, is_none, append-nil, arith, pos, eqb-true}
+use Rattle.std.proofs.Common.{◌≡◌, refl, sym, ap, subst, ◌∙◌, ◌⊎◌, inl, inr, ℕ, ℤ, ◌+◌, ◌==◌, Bool, true, false, not, ◌&&◌, ◌||◌, nat_lt, if◌then◌else◌, List, [], ◌∷◌, ◌++◌, map, filter_map, flat_map, Option, Some, None, is_none, append-nil, arith, pos, eqb-true}
 use Rattle.std.specs.Prelude.{bytes_eq, filter, sum_by, unwrap_or}
 use Rattle.std.specs.List.{cons_option, enumerate_from}
 use Rattle.std.proofs.lemmas.Bool.{true≢false, false_from_ne_true}
@@ -17,11 +17,10 @@ use Rattle.fix_dictionary.specs.declared.messages.QuoteCancel.{QuoteCancel as Wi
 use Rattle.fix_dictionary.specs.declared.messages.QuoteResponse.{QuoteResponse as ResponseMessage}
 use Rattle.fix_dictionary.specs.declared.messages.MarketDataRequest.{MarketDataRequest as MarketDataMessage}
 use Rattle.fix_dictionary.specs.declared.values.Side.{Side}
-use Rattle.instruments.specs.declared.instruments.Instrument.{Instrument}
 use Rattle.instruments.specs.Listing.{delay_of, instrument_of, symbol_of}
 use Rattle.venue_rules.specs.declared.facts.Entry.{Entry}
 use Rattle.venue_rules.specs.declared.facts.Fact.{Fact}
-use Rattle.venue_rules.specs.declared.facts.Fact.TheVariants.{Held, Removed, Traded, Withdrawn as WithdrawnFact}
+use Rattle.venue_rules.specs.declared.facts.Fact.TheVariants.{Held, Traded, Withdrawn as WithdrawnFact}
 use Rattle.venue_rules.specs.declared.facts.HeldSide.{HeldSide}
 use Rattle.venue_rules.specs.declared.facts.OrderFact.{OrderFact}
 use Rattle.venue_rules.specs.declared.facts.Place.{Place}
@@ -52,10 +51,9 @@ use Rattle.venue_rules.specs.Requests.{answer_request, request_accepted, request
 use Rattle.venue_rules.specs.Responses.{answer_response, answer_response_to, answer_response_in, answer_hit, answer_hit_at, response_refusals, kind_refusals, room_traded, taken_side, price_for}
 use Rattle.venue_rules.specs.Rooms.{find_room, find_quote, first_quote, room_by_number}
 use Rattle.venue_rules.specs.Run.{Input, Message, Tick, answer_input, answer_due_of}
-use Rattle.venue_rules.specs.Withdrawals.{answer_withdrawal_of, withdraw_one, withdrawn_or, withdrawn_all, not_found, both_told, to_maker, to_requester}
+use Rattle.venue_rules.specs.Withdrawals.{answer_withdrawal_of, withdraw_one, withdrawn_or, not_found, both_told, to_maker, to_requester}
 use Rattle.trade_evidence.specs.declared.came.Came.{Came}
 use Rattle.trade_evidence.specs.declared.came.Came.TheVariants as came
-use Rattle.trade_evidence.specs.declared.came.Crossed.{Crossed}
 use Rattle.trade_evidence.specs.declared.word.Word.{Word}
 use Rattle.trade_evidence.specs.declared.standing.Met.{Met}
 use Rattle.trade_evidence.specs.Found.{met_told}
@@ -64,7 +62,7 @@ use Rattle.trade_evidence.specs.Standing.{met_of}
 use Rattle.venue_core.specs.Replay.{Tells}
 use Rattle.trade_evidence.specs.Told.{came_of}
 use Rattle.trade_evidence.proofs.Members.{In, In-append_left, In-append_right, In-filter, In-map, found_passes}
-use Rattle.trade_evidence.proofs.Says.{HeardAsked, HeardEntry, HeardFill, HeardHit, HeardHold, asking_by, entry_by, entry_from, fill_by, hit_by, hit_from, hold_by, hold_from}
+use Rattle.trade_evidence.proofs.Says.{HeardAsked, HeardEntry, HeardFill, HeardHit, HeardHold, asking_by, entry_by, fill_by, hit_by, hold_by, hold_from}
 
 -- What is to be heard of facts.
 
