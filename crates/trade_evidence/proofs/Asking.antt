@@ -1,16 +1,12 @@
 -- The words of a day have the request of the room of each trade that came about in one, as the room was opened, and tell its recipients.
-use Rattle.std.proofs.Common.{◌≡◌, refl, sym, ap, subst, ◌∙◌, ◌⊎◌, inl, inr, ℕ, ◌+◌, ◌-◌, ◌<◌, ◌==◌, Bool, true, false, cond, List, [], ◌∷◌, ◌++◌, map, filter, filter_map, find, length, slice_get, Option, Some, None, append-nil, eq-eqb, ne_eqb, arith}
+use Rattle.std.proofs.Common.{◌≡◌, refl, sym, ap, subst, ◌∙◌, ◌⊎◌, inl, inr, ℕ, ◌+◌, ◌-◌, ◌<◌, ◌==◌, Bool, true, false, cond, List, [], ◌∷◌, ◌++◌, map, filter, filter_map, find, length, Some, append-nil, eq-eqb, ne_eqb, arith}
 use Rattle.std.specs.List.{cons_option, flat_map}
 use Rattle.std.proofs.lemmas.List.Elements.{filter-append}
-use Rattle.fix_dictionary.specs.declared.values.Side.{Side}
-use Rattle.instruments.specs.Listing.{symbol_of}
-use Rattle.participants.specs.ParticipantFile.{ParticipantFile}
 use Rattle.venue_rules.specs.declared.facts.Fact.{Fact}
 use Rattle.venue_rules.specs.declared.facts.Fact.TheVariants as fact
 use Rattle.venue_rules.specs.declared.facts.Place.{Place}
 use Rattle.venue_rules.specs.declared.facts.Place.TheVariants.{Book as InBook, Room as InRoom}
 use Rattle.venue_rules.specs.declared.facts.Room.{Room}
-use Rattle.venue_rules.specs.declared.facts.Trade.{Trade}
 use Rattle.venue_rules.specs.declared.trail.TradeFact.{TradeFact}
 use Rattle.venue_rules.specs.declared.trail.TrailRow.{TrailRow}
 use Rattle.venue_rules.specs.Facts.{no_history, room_in as room_in_fact, rooms, trades}

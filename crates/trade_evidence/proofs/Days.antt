@@ -1,5 +1,5 @@
 -- The words of a day say which orders entered on it, which trades were made and which sides were held, each at its row.
-use Rattle.std.proofs.Common.{◌≡◌, refl, sym, ap, subst, ◌∙◌, ◌⊎◌, inl, inr, ℕ, zero, suc, ◌+◌, Bool, true, false, List, [], ◌∷◌, ◌++◌, map, filter_map, length, slice_get, Option, Some, None, append-nil, append_assoc, length-append, arith}
+use Rattle.std.proofs.Common.{◌≡◌, refl, sym, ap, subst, ◌∙◌, ◌⊎◌, inl, inr, ℕ, suc, ◌+◌, List, [], ◌∷◌, ◌++◌, map, filter_map, length, slice_get, Option, Some, append-nil, append_assoc, length-append, arith}
 use Rattle.std.specs.List.{flat_map}
 use Rattle.std.proofs.lemmas.List.{map-append, length-map}
 use Rattle.std.proofs.lemmas.List.Elements.{filter_map-append}
@@ -10,20 +10,18 @@ use Rattle.venue_rules.specs.declared.facts.Place.{Place}
 use Rattle.venue_rules.specs.declared.facts.Place.TheVariants.{Book as InBook, Room as InRoom}
 use Rattle.venue_rules.specs.declared.facts.Room.{Room}
 use Rattle.venue_rules.specs.declared.facts.Trade.{Trade}
-use Rattle.venue_rules.specs.declared.replies.Reply.{Reply}
 use Rattle.venue_rules.specs.declared.trail.TrailRow.{TrailRow}
 use Rattle.venue_rules.specs.Facts.{History, entries, entry_in as entry_in_fact, held_in as held_in_fact, held_sides, next_trade, room_in as room_in_fact, rooms, trade_in as trade_in_fact, trades}
 use Rattle.venue_rules.specs.Market.{Market}
 use Rattle.venue_rules.specs.Run.{Input, after, answer_input, run_from}
-use Rattle.trade_evidence.specs.declared.came.Came.{Came}
 use Rattle.trade_evidence.specs.declared.word.Word.{Word}
 use Rattle.trade_evidence.specs.Said.{words_of}
 use Rattle.trade_evidence.specs.Standing.{stood_at}
 use Rattle.venue_core.specs.Replay.{AreTold, Tells}
 use Rattle.trade_evidence.specs.Told.{came_of, words_at, words_from}
 use Rattle.trade_evidence.proofs.Members.{In, In-append_cases, In-map}
-use Rattle.trade_evidence.proofs.Says.{HeardAsked, HeardEntry, HeardFill, HeardHit, HeardHold, IsDeaf, asking-deaf, asking_in, askings_say, entries_say, entry_by, entry-deaf, entry_in, fill_by, fill-deaf, fill_in, fills_say, hits_say, hold_by, hold-deaf, hold_in, holds_say, stood_silent, traded-deaf, traded_in}
-use Rattle.trade_evidence.proofs.Replies.{Says, asked_told, at_row, fills_told, here, hits_of, hits_told, input-Says, is_tick_input, pair_told, told_entry, told_hold}
+use Rattle.trade_evidence.proofs.Says.{HeardAsked, HeardEntry, HeardFill, HeardHit, HeardHold, IsDeaf, asking-deaf, asking_in, askings_say, entries_say, entry-deaf, entry_in, fill-deaf, fill_in, fills_say, hits_say, hold-deaf, hold_in, holds_say, stood_silent, traded-deaf, traded_in}
+use Rattle.trade_evidence.proofs.Replies.{asked_told, at_row, fills_told, here, hits_of, hits_told, input-Says, is_tick_input, pair_told, told_entry, told_hold}
 
 -- what facts of a kind the answers of a day added, each with its row and input
 abbrev pub added : {X : Type 0} → (Fact → Option X) → Market → History → List TrailRow → List Input → List (TrailRow × Input × X)

@@ -1,5 +1,5 @@
 -- A participant's held sides have identifiers of their own, so that the one that enters at a tick is found by its identifier.
-use Rattle.std.proofs.Common.{◌≡◌, refl, sym, ap, subst, ◌∙◌, ◌⊎◌, inl, inr, ℕ, ◌==◌, Bool, true, false, cond, ◌&&◌, ◌||◌, nat_lt, nat_le, not, if◌then◌else◌, List, [], ◌∷◌, ◌++◌, map, filter, filter_map, find, Option, Some, None, append-nil, append_assoc, eq-eqb, eqb-true, arith}
+use Rattle.std.proofs.Common.{◌≡◌, refl, sym, ap, subst, ◌∙◌, ◌⊎◌, inl, inr, ℕ, ◌==◌, Bool, true, false, ◌&&◌, ◌||◌, nat_lt, nat_le, not, if◌then◌else◌, List, [], ◌∷◌, ◌++◌, filter, find, Option, Some, None, append-nil, append_assoc, eq-eqb, eqb-true}
 use Rattle.std.specs.Prelude.{bytes_eq}
 use Rattle.std.specs.List.{list_any}
 use Rattle.std.proofs.lemmas.Bool.{true≢false, false_from_ne_true}
@@ -33,15 +33,15 @@ same_name k x = has_name k.order.who k.order.id x
 abbrev pub HoldsApart : List HeldSide → Type 0
 HoldsApart ks = (k : HeldSide) → In k ks → find (same_name k) ks ≡ Some k
 
-and_parts : (a b : Bool) → (a && b) ≡ true → (a ≡ true) × (b ≡ true)
+pub and_parts : (a b : Bool) → (a && b) ≡ true → (a ≡ true) × (b ≡ true)
 and_parts true b e = (refl, e)
 and_parts false b e = absurd (true≢false (sym e))
 
-and_true : (a b : Bool) → a ≡ true → b ≡ true → (a && b) ≡ true
+pub and_true : (a b : Bool) → a ≡ true → b ≡ true → (a && b) ≡ true
 and_true true b e f = f
 and_true false b e f = e
 
-any_In : (p : Fact → Bool) (fs : List Fact) (f : Fact) → In f fs → p f ≡ true → list_any p fs ≡ true
+pub any_In : (p : Fact → Bool) (fs : List Fact) (f : Fact) → In f fs → p f ≡ true → list_any p fs ≡ true
 any_In p [] f i t = absurd i
 any_In p (g ∷ gs) f (inl e) t = ap (λ (b : Bool). b || list_any p gs) (ap p e ∙ t)
 any_In p (g ∷ gs) f (inr i) t = elim (p g) as (λ b. (b || list_any p gs) ≡ true) [ true ↦ refl | false ↦ any_In p gs f i t ]
@@ -58,7 +58,7 @@ held_fact (fact.Withdrawn x) k e = absurd (none_is_some k e)
 held_fact (fact.Closed x) k e = absurd (none_is_some k e)
 
 -- a name that was not used is no held side's
-unused_apart : (facts : List Fact) (who : ℕ) (id : List ℕ) → is_order_id_used facts who id ≡ false → (x : HeldSide) → In x (held_sides facts) → has_name who id x ≡ false
+pub unused_apart : (facts : List Fact) (who : ℕ) (id : List ℕ) → is_order_id_used facts who id ≡ false → (x : HeldSide) → In x (held_sides facts) → has_name who id x ≡ false
 unused_apart facts who id unused x i = false_from_ne_true (has_name who id x) (λ t.
     let there = picked_from held_in_fact facts x i in
     let parts = and_parts (x.order.who == who) (bytes_eq x.order.id id) t in
@@ -111,6 +111,9 @@ earlier_one h x hs (Some k) rest e =
 earliest_In : (hs : List HeldSide) (x : HeldSide) → earliest hs ≡ Some x → In x hs
 earliest_In [] x e = absurd (none_is_some x e)
 earliest_In (h ∷ hs) x e = earlier_one h x hs (earliest hs) (earliest_In hs) e
+
+pub due_in_held : (facts : List Fact) (t : ℕ) (k : HeldSide) → due facts t ≡ Some k → In k (held facts)
+due_in_held facts t k e = In-filter (λ (h : HeldSide). nat_le h.due t) (held facts) k (earliest_In (filter (λ (h : HeldSide). nat_le h.due t) (held facts)) k e)
 
 due_held : (facts : List Fact) (t : ℕ) (k : HeldSide) → due facts t ≡ Some k → In k (held_sides facts)
 due_held facts t k e = In-filter (λ (h : HeldSide). not (list_any (releases h) facts)) (held_sides facts) k (In-filter (λ (h : HeldSide). nat_le h.due t) (held facts) k (earliest_In (filter (λ (h : HeldSide). nat_le h.due t) (held facts)) k e))

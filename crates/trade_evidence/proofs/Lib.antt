@@ -7,6 +7,7 @@ pub mod Says
 pub mod Replies
 pub mod Days
 pub mod Holds
+pub mod Links
 pub mod Stood
 pub mod Orders
 pub mod Asking

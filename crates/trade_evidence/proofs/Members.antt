@@ -1,7 +1,6 @@
 -- Members of lists, what is found in them, and things that are numbered by their places.
 use Rattle.std.proofs.Common.{◌≡◌, refl, sym, ap, subst, ◌∙◌, ◌⊎◌, inl, inr, ℕ, zero, suc, ◌+◌, ◌<◌, ◌==◌, Bool, true, false, cond, List, [], ◌∷◌, ◌++◌, map, length, filter, filter_map, find, slice_get, slice_index_or, Contains, Option, Some, None, eq-eqb, ne_eqb, arith}
 use Rattle.std.specs.List.{cons_option}
-use Rattle.std.proofs.lemmas.Bool.{true≢false}
 
 pub none_is_some : {A : Type 0} (a : A) → None ≡ Some a → ⊥
 none_is_some a e = cc

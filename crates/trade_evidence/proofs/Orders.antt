@@ -1,5 +1,5 @@
 -- The words of a day have both orders of each trade in the book, and its lines are theirs.
-use Rattle.std.proofs.Common.{◌≡◌, refl, sym, ap, subst, ◌∙◌, ℕ, ℤ, zero, suc, ◌+◌, ◌-◌, min, ◌==◌, ◌⊎◌, inl, inr, Bool, true, false, cond, not, ◌&&◌, nat_lt, if◌then◌else◌, List, [], ◌∷◌, ◌++◌, map, filter_map, find, length, slice_get, Option, Some, None, eq-eqb, ne_eqb, arith}
+use Rattle.std.proofs.Common.{◌≡◌, refl, sym, ap, subst, ◌∙◌, ℕ, zero, suc, ◌+◌, ◌-◌, min, ◌==◌, ◌⊎◌, inl, inr, Bool, true, false, not, ◌&&◌, nat_lt, if◌then◌else◌, List, [], ◌∷◌, ◌++◌, map, filter_map, find, slice_get, Option, Some, None, eq-eqb, ne_eqb, arith}
 use Rattle.std.specs.Prelude.{bytes_eq}
 use Rattle.std.specs.List.{enumerate_from, flat_map}
 use Rattle.std.proofs.lemmas.Bool.{true≢false}
@@ -21,25 +21,25 @@ use Rattle.venue_rules.specs.Facts.{History, entries, entry_in as entry_in_fact,
 use Rattle.venue_rules.specs.Lawful.{BestOrderTrades, HappenedAfter, NumbersArePlaces}
 use Rattle.venue_rules.specs.Market.{Market}
 use Rattle.venue_rules.specs.Readings.{room_of, trade_fact, trade_facts}
-use Rattle.venue_rules.specs.Run.{Input, Message, Tick, after, answer_input, run, run_from}
+use Rattle.venue_rules.specs.Run.{Input, Message, Tick, after, answer_input, run}
 use Rattle.trade_evidence.specs.declared.entry.Entry.{Entry as OrderEntry}
 use Rattle.trade_evidence.specs.declared.finding.Sought.TheVariants.{Fill, HeldSide as SideHeld, Hit, Order, OtherFill}
 use Rattle.trade_evidence.specs.declared.word.Entered.{Entered}
-use Rattle.trade_evidence.specs.declared.word.Held.{Held}
 use Rattle.trade_evidence.specs.declared.word.Said.{Said}
 use Rattle.trade_evidence.specs.declared.word.Said.TheVariants as said
 use Rattle.trade_evidence.specs.declared.word.Word.{Word}
-use Rattle.trade_evidence.specs.Found.{CameAt, HasOrders, HasRow, TellsOrder, met_told, moment_told, price_told}
-use Rattle.trade_evidence.specs.Lines.{both_lines, enters_said, entry_moment, entry_of, entry_said, evidence, filled_of, fills_other_said, fills_said, held_until, held_until_said, hits_said, holds_said, is_sought, lines_in, moment_of, order_of, order_said, orders_lines, other_of, row_in, row_of, standing_line, trade_line, trade_row, two_orders}
-use Rattle.venue_core.specs.Replay.{AreTold, Tells}
+use Rattle.trade_evidence.specs.Found.{HasOrders, HasRow, TellsOrder, met_told, moment_told, price_told}
+use Rattle.trade_evidence.specs.Lines.{are_linked, both_lines, enters_said, entry_moment, entry_of, entry_said, evidence, filled_of, fills_other_said, fills_said, held_until, held_until_said, hits_said, holds_said, is_sought, lines_in, moment_of, order_of, order_said, orders_lines, other_of, row_in, row_of, standing_line, trade_line, trade_row, two_orders}
+use Rattle.venue_core.specs.Replay.{AreTold}
 use Rattle.trade_evidence.specs.Standing.{prices_of, stood_words}
 use Rattle.trade_evidence.specs.Told.{numbered_in, trade_numbered, words_told}
 use Rattle.trade_evidence.proofs.Members.{Contains-from_In, In, In-append_cases, In-append_left, In-append_right, In-filter_map, In-from_Contains, In-map, Places, Places-found, Places-from, Places-same, Places-unmap, found_first, found_later, found_map, found_picked, map_In, none_is_some, picked_from, picked_passes, same_some, slice_In, slice_map, slice_unmap}
 use Rattle.trade_evidence.proofs.Says.{HeardEntry, HeardFill, HeardHit, HeardHold, entry_in, entry_of_said, fill_in, fill_of_said, hold_in, hold_of_said, trade_of_said, traded_in}
 use Rattle.trade_evidence.proofs.Replies.{AreOf, IsOf, fills_told, hits_of, hits_told, input-Says, is_tick_input, moment_at, pair_told, price_at, told_hold}
-use Rattle.trade_evidence.proofs.Days.{IsAdded, added, added_are, day_entries, day_fills, day_hits, day_holds, entry_at, hold_at, is_added, it, map_map, trade_at}
+use Rattle.trade_evidence.proofs.Days.{IsAdded, added, added_are, day_entries, day_fills, day_hits, day_holds, entry_at, is_added, it, map_map, trade_at}
+use Rattle.trade_evidence.proofs.Links.{link_found}
 use Rattle.trade_evidence.proofs.Stood.{standing_told}
-use Rattle.trade_evidence.proofs.Holds.{HoldsApart, IsOfHeld, day_apart, has_name, holds_stay, tick_entry}
+use Rattle.trade_evidence.proofs.Holds.{day_apart, holds_stay, tick_entry}
 
 -- A trade as it is read back is a fact of the day.
 
@@ -250,6 +250,9 @@ pub record EntryFound (m : Market) (rs : List TrailRow) (is : List Input) (words
   pub at_row : entry.row ≡ p.0.n
   pub tells : TellsOrder m rs is p.2 entry
 
+found_map_back : (all : List (TrailRow × Input × Entry)) (p : TrailRow × Input × Entry) → find (λ (q : TrailRow × Input × Entry). q.2.number == p.2.number) all ≡ Some p → find (λ (y : Entry). y.number == p.2.number) (map it all) ≡ Some p.2
+found_map_back all p e = found_map it (λ (y : Entry). y.number == p.2.number) all p e
+
 entry_found : (m : Market) (number : ℕ) (rs : List TrailRow) (is : List Input) → AreTold rs is → Places (λ (p : TrailRow × Input × Entry). p.2.number) 0 (added entry_in_fact m no_history rs is) → (p : TrailRow × Input × Entry)
     → In p (added entry_in_fact m no_history rs is) → EntryFound m rs is (words_told m number rs is) p
 entry_found m number rs is told places p i =
@@ -262,6 +265,7 @@ entry_found m number rs is told places p i =
     let x = entered_in w.0 w.0.said (entry_at m p) w.2 in
     let at = is_added entry_in_fact m no_history rs is told p i in
     let came = picked_from entry_in_fact (answer_input m (run m at.earlier).history p.1).facts p.2 at.made in
+    let same : entries (run m is).history.facts ≡ map it all = added_are entry_in_fact m no_history rs is told in
     let entry : OrderEntry = record { row = w.0.row; to = w.0.to; moment = entry_moment words w.0 x.0; entered = x.0 } in
     record {
       entry = entry;
@@ -286,6 +290,7 @@ entry_found m number rs is told places p i =
         side = ap (λ (y : HeardEntry). y.side) x.2;
         quantity = ap (λ (y : HeardEntry). y.quantity) x.2;
         price = ap (λ (y : HeardEntry). y.price) x.2 ∙ at_its_price p.1 p.2;
+        link = link_found m number rs is told p.2 (ap (find (λ (y : Entry). y.number == n)) same ∙ found_map_back all p (Places-found (λ (q : TrailRow × Input × Entry). q.2.number) 0 all places p i)) w.0 x.0 w.1 x.1;
       };
     }
 
@@ -513,6 +518,7 @@ book_trades_have_orders best numbers m rs is number t told numbered placed =
       entering = found_new.entry;
       tells_rested = found_old.tells;
       tells_entered = found_new.tells;
+      linked = λ j. are_linked m.participants (found_old.tells.whose j) (found_old.tells.link j) (found_new.tells.whose j) (found_new.tells.link j);
       read_back = sym read;
       stood = record {
         row = q.0.0;

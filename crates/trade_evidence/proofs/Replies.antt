@@ -1,5 +1,5 @@
 -- The replies to each message, and to a tick, say which orders enter by it, what trades are made, and which side is held.
-use Rattle.std.proofs.Common.{◌≡◌, refl, sym, ap, subst, ◌∙◌, ◌⊎◌, inl, inr, ℕ, ℤ, ◌+◌, ◌-◌, ◌==◌, Bool, true, false, cond, not, ◌&&◌, ◌||◌, nat_lt, if◌then◌else◌, List, [], ◌∷◌, ◌++◌, map, filter_map, flat_map, take, Option, Some, None, is_none, append-nil, arith, pos, eqb-true}
+use Rattle.std.proofs.Common.{◌≡◌, refl, sym, ap, subst, ◌∙◌, ◌⊎◌, inl, inr, ℕ, ℤ, ◌+◌, ◌==◌, Bool, true, false, not, ◌&&◌, ◌||◌, nat_lt, if◌then◌else◌, List, [], ◌∷◌, ◌++◌, map, filter_map, flat_map, Option, Some, None, is_none, append-nil, arith, pos, eqb-true}
 use Rattle.std.specs.Prelude.{bytes_eq, filter, sum_by, unwrap_or}
 use Rattle.std.specs.List.{cons_option, enumerate_from}
 use Rattle.std.proofs.lemmas.Bool.{true≢false, false_from_ne_true}
@@ -17,11 +17,10 @@ use Rattle.fix_dictionary.specs.declared.messages.QuoteCancel.{QuoteCancel as Wi
 use Rattle.fix_dictionary.specs.declared.messages.QuoteResponse.{QuoteResponse as ResponseMessage}
 use Rattle.fix_dictionary.specs.declared.messages.MarketDataRequest.{MarketDataRequest as MarketDataMessage}
 use Rattle.fix_dictionary.specs.declared.values.Side.{Side}
-use Rattle.instruments.specs.declared.instruments.Instrument.{Instrument}
 use Rattle.instruments.specs.Listing.{delay_of, instrument_of, symbol_of}
 use Rattle.venue_rules.specs.declared.facts.Entry.{Entry}
 use Rattle.venue_rules.specs.declared.facts.Fact.{Fact}
-use Rattle.venue_rules.specs.declared.facts.Fact.TheVariants.{Held, Removed, Traded, Withdrawn as WithdrawnFact}
+use Rattle.venue_rules.specs.declared.facts.Fact.TheVariants.{Held, Traded, Withdrawn as WithdrawnFact}
 use Rattle.venue_rules.specs.declared.facts.HeldSide.{HeldSide}
 use Rattle.venue_rules.specs.declared.facts.OrderFact.{OrderFact}
 use Rattle.venue_rules.specs.declared.facts.Place.{Place}
@@ -52,10 +51,9 @@ use Rattle.venue_rules.specs.Requests.{answer_request, request_accepted, request
 use Rattle.venue_rules.specs.Responses.{answer_response, answer_response_to, answer_response_in, answer_hit, answer_hit_at, response_refusals, kind_refusals, room_traded, taken_side, price_for}
 use Rattle.venue_rules.specs.Rooms.{find_room, find_quote, first_quote, room_by_number}
 use Rattle.venue_rules.specs.Run.{Input, Message, Tick, answer_input, answer_due_of}
-use Rattle.venue_rules.specs.Withdrawals.{answer_withdrawal_of, withdraw_one, withdrawn_or, withdrawn_all, not_found, both_told, to_maker, to_requester}
+use Rattle.venue_rules.specs.Withdrawals.{answer_withdrawal_of, withdraw_one, withdrawn_or, not_found, both_told, to_maker, to_requester}
 use Rattle.trade_evidence.specs.declared.came.Came.{Came}
 use Rattle.trade_evidence.specs.declared.came.Came.TheVariants as came
-use Rattle.trade_evidence.specs.declared.came.Crossed.{Crossed}
 use Rattle.trade_evidence.specs.declared.word.Word.{Word}
 use Rattle.trade_evidence.specs.declared.standing.Met.{Met}
 use Rattle.trade_evidence.specs.Found.{met_told}
@@ -64,7 +62,7 @@ use Rattle.trade_evidence.specs.Standing.{met_of}
 use Rattle.venue_core.specs.Replay.{Tells}
 use Rattle.trade_evidence.specs.Told.{came_of}
 use Rattle.trade_evidence.proofs.Members.{In, In-append_left, In-append_right, In-filter, In-map, found_passes}
-use Rattle.trade_evidence.proofs.Says.{HeardAsked, HeardEntry, HeardFill, HeardHit, HeardHold, asking_by, entry_by, entry_from, fill_by, hit_by, hit_from, hold_by, hold_from}
+use Rattle.trade_evidence.proofs.Says.{HeardAsked, HeardEntry, HeardFill, HeardHit, HeardHold, asking_by, entry_by, fill_by, hit_by, hold_by, hold_from}
 
 -- What is to be heard of facts.
 
@@ -274,7 +272,7 @@ entry_steady pick m facts e p fs =
     (unfilled_steady pick m e p fs (not (is_day e.order.life) && nat_lt (filled_by fs) e.order.quantity))
 
 -- a report on the entry, then those of its fills and of its rest: the last is of no account
-entry_picked : {Y : Type 0} (pick : Reply → Option Y) (m : Market) (facts : List Fact) (e : Entry) → Picks pick m e → (fs : List Fill) (n : ℕ) (first : ℕ → Reply) → ((k : ℕ) → pick (first k) ≡ pick (first 0))
+pub entry_picked : {Y : Type 0} (pick : Reply → Option Y) (m : Market) (facts : List Fact) (e : Entry) → Picks pick m e → (fs : List Fill) (n : ℕ) (first : ℕ → Reply) → ((k : ℕ) → pick (first k) ≡ pick (first 0))
     → filter_map pick (numbered n (first ∷ entry_reports m facts e fs)) ≡ cons_option (pick (first 0)) (filter_map (λ f. pick (f 0)) (flat_map (fill_reports m e fs (next_trade facts)) (enumerate_from 0 fs)))
 entry_picked pick m facts e p fs n first same =
     numbered_picked pick n (first ∷ entry_reports m facts e fs) (same, entry_steady pick m facts e p fs)
@@ -341,11 +339,11 @@ none_in_rooms : (n trade : ℕ) (e : Entry) (fs : List Fill) → hits_told trade
 none_in_rooms n trade e [] = refl
 none_in_rooms n trade e (f ∷ fs) = none_in_rooms n (trade + 1) e fs
 
-no_entry_facts : (e : Entry) (fs : List Fill) → entries (trade_facts e fs) ≡ []
+pub no_entry_facts : (e : Entry) (fs : List Fill) → entries (trade_facts e fs) ≡ []
 no_entry_facts e [] = refl
 no_entry_facts e (f ∷ fs) = no_entry_facts e fs
 
-no_held_facts : (e : Entry) (fs : List Fill) → held_sides (trade_facts e fs) ≡ []
+pub no_held_facts : (e : Entry) (fs : List Fill) → held_sides (trade_facts e fs) ≡ []
 no_held_facts e [] = refl
 no_held_facts e (f ∷ fs) = no_held_facts e fs
 
@@ -523,11 +521,11 @@ and_right : (a b : Bool) → (a && b) ≡ true → b ≡ true
 and_right true b e = e
 and_right false b e = absurd (true≢false (sym e))
 
-named_rests : (o : Option Resting) (k : Option HeldSide) (r : Resting) → elim o [ Some x ↦ IsResting x | None ↦ elim k [ Some y ↦ IsHeld y | None ↦ IsUnknown ] ] ≡ IsResting r → o ≡ Some r
+pub named_rests : (o : Option Resting) (k : Option HeldSide) (r : Resting) → elim o [ Some x ↦ IsResting x | None ↦ elim k [ Some y ↦ IsHeld y | None ↦ IsUnknown ] ] ≡ IsResting r → o ≡ Some r
 named_rests (Some x) k r e = ap rest_of e
 named_rests None k r e = sym (held_rests_not k) ∙ ap rest_of e
 
-named_own : (h : History) (who : ℕ) (id : List ℕ) (r : Resting) → named h who id ≡ IsResting r → who ≡ r.entry.order.who
+pub named_own : (h : History) (who : ℕ) (id : List ℕ) (r : Resting) → named h who id ≡ IsResting r → who ≡ r.entry.order.who
 named_own h who id r e =
     let p : Resting → Bool = λ x. rests x.entry.order.instrument x.entry.order.side x && (x.entry.order.who == who && bytes_eq x.entry.order.id id) in
     let passes = (found_passes p (map (with_left (left h.facts)) (entries h.facts)) r (named_rests (find_order h.facts who id) (find_held h.facts who id) r e)).1 in
@@ -535,18 +533,18 @@ named_own h who id r e =
 
 -- Crosses, and held sides as they enter.
 
-or_left : (a b : Bool) → (a || b) ≡ false → a ≡ false
+pub or_left : (a b : Bool) → (a || b) ≡ false → a ≡ false
 or_left true b e = e
 or_left false b e = refl
 
-or_right : (a b : Bool) → (a || b) ≡ false → b ≡ false
+pub or_right : (a b : Bool) → (a || b) ≡ false → b ≡ false
 or_right true b e = absurd (true≢false e)
 or_right false b e = e
 
 same_bytes : (a : List ℕ) → bytes_eq a a ≡ true
 same_bytes a = (bytes_eq-Decides a a).1 refl
 
-other_bytes : (a b : List ℕ) → bytes_eq a b ≡ false → bytes_eq b a ≡ false
+pub other_bytes : (a b : List ℕ) → bytes_eq a b ≡ false → bytes_eq b a ≡ false
 other_bytes a b e = false_from_ne_true (bytes_eq b a) (λ k. true≢false (sym ((bytes_eq-Decides a b).1 (sym ((bytes_eq-Decides b a).0 k))) ∙ e))
 
 -- the side that is held is named as the one that did not enter

@@ -1,5 +1,5 @@
 -- What the words of a day say of orders as they enter, of their fills, and of held sides, reply by reply.
-use Rattle.std.proofs.Common.{◌≡◌, refl, sym, ap, subst, ◌∙◌, ℕ, ℤ, ◌+◌, ◌==◌, Bool, true, false, if◌then◌else◌, List, [], ◌∷◌, ◌++◌, map, filter_map, length, Option, Some, None}
+use Rattle.std.proofs.Common.{◌≡◌, refl, ap, ◌∙◌, ℕ, ℤ, ◌+◌, ◌==◌, Bool, true, false, if◌then◌else◌, List, [], ◌∷◌, ◌++◌, map, filter_map, length, Option, Some, None}
 use Rattle.std.specs.Prelude.{bytes_eq}
 use Rattle.std.specs.List.{cons_option}
 use Rattle.std.proofs.lemmas.List.Elements.{filter_map-append}
@@ -20,7 +20,6 @@ use Rattle.trade_evidence.specs.declared.came.Came.{Came}
 use Rattle.trade_evidence.specs.declared.came.Came.TheVariants as came
 use Rattle.trade_evidence.specs.declared.standing.Met.{Met}
 use Rattle.trade_evidence.specs.declared.word.Counted.{Counted}
-use Rattle.trade_evidence.specs.declared.word.Entered.{Entered}
 use Rattle.trade_evidence.specs.declared.word.Said.{Said}
 use Rattle.trade_evidence.specs.declared.word.Said.TheVariants as said
 use Rattle.trade_evidence.specs.declared.word.Shown.{Shown}
@@ -190,7 +189,7 @@ asking-deaf = record { shown = λ n t to s. refl; stood = λ n t to s. refl; cou
 pub traded-deaf : IsDeaf traded_in
 traded-deaf = record { shown = λ n t to s. refl; stood = λ n t to s. refl; counted = λ n t to s. refl }
 
-shown_silent : {Y : Type 0} (pick : Word → Option Y) → IsDeaf pick → (n t to : ℕ) (request : List ℕ) (es : List PictureEntry) → filter_map pick (map (shown_word n t to request) es) ≡ []
+pub shown_silent : {Y : Type 0} (pick : Word → Option Y) → IsDeaf pick → (n t to : ℕ) (request : List ℕ) (es : List PictureEntry) → filter_map pick (map (shown_word n t to request) es) ≡ []
 shown_silent pick deaf n t to request [] = refl
 shown_silent pick deaf n t to request (e ∷ es) =
     ap (λ o. cons_option o (filter_map pick (map (shown_word n t to request) es))) (deaf.shown n t to (record { request = request; side = e.side; price = e.price; left = e.left; order = e.order }))

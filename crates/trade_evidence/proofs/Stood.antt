@@ -20,7 +20,6 @@ use Rattle.venue_rules.specs.declared.replies.RoomReport.{RoomReport}
 use Rattle.venue_rules.specs.declared.replies.What.{What}
 use Rattle.venue_rules.specs.declared.replies.What.TheVariants as what
 use Rattle.venue_rules.specs.declared.trail.TrailRow.{TrailRow}
-use Rattle.venue_rules.specs.Answer.{Answer}
 use Rattle.venue_rules.specs.Book.{is_side}
 use Rattle.venue_rules.specs.Facts.{History, entries, entry_in as entry_in_fact, next_trade, no_history, trade_in as trade_in_fact, trades}
 use Rattle.venue_rules.specs.Market.{Market}

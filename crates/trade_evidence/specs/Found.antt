@@ -11,6 +11,7 @@ use Rattle.venue_rules.specs.declared.facts.Room.{Room}
 use Rattle.venue_rules.specs.declared.facts.Trade.{Trade}
 use Rattle.venue_rules.specs.declared.trail.TradeFact.{TradeFact}
 use Rattle.venue_rules.specs.declared.trail.TrailRow.{TrailRow}
+use Rattle.venue_rules.specs.Book.{is_linked}
 use Rattle.venue_rules.specs.Facts.{trades}
 use Rattle.venue_rules.specs.Market.{Market}
 use Rattle.venue_rules.specs.Readings.{trade_fact}
@@ -21,7 +22,7 @@ use Rattle.trade_evidence.specs.declared.standing.Met.{Met}
 use Rattle.trade_evidence.specs.declared.word.Asked.{Asked}
 use Rattle.trade_evidence.specs.declared.word.Said.TheVariants as said
 use Rattle.trade_evidence.specs.declared.word.Word.{Word}
-use Rattle.trade_evidence.specs.Lines.{both_lines, evidence, is_asked, is_sought, request_line, room_lines, room_word, standing_line, standing_lines, trade_line, trade_row}
+use Rattle.trade_evidence.specs.Lines.{both_lines, entries_linked, evidence, is_asked, is_sought, link_id, request_line, room_lines, room_word, standing_line, standing_lines, trade_line, trade_row}
 use Rattle.trade_evidence.specs.Standing.{prices_of, stood_words}
 
 -- a row, and the input that it tells, whose answer made this a fact
@@ -75,7 +76,8 @@ abbrev pub moment_told : Input → Entry → ℕ
 moment_told (Message taken t) e = e.moment
 moment_told (Tick t) e = min e.moment greatest
 
--- what an order's lines are made of is what the order was as it entered, and the row is that at which it did
+-- what an order's lines are made of is what the order was as it entered, and the row is that at which it did; the link is the one that it carries, or
+-- that the order had whose place it takes
 pub record TellsOrder (m : Market) (rs : List TrailRow) (is : List Input) (e : Entry) (x : OrderEntry) : Type 0 where
   pub row : TrailRow
   pub input : Input
@@ -89,6 +91,7 @@ pub record TellsOrder (m : Market) (rs : List TrailRow) (is : List Input) (e : E
   pub side : x.entered.side ≡ e.order.side
   pub quantity : x.entered.quantity ≡ e.order.quantity
   pub price : x.entered.price ≡ price_told input e
+  pub link : link_id x.entered.link ≡ e.order.link
 
 -- an order that is met
 abbrev pub met_told : Market → Entry → Met
@@ -103,7 +106,7 @@ pub record HasStanding (m : Market) (rs : List TrailRow) (is : List Input) (word
   pub lines : standing_lines words ≡ flat_map standing_line (stood_words row.n row.moment (met_told m rested) (prices_of m (run m made.earlier).history (symbol_of m.instruments rested.order.instrument)))
 
 -- both orders of a trade in the book are found: its evidence are the lines of the order that rested, of the one that entered, of both together,
--- and of the trade; what is told of both and of the trade is told at the row at which the second entered
+-- and of the trade; what is told of both and of the trade is told at the row at which the second entered, and whether they are linked is what the rules say
 pub record HasOrders (m : Market) (rs : List TrailRow) (is : List Input) (words : List Word) (number : ℕ) (t : TradeFact) : Type 0 where
   pub trade : Trade
   pub rested : Entry
@@ -115,5 +118,6 @@ pub record HasOrders (m : Market) (rs : List TrailRow) (is : List Input) (words 
   pub entering : OrderEntry
   pub tells_rested : TellsOrder m rs is rested resting
   pub tells_entered : TellsOrder m rs is entered entering
+  pub linked : entries_linked m.participants resting entering ≡ is_linked m rested.order entered.order
   pub lines : evidence m words t ≡ both_lines m.participants words (record { resting = resting; entering = entering; row = entering.row }) ++ trade_line m t entering.row
   pub stood : HasStanding m rs is words trade rested
