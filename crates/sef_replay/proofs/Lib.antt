@@ -1,4 +1,5 @@
 pub mod Kept
 pub mod Ends
+pub mod Causes
 pub mod Older
 pub mod Trades

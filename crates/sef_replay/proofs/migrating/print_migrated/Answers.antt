@@ -1,4 +1,6 @@
 use Rattle.sqlite.specs.Held.{state}
+use Rattle.std.proofs.Common.{inl, sym, ◌∙◌}
+use Rattle.sef_replay.proofs.Causes.{is_refused, refused_at_last}
 use Rattle.sef_replay.proofs.Older.{clean_before, either_told, failure_at_last, leaves_still, of_err, of_ok, survives_printing}
 use Rattle.sef_replay.proofs.migrating.print_migrated.Goals as goal
 
@@ -26,3 +28,12 @@ pub returns-in-Ok-clause-crash_err : goal.returns-in-Ok-clause-crash_err
 returns-in-Ok-clause-crash_err g c =
     of_err c.print_day.result _ _ _ c.print_day.ensures.crash_err c.print_day.ensures.crash_err
     (λ e s _. survives_printing (state g.S.Store c.args.conn) (state g.S.Store c.in-Ok.conn) (state g.S.Store e.1) c.in-Ok.ensures.crash s)
+
+pub returns-in-Ok-clause-cause : goal.returns-in-Ok-clause-cause
+returns-in-Ok-clause-cause g c =
+    let up = c.in-Ok.ensures in
+    of_err c.print_day.result _ _ _ c.print_day.ensures.cause c.print_day.ensures.crash_err
+    (λ e why s clean is. refused_at_last (state g.S.Store c.args.conn) (state g.S.Store c.in-Ok.conn) (state g.S.Store e.1) (up.third (clean_before _ _ _ s clean)) up.crash.counts up.crash.limit (why clean is))
+
+pub returns-in-Err-clause-cause : goal.returns-in-Err-clause-cause
+returns-in-Err-clause-cause g c clean is = inl (c.in-Err.ensures.cause clean (is_refused c.in-Err.fault (sym c.from.ensures ∙ is)))
