@@ -50,7 +50,7 @@ fn append_message_head(
     )
 }
 
-// Appends the lines of a type's table.
+// Appends the lines of a type's table. The number that a resend request begins with bounds only its 16, of which a line says nothing.
 fn append_table_of(text: &mut Vec<u8>, kind: MessageType) -> Result<(), WriteFault>
     ensures { OnOk result (text.new.items ≡ text.old.items ++ table_text (rows_of kind 0)) }
 {
