@@ -1,15 +1,16 @@
 -- The text of a data dictionary, in QuickFIX's XML: the header, the messages and the trailer line by line, then each field of theirs.
 use Rattle.std.specs.Prelude.{ℕ, Bool, true, false, List, ◌++◌, codes, decimal}
 use Rattle.std.specs.List.{flat_map}
-use Rattle.data_dictionary.specs.declared.tables.Row.{Row}
+use Rattle.fix_tables.specs.Tables.{header_rows}
+use Rattle.fix_tables.specs.declared.table.Row.{Row}
 use Rattle.data_dictionary.specs.declared.lines.Line.{Line}
+use Rattle.data_dictionary.specs.declared.lines.Mention.{Mention}
 use Rattle.data_dictionary.specs.declared.lines.Line.TheVariants.{Field, GroupBegin, GroupEnd}
-use Rattle.data_dictionary.specs.declared.message_types.MessageType.{MessageType}
 use Rattle.data_dictionary.specs.declared.dictionaries.Dictionary.{Dictionary}
 use Rattle.data_dictionary.specs.declared.dictionaries.Dictionary.TheVariants.{Transport, Application}
 use Rattle.data_dictionary.specs.Fields.{data_type_of, name_of, type_name_of}
-use Rattle.data_dictionary.specs.Layout.{application_tags, frame_begin, frame_end, header_told, lines_in, rows_told, transport_tags}
-use Rattle.data_dictionary.specs.MessageTypes.{application_types, code_of, message_name_of, session_types}
+use Rattle.data_dictionary.specs.Layout.{application_tags, frame_begin, frame_end, lines_in, rows_told, transport_tags}
+use Rattle.data_dictionary.specs.MessageTypes.{Listed, application_types, session_types}
 use Rattle.data_dictionary.specs.Values.{Named, values_of}
 
 unfoldable pub answer : Bool → List ℕ
@@ -17,23 +18,27 @@ answer true = codes "Y"
 answer false = codes "N"
 
 -- which field, and whether it is required
-unfoldable pub attributes : Row → List ℕ
-attributes row = codes " name='" ++ (name_of row.tag ++ (codes "' required='" ++ (answer row.required ++ codes "'")))
+unfoldable pub attributes : Mention → List ℕ
+attributes field = codes " name='" ++ (name_of field.tag ++ (codes "' required='" ++ (answer field.required ++ codes "'")))
 
 unfoldable pub line_text : Line → List ℕ
-line_text (Field row) = codes "      <field" ++ (attributes row ++ codes "/>\n")
-line_text (GroupBegin row) = codes "      <group" ++ (attributes row ++ codes ">\n")
+line_text (Field field) = codes "      <field" ++ (attributes field ++ codes "/>\n")
+line_text (GroupBegin field) = codes "      <group" ++ (attributes field ++ codes ">\n")
 line_text GroupEnd = codes "      </group>\n"
+
+-- the lines of fields that stand in no group
+unfoldable pub fields_asked : List Mention → List ℕ
+fields_asked fields = flat_map (λ field. line_text (Field field)) fields
 
 -- the lines of a table
 unfoldable pub table_text : List Row → List ℕ
 table_text rows = flat_map line_text (lines_in 0 rows)
 
-unfoldable pub message_head : List ℕ → MessageType → List ℕ
-message_head category kind = codes "    <message name='" ++ (message_name_of kind ++ (codes "' msgtype='" ++ (code_of kind ++ (codes "' msgcat='" ++ (category ++ codes "'>\n")))))
+unfoldable pub message_head : List ℕ → Listed → List ℕ
+message_head category kind = codes "    <message name='" ++ (kind.name ++ (codes "' msgtype='" ++ (kind.code ++ (codes "' msgcat='" ++ (category ++ codes "'>\n")))))
 
 -- a message of this category, admin or app
-unfoldable pub message_text : List ℕ → MessageType → List ℕ
+unfoldable pub message_text : List ℕ → Listed → List ℕ
 message_text category kind = message_head category kind ++ (table_text (rows_told kind) ++ codes "    </message>\n")
 
 unfoldable pub value_text : Named → List ℕ
@@ -49,12 +54,12 @@ unfoldable pub field_text : ℕ → List ℕ
 field_text tag = field_head tag ++ (values_text (values_of (data_type_of tag)) ++ codes "    </field>\n")
 
 unfoldable pub header_text : List ℕ
-header_text = codes "<fix type='FIXT' major='1' minor='1'>\n  <header>\n" ++ (table_text frame_begin ++ (table_text header_told ++ codes "  </header>\n"))
+header_text = codes "<fix type='FIXT' major='1' minor='1'>\n  <header>\n" ++ (fields_asked frame_begin ++ (table_text header_rows ++ codes "  </header>\n"))
 
 unfoldable pub trailer_text : List ℕ
-trailer_text = codes "  <trailer>\n" ++ (table_text frame_end ++ codes "  </trailer>\n")
+trailer_text = codes "  <trailer>\n" ++ (fields_asked frame_end ++ codes "  </trailer>\n")
 
-unfoldable pub messages_text : List ℕ → List MessageType → List ℕ
+unfoldable pub messages_text : List ℕ → List Listed → List ℕ
 messages_text category kinds = codes "  <messages>\n" ++ (flat_map (message_text category) kinds ++ codes "  </messages>\n")
 
 unfoldable pub fields_text : List ℕ → List ℕ

@@ -5,24 +5,24 @@ use Rattle.std.specs.Str.{bytes_eq}
 use Rattle.fix_tables.specs.Tables.{header_rows, rows_of}
 use Rattle.fix_dictionary.specs.Kinds.{type_of}
 use Rattle.fix_tables.specs.Table.{value_fault}
-use Rattle.data_dictionary.specs.declared.tables.Row.{Row}
-use Rattle.data_dictionary.specs.declared.message_types.MessageType.{MessageType}
+use Rattle.fix_tables.specs.declared.table.Row.{Row}
+use Rattle.fix_dictionary.specs.declared.kinds.MessageType.{MessageType}
 use Rattle.data_dictionary.specs.Fields.{data_type_of, name_of}
-use Rattle.data_dictionary.specs.Layout.{header_told, lines_in, rows_told, said_by}
-use Rattle.data_dictionary.specs.MessageTypes.{application_types, code_of, session_types}
+use Rattle.data_dictionary.specs.Layout.{each, lines_in, said_by}
+use Rattle.data_dictionary.specs.MessageTypes.{application_types, session_types}
 use Rattle.data_dictionary.specs.Values.{values_of}
 
 -- the lines of a table say each of its rows once, in order, with its tag, whether it is required, and its group
 abbrev pub SaysEachRow : List Row → Type 0
-SaysEachRow rows = said_by [] (lines_in 0 rows) ≡ rows
+SaysEachRow rows = said_by [] (lines_in 0 rows) ≡ each rows (λ row. record { tag = row.tag; required = row.required; group = row.group })
 
 -- Each row of each table is said once.
 abbrev pub EachRowIsSaid : Type 0
-EachRowIsSaid = SaysEachRow header_told × ((kind : MessageType) → SaysEachRow (rows_told kind))
+EachRowIsSaid = SaysEachRow header_rows × ((kind : MessageType) (begin : ℕ) → SaysEachRow (rows_of kind begin))
 
 -- the types of both dictionaries, by what 35 says
 abbrev pub codes_told : List (List ℕ)
-codes_told = map code_of (session_types ++ application_types)
+codes_told = each (session_types ++ application_types) (λ kind. kind.code)
 
 abbrev pub is_among : List ℕ → List (List ℕ) → Bool
 is_among text [] = false

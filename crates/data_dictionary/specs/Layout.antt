@@ -2,33 +2,34 @@
 use Rattle.std.specs.Prelude.{ℕ, Bool, true, false, List, [], ◌∷◌, ◌++◌, nat_eq, nat_lt, map}
 use Rattle.std.specs.List.{flat_map, list_any}
 use Rattle.fix_tables.specs.Tables.{header_rows, rows_of}
+use Rattle.fix_tables.specs.declared.table.Row.{Row}
 use Rattle.fix_dictionary.specs.Kinds.{type_of}
-use Rattle.data_dictionary.specs.declared.tables.Row.{Row}
+use Rattle.data_dictionary.specs.declared.lines.Mention.{Mention}
 use Rattle.data_dictionary.specs.declared.lines.Line.{Line}
 use Rattle.data_dictionary.specs.declared.lines.Line.TheVariants.{Field, GroupBegin, GroupEnd}
-use Rattle.data_dictionary.specs.declared.message_types.MessageType.{MessageType}
-use Rattle.data_dictionary.specs.MessageTypes.{application_types, code_of, session_types}
+use Rattle.data_dictionary.specs.MessageTypes.{Listed, application_types, session_types}
 
 -- what is told of each of these rows
 abbrev pub each : {A B : Type 0} → List A → (A → B) → List B
 each things told = map told things
 
--- The rows of a type and of the header, by which messages are read and printed, without the forms of their values. (Which number a
--- resend request begins with says only what its 16 may be.)
-unfoldable pub rows_told : MessageType → List Row
-rows_told kind = each (rows_of (type_of (code_of kind)) 0) (λ row. record { tag = row.tag; required = row.required; group = row.group })
+-- the rows of a type, by which messages of the type are read and printed (which number a resend request begins with says only what its
+-- 16 may be)
+abbrev pub rows_told : Listed → List Row
+rows_told kind = rows_of (type_of kind.code) 0
 
-unfoldable pub header_told : List Row
-header_told = each header_rows (λ row. record { tag = row.tag; required = row.required; group = row.group })
+-- how a line names the field of a row, and a field that each message has
+abbrev pub told : Row → Mention
+told row = record { tag = row.tag; required = row.required }
+
+abbrev pub required : ℕ → Mention
+required tag = record { tag = tag; required = true }
 
 -- a frame's fields in front of the header, and behind the body
-abbrev pub required : ℕ → Row
-required tag = record { tag = tag; required = true; group = 0 }
-
-unfoldable pub frame_begin : List Row
+unfoldable pub frame_begin : List Mention
 frame_begin = required 8 ∷ required 9 ∷ []
 
-unfoldable pub frame_end : List Row
+unfoldable pub frame_end : List Mention
 frame_end = required 10 ∷ []
 
 -- whether some of these rows stand in the instances that this tag counts
@@ -40,14 +41,13 @@ abbrev pub lines_in : ℕ → List Row → List Line
 lines_in group [] = []
 lines_in group (row ∷ rows) = elim (nat_eq row.group group) [
   | true ↦ elim (is_counted row.tag rows) [
-    | true ↦ GroupBegin row ∷ lines_in row.tag rows ++ GroupEnd ∷ lines_in group rows
-    | false ↦ Field row ∷ lines_in group rows
+    | true ↦ GroupBegin (told row) ∷ lines_in row.tag rows ++ GroupEnd ∷ lines_in group rows
+    | false ↦ Field (told row) ∷ lines_in group rows
   ]
   | false ↦ lines_in group rows
 ]
 
--- What the lines say, where around are the count fields of the groups that are open, the innermost first: each row once, with its tag,
--- whether it is required, and the group in whose lines it stands.
+-- the count fields of the groups that are open, the innermost first
 abbrev pub innermost : List ℕ → ℕ
 innermost [] = 0
 innermost (tag ∷ tags) = tag
@@ -56,13 +56,23 @@ abbrev pub outer : List ℕ → List ℕ
 outer [] = []
 outer (tag ∷ tags) = tags
 
-abbrev pub said_by : List ℕ → List Line → List Row
+-- what the lines say of a field: its tag, whether it is required, and the group in whose lines it stands
+pub record Said : Type 0 where
+  pub tag : ℕ
+  pub required : Bool
+  pub group : ℕ
+
+abbrev pub said : Mention → List ℕ → Said
+said field around = record { tag = field.tag; required = field.required; group = innermost around }
+
+-- what the lines say of each field, where around are the open groups
+abbrev pub said_by : List ℕ → List Line → List Said
 said_by around [] = []
-said_by around (Field row ∷ lines) = record { tag = row.tag; required = row.required; group = innermost around } ∷ said_by around lines
-said_by around (GroupBegin row ∷ lines) = record { tag = row.tag; required = row.required; group = innermost around } ∷ said_by (row.tag ∷ around) lines
+said_by around (Field field ∷ lines) = said field around ∷ said_by around lines
+said_by around (GroupBegin field ∷ lines) = said field around ∷ said_by (field.tag ∷ around) lines
 said_by around (GroupEnd ∷ lines) = said_by (outer around) lines
 
--- the tags of rows, in rising order, each once
+-- tags in rising order, each once
 abbrev pub with_tag : ℕ → List ℕ → List ℕ
 with_tag tag [] = tag ∷ []
 with_tag tag (other ∷ others) = elim (nat_lt tag other) [
@@ -70,13 +80,16 @@ with_tag tag (other ∷ others) = elim (nat_lt tag other) [
   | false ↦ elim (nat_eq tag other) [ true ↦ other ∷ others | false ↦ other ∷ with_tag tag others ]
 ]
 
-abbrev pub tags_in : List Row → List ℕ
-tags_in [] = []
-tags_in (row ∷ rows) = with_tag row.tag (tags_in rows)
+abbrev pub rising : List ℕ → List ℕ
+rising [] = []
+rising (tag ∷ tags) = with_tag tag (rising tags)
+
+abbrev pub tags_of : List Row → List ℕ
+tags_of rows = each rows (λ row. row.tag)
 
 -- the tags of the frame, the header and the session's messages, and those of the application messages
 unfoldable pub transport_tags : List ℕ
-transport_tags = tags_in (frame_begin ++ header_told ++ flat_map rows_told session_types ++ frame_end)
+transport_tags = rising (each (frame_begin ++ frame_end) (λ field. field.tag) ++ tags_of (header_rows ++ flat_map rows_told session_types))
 
 unfoldable pub application_tags : List ℕ
-application_tags = tags_in (flat_map rows_told application_types)
+application_tags = rising (tags_of (flat_map rows_told application_types))

@@ -1,87 +1,46 @@
 -- The types of messages: what 35 says, and how FIXT 1.1 and FIX 5.0 SP2 name them.
 use Rattle.std.specs.Prelude.{ℕ, List, [], ◌∷◌, codes}
-use Rattle.data_dictionary.specs.declared.message_types.MessageType.{MessageType}
-use Rattle.data_dictionary.specs.declared.message_types.MessageType.TheVariants as types
+use Rattle.data_dictionary.specs.declared.message_types.Listed.{Listed as HeldListed}
+
+pub record Listed : Type 0 where
+  pub code : List ℕ
+  pub name : List ℕ
+
+abbrev pub listed : List ℕ → List ℕ → Listed
+listed code name = record { code = code; name = name }
+
+-- a type, without where its texts lie in memory
+abbrev pub seen : HeldListed → Listed
+seen kind = record { code = kind.code.now; name = kind.name.now }
 
 -- the types of the session's own messages, and of the application messages
-unfoldable pub session_types : List MessageType
+unfoldable pub session_types : List Listed
 session_types =
-    types.Heartbeat
-    ∷ types.TestRequest
-    ∷ types.ResendRequest
-    ∷ types.Reject
-    ∷ types.SequenceReset
-    ∷ types.Logout
-    ∷ types.Logon
+    listed (codes "0") (codes "Heartbeat")
+    ∷ listed (codes "1") (codes "TestRequest")
+    ∷ listed (codes "2") (codes "ResendRequest")
+    ∷ listed (codes "3") (codes "Reject")
+    ∷ listed (codes "4") (codes "SequenceReset")
+    ∷ listed (codes "5") (codes "Logout")
+    ∷ listed (codes "A") (codes "Logon")
     ∷ []
 
-unfoldable pub application_types : List MessageType
+unfoldable pub application_types : List Listed
 application_types =
-    types.QuoteRequest
-    ∷ types.Quote
-    ∷ types.QuoteCancel
-    ∷ types.QuoteResponse
-    ∷ types.QuoteStatusReport
-    ∷ types.QuoteRequestReject
-    ∷ types.NewOrderSingle
-    ∷ types.OrderCancelRequest
-    ∷ types.OrderCancelReplaceRequest
-    ∷ types.NewOrderCross
-    ∷ types.ExecutionReport
-    ∷ types.OrderCancelReject
-    ∷ types.MarketDataRequest
-    ∷ types.MarketDataSnapshot
-    ∷ types.MarketDataRequestReject
-    ∷ types.BusinessMessageReject
+    listed (codes "R") (codes "QuoteRequest")
+    ∷ listed (codes "S") (codes "Quote")
+    ∷ listed (codes "Z") (codes "QuoteCancel")
+    ∷ listed (codes "AJ") (codes "QuoteResponse")
+    ∷ listed (codes "AI") (codes "QuoteStatusReport")
+    ∷ listed (codes "AG") (codes "QuoteRequestReject")
+    ∷ listed (codes "D") (codes "NewOrderSingle")
+    ∷ listed (codes "F") (codes "OrderCancelRequest")
+    ∷ listed (codes "G") (codes "OrderCancelReplaceRequest")
+    ∷ listed (codes "s") (codes "NewOrderCross")
+    ∷ listed (codes "8") (codes "ExecutionReport")
+    ∷ listed (codes "9") (codes "OrderCancelReject")
+    ∷ listed (codes "V") (codes "MarketDataRequest")
+    ∷ listed (codes "W") (codes "MarketDataSnapshotFullRefresh")
+    ∷ listed (codes "Y") (codes "MarketDataRequestReject")
+    ∷ listed (codes "j") (codes "BusinessMessageReject")
     ∷ []
-
--- what 35 says
-unfoldable pub code_of : MessageType → List ℕ
-code_of types.Heartbeat = codes "0"
-code_of types.TestRequest = codes "1"
-code_of types.ResendRequest = codes "2"
-code_of types.Reject = codes "3"
-code_of types.SequenceReset = codes "4"
-code_of types.Logout = codes "5"
-code_of types.Logon = codes "A"
-code_of types.QuoteRequest = codes "R"
-code_of types.Quote = codes "S"
-code_of types.QuoteCancel = codes "Z"
-code_of types.QuoteResponse = codes "AJ"
-code_of types.QuoteStatusReport = codes "AI"
-code_of types.QuoteRequestReject = codes "AG"
-code_of types.NewOrderSingle = codes "D"
-code_of types.OrderCancelRequest = codes "F"
-code_of types.OrderCancelReplaceRequest = codes "G"
-code_of types.NewOrderCross = codes "s"
-code_of types.ExecutionReport = codes "8"
-code_of types.OrderCancelReject = codes "9"
-code_of types.MarketDataRequest = codes "V"
-code_of types.MarketDataSnapshot = codes "W"
-code_of types.MarketDataRequestReject = codes "Y"
-code_of types.BusinessMessageReject = codes "j"
-
-unfoldable pub message_name_of : MessageType → List ℕ
-message_name_of types.Heartbeat = codes "Heartbeat"
-message_name_of types.TestRequest = codes "TestRequest"
-message_name_of types.ResendRequest = codes "ResendRequest"
-message_name_of types.Reject = codes "Reject"
-message_name_of types.SequenceReset = codes "SequenceReset"
-message_name_of types.Logout = codes "Logout"
-message_name_of types.Logon = codes "Logon"
-message_name_of types.QuoteRequest = codes "QuoteRequest"
-message_name_of types.Quote = codes "Quote"
-message_name_of types.QuoteCancel = codes "QuoteCancel"
-message_name_of types.QuoteResponse = codes "QuoteResponse"
-message_name_of types.QuoteStatusReport = codes "QuoteStatusReport"
-message_name_of types.QuoteRequestReject = codes "QuoteRequestReject"
-message_name_of types.NewOrderSingle = codes "NewOrderSingle"
-message_name_of types.OrderCancelRequest = codes "OrderCancelRequest"
-message_name_of types.OrderCancelReplaceRequest = codes "OrderCancelReplaceRequest"
-message_name_of types.NewOrderCross = codes "NewOrderCross"
-message_name_of types.ExecutionReport = codes "ExecutionReport"
-message_name_of types.OrderCancelReject = codes "OrderCancelReject"
-message_name_of types.MarketDataRequest = codes "MarketDataRequest"
-message_name_of types.MarketDataSnapshot = codes "MarketDataSnapshotFullRefresh"
-message_name_of types.MarketDataRequestReject = codes "MarketDataRequestReject"
-message_name_of types.BusinessMessageReject = codes "BusinessMessageReject"

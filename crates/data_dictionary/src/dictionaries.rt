@@ -1,19 +1,20 @@
 //! Writes the data dictionaries.
-ghost use Rattle.std.specs.Prelude.{◌≡◌, ◌++◌, OnOk, IfOk, IfErr};
+ghost use Rattle.std.specs.Prelude.{◌≡◌, ◌++◌, OnOk, IfOk, IfErr, map};
 ghost use Rattle.std.specs.List.{flat_map};
 ghost use Rattle.std.specs.Io.KnownBytes.{Appends, Keeps};
-ghost use Rattle.data_dictionary.specs.Dictionaries.{application_text, dictionary_text, field_head, field_text, fields_text, header_text, message_head, message_text, messages_text, trailer_text, transport_text, value_text, values_text};
+ghost use Rattle.data_dictionary.specs.Dictionaries.{application_text, dictionary_text, table_text, field_head, field_text, fields_text, header_text, message_head, message_text, messages_text, trailer_text, transport_text, value_text, values_text};
 ghost use Rattle.data_dictionary.specs.Faults.{UnlessWriting};
 ghost use Rattle.data_dictionary.specs.Fields.{data_type_of, name_of};
+ghost use Rattle.data_dictionary.specs.MessageTypes.{seen};
+ghost use Rattle.fix_tables.specs.Tables.{rows_of};
 ghost use Rattle.data_dictionary.specs.Values.{named, values_of};
 
 use crate::faults::WriteFault;
 use crate::fields::{DataType, application_tags, field_of, transport_tags, type_name_of};
-use crate::lines::{append, append_table};
-use crate::message_types::{
-    MessageType, application_types, code_of, message_name_of, session_types,
-};
-use crate::tables::{frame_begin, frame_end, header, rows_of};
+use crate::lines::{append, append_fields_asked, append_table, required};
+use crate::message_types::{Listed, application_types, session_types};
+use fix_dictionary::MessageType;
+use fix_tables::{header, resend_request_rows, rows_of, type_of};
 use itoa::Buffer;
 use std::alloc::Global;
 use std::io::Write;
@@ -31,17 +32,17 @@ pub enum Dictionary {
 fn append_message_head(
     text: &mut Vec<u8>,
     category: &'static str,
-    kind: MessageType,
+    kind: &Listed,
 ) -> Result<(), WriteFault>
-    ensures { OnOk result (text.new.items ≡ text.old.items ++ message_head category.now kind) }
+    ensures { OnOk result (text.new.items ≡ text.old.items ++ message_head category.now (seen kind.now)) }
 {
     append(
         text,
         &[
             "    <message name='",
-            message_name_of(kind),
+            kind.name,
             "' msgtype='",
-            code_of(kind),
+            kind.code,
             "' msgcat='",
             category,
             "'>\n",
@@ -49,28 +50,38 @@ fn append_message_head(
     )
 }
 
+// Appends the lines of a type's table. The number that a resend request begins with bounds only its 16, of which a line says nothing.
+fn append_table_of(text: &mut Vec<u8>, kind: MessageType) -> Result<(), WriteFault>
+    ensures { OnOk result (text.new.items ≡ text.old.items ++ table_text (rows_of kind 0)) }
+{
+    match kind {
+        MessageType::ResendRequest => append_table(text, &resend_request_rows(0)),
+        _ => append_table(text, rows_of(kind)),
+    }
+}
+
 #[tactic(auto, unfolding(crate::specs::Dictionaries::message_text))]
 fn append_message(
     text: &mut Vec<u8>,
     category: &'static str,
-    kind: MessageType,
+    kind: &Listed,
 ) -> Result<(), WriteFault>
-    ensures { OnOk result (text.new.items ≡ text.old.items ++ message_text category.now kind) }
+    ensures { OnOk result (text.new.items ≡ text.old.items ++ message_text category.now (seen kind.now)) }
 {
     append_message_head(text, category, kind)?;
-    append_table(text, rows_of(kind))?;
+    append_table_of(text, type_of(kind.code.as_bytes()))?;
     append(text, &["    </message>\n"])
 }
 
 fn append_each_message(
     text: &mut Vec<u8>,
     category: &'static str,
-    kinds: &[MessageType],
+    kinds: &[Listed],
 ) -> Result<(), WriteFault>
-    ensures { OnOk result (text.new.items ≡ text.old.items ++ flat_map (message_text category.now) kinds.now) }
+    ensures { OnOk result (text.new.items ≡ text.old.items ++ flat_map (λ kind. message_text category.now (seen kind)) kinds.now) }
 {
     for kind in kinds {
-        append_message(text, category, *kind)?;
+        append_message(text, category, kind)?;
     }
     Ok(())
 }
@@ -80,9 +91,9 @@ fn append_each_message(
 fn append_messages(
     text: &mut Vec<u8>,
     category: &'static str,
-    kinds: &[MessageType],
+    kinds: &[Listed],
 ) -> Result<(), WriteFault>
-    ensures { OnOk result (text.new.items ≡ text.old.items ++ messages_text category.now kinds.now) }
+    ensures { OnOk result (text.new.items ≡ text.old.items ++ messages_text category.now (map seen kinds.now)) }
 {
     append(text, &["  <messages>\n"])?;
     append_each_message(text, category, kinds)?;
@@ -160,11 +171,11 @@ fn append_field_head(
 fn append_field(text: &mut Vec<u8>, tag: u32) -> Result<(), WriteFault>
     ensures { OnOk result (text.new.items ≡ text.old.items ++ field_text tag) }
 {
-    let Some((name, data_type)) = field_of(tag) else {
+    let Some(field) = field_of(tag) else {
         return Err(WriteFault::Unnamed);
     };
-    append_field_head(text, tag, name, data_type)?;
-    append_values(text, data_type)?;
+    append_field_head(text, tag, field.name, field.data_type)?;
+    append_values(text, field.data_type)?;
     append(text, &["    </field>\n"])
 }
 
@@ -188,7 +199,7 @@ fn append_fields(text: &mut Vec<u8>, tags: &[u32]) -> Result<(), WriteFault>
 }
 
 // Appends the header, from the dictionary's first line on.
-#[tactic(auto, unfolding(crate::specs::Dictionaries::header_text))]
+#[tactic(auto, unfolding(crate::specs::Dictionaries::header_text, crate::specs::Layout::frame_begin))]
 fn append_header(text: &mut Vec<u8>) -> Result<(), WriteFault>
     ensures { OnOk result (text.new.items ≡ text.old.items ++ header_text) }
 {
@@ -196,17 +207,17 @@ fn append_header(text: &mut Vec<u8>) -> Result<(), WriteFault>
         text,
         &["<fix type='FIXT' major='1' minor='1'>\n  <header>\n"],
     )?;
-    append_table(text, frame_begin())?;
+    append_fields_asked(text, &[required(8), required(9)])?;
     append_table(text, header())?;
     append(text, &["  </header>\n"])
 }
 
-#[tactic(auto, unfolding(crate::specs::Dictionaries::trailer_text))]
+#[tactic(auto, unfolding(crate::specs::Dictionaries::trailer_text, crate::specs::Layout::frame_end))]
 fn append_trailer(text: &mut Vec<u8>) -> Result<(), WriteFault>
     ensures { OnOk result (text.new.items ≡ text.old.items ++ trailer_text) }
 {
     append(text, &["  <trailer>\n"])?;
-    append_table(text, frame_end())?;
+    append_fields_asked(text, &[required(10)])?;
     append(text, &["  </trailer>\n"])
 }
 

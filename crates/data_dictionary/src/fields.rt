@@ -1,6 +1,8 @@
 //! The fields, by their tags: their names and data types in FIX 5.0 SP2.
-ghost use Rattle.std.specs.Prelude.{◌≡◌, IfSome};
-ghost use Rattle.data_dictionary.specs.Fields.{data_type_of, name_of, type_name_of};
+ghost use Rattle.std.specs.Prelude.{◌≡◌, map, nat_eq};
+ghost use Rattle.std.specs.List.{find};
+ghost use Rattle.std.specs.Option.{option_map};
+ghost use Rattle.data_dictionary.specs.Fields.{field_with, fields, seen, type_name_of};
 ghost use Rattle.data_dictionary.specs.Layout.{application_tags, transport_tags};
 
 /// A data type of FIX 5.0 SP2, narrowed where the venue reads few values.
@@ -38,6 +40,110 @@ pub(crate) enum DataType {
     Utc,
 }
 
+/// A field of FIX 5.0 SP2.
+#[derive(Clone, Copy)]
+pub(crate) struct Field {
+    pub tag: u32,
+    pub name: &'static str,
+    pub data_type: DataType,
+}
+
+macro_rules! field {
+    ($tag:expr, $name:expr, $data_type:expr) => {
+        Field {
+            tag: $tag,
+            name: $name,
+            data_type: $data_type,
+        }
+    };
+}
+
+// In rising order of the tags. QuoteType (537) is a character here, as the venue reads it, and an integer in FIX.
+const FIELDS: [Field; 82] = [
+    field!(7, "BeginSeqNo", DataType::SequenceNumber),
+    field!(8, "BeginString", DataType::Text),
+    field!(9, "BodyLength", DataType::Length),
+    field!(10, "CheckSum", DataType::Text),
+    field!(11, "ClOrdID", DataType::Text),
+    field!(14, "CumQty", DataType::Quantity),
+    field!(16, "EndSeqNo", DataType::SequenceNumber),
+    field!(17, "ExecID", DataType::Text),
+    field!(31, "LastPx", DataType::Price),
+    field!(32, "LastQty", DataType::Quantity),
+    field!(34, "MsgSeqNum", DataType::SequenceNumber),
+    field!(35, "MsgType", DataType::Text),
+    field!(36, "NewSeqNo", DataType::SequenceNumber),
+    field!(37, "OrderID", DataType::Text),
+    field!(38, "OrderQty", DataType::Quantity),
+    field!(39, "OrdStatus", DataType::Character),
+    field!(40, "OrdType", DataType::Character),
+    field!(41, "OrigClOrdID", DataType::Text),
+    field!(43, "PossDupFlag", DataType::Flag),
+    field!(44, "Price", DataType::Price),
+    field!(45, "RefSeqNum", DataType::SequenceNumber),
+    field!(49, "SenderCompID", DataType::Text),
+    field!(52, "SendingTime", DataType::Utc),
+    field!(54, "Side", DataType::Side),
+    field!(55, "Symbol", DataType::Text),
+    field!(56, "TargetCompID", DataType::Text),
+    field!(58, "Text", DataType::Text),
+    field!(59, "TimeInForce", DataType::Character),
+    field!(60, "TransactTime", DataType::Utc),
+    field!(62, "ValidUntilTime", DataType::Utc),
+    field!(97, "PossResend", DataType::Flag),
+    field!(98, "EncryptMethod", DataType::NoEncryption),
+    field!(102, "CxlRejReason", DataType::Integer),
+    field!(103, "OrdRejReason", DataType::Integer),
+    field!(108, "HeartBtInt", DataType::Integer),
+    field!(112, "TestReqID", DataType::Text),
+    field!(117, "QuoteID", DataType::Text),
+    field!(122, "OrigSendingTime", DataType::Utc),
+    field!(123, "GapFillFlag", DataType::Flag),
+    field!(131, "QuoteReqID", DataType::Text),
+    field!(132, "BidPx", DataType::Price),
+    field!(133, "OfferPx", DataType::Price),
+    field!(134, "BidSize", DataType::Quantity),
+    field!(135, "OfferSize", DataType::Quantity),
+    field!(141, "ResetSeqNumFlag", DataType::Flag),
+    field!(146, "NoRelatedSym", DataType::One),
+    field!(150, "ExecType", DataType::Character),
+    field!(151, "LeavesQty", DataType::Quantity),
+    field!(262, "MDReqID", DataType::Text),
+    field!(263, "SubscriptionRequestType", DataType::Character),
+    field!(264, "MarketDepth", DataType::Integer),
+    field!(267, "NoMDEntryTypes", DataType::Count),
+    field!(268, "NoMDEntries", DataType::Count),
+    field!(269, "MDEntryType", DataType::Character),
+    field!(270, "MDEntryPx", DataType::Price),
+    field!(271, "MDEntrySize", DataType::Quantity),
+    field!(278, "MDEntryID", DataType::Text),
+    field!(281, "MDReqRejReason", DataType::Character),
+    field!(297, "QuoteStatus", DataType::Integer),
+    field!(298, "QuoteCancelType", DataType::Integer),
+    field!(300, "QuoteRejectReason", DataType::Integer),
+    field!(371, "RefTagID", DataType::Integer),
+    field!(372, "RefMsgType", DataType::Text),
+    field!(373, "SessionRejectReason", DataType::Integer),
+    field!(380, "BusinessRejectReason", DataType::Integer),
+    field!(434, "CxlRejResponseTo", DataType::Character),
+    field!(447, "PartyIDSource", DataType::Character),
+    field!(448, "PartyID", DataType::Text),
+    field!(452, "PartyRole", DataType::Integer),
+    field!(453, "NoPartyIDs", DataType::Count),
+    field!(537, "QuoteType", DataType::Character),
+    field!(548, "CrossID", DataType::Text),
+    field!(549, "CrossType", DataType::Integer),
+    field!(550, "CrossPrioritization", DataType::Integer),
+    field!(552, "NoSides", DataType::Two),
+    field!(583, "ClOrdLinkID", DataType::Text),
+    field!(658, "QuoteRequestRejectReason", DataType::Integer),
+    field!(693, "QuoteRespID", DataType::Text),
+    field!(694, "QuoteRespType", DataType::Integer),
+    field!(880, "TrdMatchID", DataType::Text),
+    field!(1128, "ApplVerID", DataType::Text),
+    field!(1137, "DefaultApplVerID", DataType::Version),
+];
+
 // The tags of each dictionary, in rising order.
 const TRANSPORT: [u32; 26] = [
     7, 8, 9, 10, 16, 34, 35, 36, 43, 45, 49, 52, 56, 58, 97, 98, 108, 112, 122, 123, 141, 371, 372,
@@ -51,7 +157,7 @@ const APPLICATION: [u32; 59] = [
 ];
 
 /// The tags of the frame, the header and the session's messages.
-#[tactic(auto, unfolding(crate::specs::Layout::transport_tags, crate::specs::Layout::frame_begin, crate::specs::Layout::frame_end, crate::specs::Layout::header_told, crate::specs::Layout::rows_told, crate::specs::MessageTypes::session_types, crate::specs::MessageTypes::code_of))]
+#[tactic(auto, unfolding(crate::specs::Layout::transport_tags, crate::specs::Layout::frame_begin, crate::specs::Layout::frame_end, crate::specs::MessageTypes::session_types))]
 pub(crate) fn transport_tags() -> &'static [u32]
     ensures { result.now ≡ transport_tags }
 {
@@ -59,7 +165,7 @@ pub(crate) fn transport_tags() -> &'static [u32]
 }
 
 /// The tags of the application messages.
-#[tactic(auto, unfolding(crate::specs::Layout::application_tags, crate::specs::Layout::rows_told, crate::specs::MessageTypes::application_types, crate::specs::MessageTypes::code_of))]
+#[tactic(auto, unfolding(crate::specs::Layout::application_tags, crate::specs::MessageTypes::application_types))]
 pub(crate) fn application_tags() -> &'static [u32]
     ensures { result.now ≡ application_tags }
 {
@@ -90,96 +196,23 @@ pub(crate) fn type_name_of(data_type: DataType) -> &'static str
     }
 }
 
-/// The name of the field with this tag, and its data type. QuoteType (537) is a character here, as the venue reads it, and an integer
-/// in FIX.
-#[tactic(auto, unfolding(crate::specs::Fields::name_of, crate::specs::Fields::data_type_of))]
-pub(crate) fn field_of(tag: u32) -> Option<(&'static str, DataType)>
-    ensures name { IfSome result (λ field. field.0.now ≡ name_of tag) }
-    ensures data_type { IfSome result (λ field. field.1 ≡ data_type_of tag) }
+#[tactic(auto, unfolding(crate::specs::Fields::fields))]
+fn fields() -> &'static [Field]
+    ensures { map seen result.now ≡ fields }
 {
-    Some(match tag {
-        7 => ("BeginSeqNo", DataType::SequenceNumber),
-        8 => ("BeginString", DataType::Text),
-        9 => ("BodyLength", DataType::Length),
-        10 => ("CheckSum", DataType::Text),
-        11 => ("ClOrdID", DataType::Text),
-        14 => ("CumQty", DataType::Quantity),
-        16 => ("EndSeqNo", DataType::SequenceNumber),
-        17 => ("ExecID", DataType::Text),
-        31 => ("LastPx", DataType::Price),
-        32 => ("LastQty", DataType::Quantity),
-        34 => ("MsgSeqNum", DataType::SequenceNumber),
-        35 => ("MsgType", DataType::Text),
-        36 => ("NewSeqNo", DataType::SequenceNumber),
-        37 => ("OrderID", DataType::Text),
-        38 => ("OrderQty", DataType::Quantity),
-        39 => ("OrdStatus", DataType::Character),
-        40 => ("OrdType", DataType::Character),
-        41 => ("OrigClOrdID", DataType::Text),
-        43 => ("PossDupFlag", DataType::Flag),
-        44 => ("Price", DataType::Price),
-        45 => ("RefSeqNum", DataType::SequenceNumber),
-        49 => ("SenderCompID", DataType::Text),
-        52 => ("SendingTime", DataType::Utc),
-        54 => ("Side", DataType::Side),
-        55 => ("Symbol", DataType::Text),
-        56 => ("TargetCompID", DataType::Text),
-        58 => ("Text", DataType::Text),
-        59 => ("TimeInForce", DataType::Character),
-        60 => ("TransactTime", DataType::Utc),
-        62 => ("ValidUntilTime", DataType::Utc),
-        97 => ("PossResend", DataType::Flag),
-        98 => ("EncryptMethod", DataType::NoEncryption),
-        102 => ("CxlRejReason", DataType::Integer),
-        103 => ("OrdRejReason", DataType::Integer),
-        108 => ("HeartBtInt", DataType::Integer),
-        112 => ("TestReqID", DataType::Text),
-        117 => ("QuoteID", DataType::Text),
-        122 => ("OrigSendingTime", DataType::Utc),
-        123 => ("GapFillFlag", DataType::Flag),
-        131 => ("QuoteReqID", DataType::Text),
-        132 => ("BidPx", DataType::Price),
-        133 => ("OfferPx", DataType::Price),
-        134 => ("BidSize", DataType::Quantity),
-        135 => ("OfferSize", DataType::Quantity),
-        141 => ("ResetSeqNumFlag", DataType::Flag),
-        146 => ("NoRelatedSym", DataType::One),
-        150 => ("ExecType", DataType::Character),
-        151 => ("LeavesQty", DataType::Quantity),
-        262 => ("MDReqID", DataType::Text),
-        263 => ("SubscriptionRequestType", DataType::Character),
-        264 => ("MarketDepth", DataType::Integer),
-        267 => ("NoMDEntryTypes", DataType::Count),
-        268 => ("NoMDEntries", DataType::Count),
-        269 => ("MDEntryType", DataType::Character),
-        270 => ("MDEntryPx", DataType::Price),
-        271 => ("MDEntrySize", DataType::Quantity),
-        278 => ("MDEntryID", DataType::Text),
-        281 => ("MDReqRejReason", DataType::Character),
-        297 => ("QuoteStatus", DataType::Integer),
-        298 => ("QuoteCancelType", DataType::Integer),
-        300 => ("QuoteRejectReason", DataType::Integer),
-        371 => ("RefTagID", DataType::Integer),
-        372 => ("RefMsgType", DataType::Text),
-        373 => ("SessionRejectReason", DataType::Integer),
-        380 => ("BusinessRejectReason", DataType::Integer),
-        434 => ("CxlRejResponseTo", DataType::Character),
-        447 => ("PartyIDSource", DataType::Character),
-        448 => ("PartyID", DataType::Text),
-        452 => ("PartyRole", DataType::Integer),
-        453 => ("NoPartyIDs", DataType::Count),
-        537 => ("QuoteType", DataType::Character),
-        548 => ("CrossID", DataType::Text),
-        549 => ("CrossType", DataType::Integer),
-        550 => ("CrossPrioritization", DataType::Integer),
-        552 => ("NoSides", DataType::Two),
-        583 => ("ClOrdLinkID", DataType::Text),
-        658 => ("QuoteRequestRejectReason", DataType::Integer),
-        693 => ("QuoteRespID", DataType::Text),
-        694 => ("QuoteRespType", DataType::Integer),
-        880 => ("TrdMatchID", DataType::Text),
-        1128 => ("ApplVerID", DataType::Text),
-        1137 => ("DefaultApplVerID", DataType::Version),
-        _ => return None,
-    })
+    &FIELDS
+}
+
+// The first of these fields that has this tag.
+fn first_of(fields: &[Field], tag: u32) -> Option<&Field>
+    ensures { option_map (λ field. field.now) result ≡ find (λ field. nat_eq field.tag tag) fields.now }
+{
+    fields.iter().find(|field| field.tag == tag)
+}
+
+/// The field with this tag.
+pub(crate) fn field_of(tag: u32) -> Option<Field>
+    ensures { option_map seen result ≡ field_with tag }
+{
+    first_of(fields(), tag).copied()
 }

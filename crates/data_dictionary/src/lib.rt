@@ -7,7 +7,6 @@ mod fields;
 mod laws;
 mod lines;
 mod message_types;
-mod tables;
 
 pub use dictionaries::{Dictionary, write_dictionary};
 pub use faults::WriteFault;

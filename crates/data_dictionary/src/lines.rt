@@ -2,20 +2,27 @@
 ghost use Rattle.std.specs.Prelude.{◌≡◌, ◌++◌, OnOk};
 ghost use Rattle.std.specs.List.{flat_map};
 ghost use Rattle.fix_fields.specs.Views.{joined};
-ghost use Rattle.data_dictionary.specs.Dictionaries.{answer, attributes, line_text, table_text};
-ghost use Rattle.data_dictionary.specs.Layout.{is_counted, lines_in};
+ghost use Rattle.data_dictionary.specs.Dictionaries.{answer, attributes, fields_asked, line_text, table_text};
+ghost use Rattle.data_dictionary.specs.Layout.{is_counted, lines_in, required, told};
 
 use crate::faults::WriteFault;
 use crate::fields::field_of;
-use crate::tables::Row;
+use fix_tables::Row;
+
+/// How a line names a field: by its tag, and with whether it is required.
+#[derive(Clone, Copy)]
+pub(crate) struct Mention {
+    pub tag: u32,
+    pub required: bool,
+}
 
 /// A line of a message.
 #[derive(Clone, Copy)]
 pub(crate) enum Line {
     /// a field
-    Field(Row),
+    Field(Mention),
     /// the count field of a group, whose instances' rows have the lines up to the group's end
-    GroupBegin(Row),
+    GroupBegin(Mention),
     GroupEnd,
 }
 
@@ -36,17 +43,43 @@ fn answer(required: bool) -> &'static str
     if required { "Y" } else { "N" }
 }
 
-// Appends which field a row has, and whether it is required.
-#[tactic(auto, unfolding(crate::specs::Dictionaries::attributes))]
-fn append_attributes(text: &mut Vec<u8>, row: Row) -> Result<(), WriteFault>
-    ensures { OnOk result (text.new.items ≡ text.old.items ++ attributes row) }
+/// A field that each message has.
+pub(crate) fn required(tag: u32) -> Mention
+    ensures { result ≡ required tag }
 {
-    let Some((name, _)) = field_of(row.tag) else {
+    Mention {
+        tag,
+        required: true,
+    }
+}
+
+// What a line says of a row.
+fn told(row: &Row) -> Mention
+    ensures { result ≡ told row.now }
+{
+    Mention {
+        tag: row.tag,
+        required: row.required,
+    }
+}
+
+// Appends which field it is, and whether it is required.
+#[tactic(auto, unfolding(crate::specs::Dictionaries::attributes))]
+fn append_attributes(text: &mut Vec<u8>, field: Mention) -> Result<(), WriteFault>
+    ensures { OnOk result (text.new.items ≡ text.old.items ++ attributes field) }
+{
+    let Some(known) = field_of(field.tag) else {
         return Err(WriteFault::Unnamed);
     };
     append(
         text,
-        &[" name='", name, "' required='", answer(row.required), "'"],
+        &[
+            " name='",
+            known.name,
+            "' required='",
+            answer(field.required),
+            "'",
+        ],
     )
 }
 
@@ -55,14 +88,14 @@ fn append_line(text: &mut Vec<u8>, line: Line) -> Result<(), WriteFault>
     ensures { OnOk result (text.new.items ≡ text.old.items ++ line_text line) }
 {
     match line {
-        Line::Field(row) => {
+        Line::Field(field) => {
             append(text, &["      <field"])?;
-            append_attributes(text, row)?;
+            append_attributes(text, field)?;
             append(text, &["/>\n"])
         }
-        Line::GroupBegin(row) => {
+        Line::GroupBegin(field) => {
             append(text, &["      <group"])?;
-            append_attributes(text, row)?;
+            append_attributes(text, field)?;
             append(text, &[">\n"])
         }
         Line::GroupEnd => append(text, &["      </group>\n"]),
@@ -87,10 +120,10 @@ fn append_rows(text: &mut Vec<u8>, group: u32, rows: &[Row]) -> Result<(), Write
         return append_rows(text, group, rest);
     }
     if !is_counted(row.tag, rest) {
-        append_line(text, Line::Field(*row))?;
+        append_line(text, Line::Field(told(row)))?;
         return append_rows(text, group, rest);
     }
-    append_line(text, Line::GroupBegin(*row))?;
+    append_line(text, Line::GroupBegin(told(row)))?;
     append_rows(text, row.tag, rest)?;
     append_line(text, Line::GroupEnd)?;
     append_rows(text, group, rest)
@@ -102,4 +135,15 @@ pub(crate) fn append_table(text: &mut Vec<u8>, rows: &[Row]) -> Result<(), Write
     ensures { OnOk result (text.new.items ≡ text.old.items ++ table_text rows.now) }
 {
     append_rows(text, 0, rows)
+}
+
+/// Appends the lines of fields that stand in no group.
+#[tactic(auto, unfolding(crate::specs::Dictionaries::fields_asked))]
+pub(crate) fn append_fields_asked(text: &mut Vec<u8>, fields: &[Mention]) -> Result<(), WriteFault>
+    ensures { OnOk result (text.new.items ≡ text.old.items ++ fields_asked fields.now) }
+{
+    for field in fields {
+        append_line(text, Line::Field(*field))?;
+    }
+    Ok(())
 }

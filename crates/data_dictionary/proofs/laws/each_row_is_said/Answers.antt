@@ -1,38 +1,36 @@
-use Rattle.std.proofs.Common.{refl}
-use Rattle.data_dictionary.specs.declared.message_types.MessageType.{MessageType}
-use Rattle.data_dictionary.specs.declared.message_types.MessageType.TheVariants as types
+use Rattle.std.proofs.Common.{refl, ℕ}
+use Rattle.fix_dictionary.specs.declared.kinds.MessageType.{MessageType}
+use Rattle.fix_dictionary.specs.declared.kinds.MessageType.TheVariants as types
+use Rattle.fix_tables.specs.Tables.{rows_of}
 use Rattle.data_dictionary.specs.Laws.{SaysEachRow}
-use Rattle.data_dictionary.specs.Layout.{header_told, rows_told}
-use Rattle.data_dictionary.specs.MessageTypes.{code_of}
 use Rattle.data_dictionary.proofs.laws.each_row_is_said.Goals as goal
 
 -- type by type
-said : (kind : MessageType) → SaysEachRow (rows_told kind)
-unfolding rows_told code_of
-said types.Heartbeat = refl
-said types.TestRequest = refl
-said types.ResendRequest = refl
-said types.Reject = refl
-said types.SequenceReset = refl
-said types.Logout = refl
-said types.Logon = refl
-said types.QuoteRequest = refl
-said types.Quote = refl
-said types.QuoteCancel = refl
-said types.QuoteResponse = refl
-said types.QuoteStatusReport = refl
-said types.QuoteRequestReject = refl
-said types.NewOrderSingle = refl
-said types.OrderCancelRequest = refl
-said types.OrderCancelReplaceRequest = refl
-said types.NewOrderCross = refl
-said types.ExecutionReport = refl
-said types.OrderCancelReject = refl
-said types.MarketDataRequest = refl
-said types.MarketDataSnapshot = refl
-said types.MarketDataRequestReject = refl
-said types.BusinessMessageReject = refl
+said : (kind : MessageType) (begin : ℕ) → SaysEachRow (rows_of kind begin)
+said types.Heartbeat begin = refl
+said types.TestRequest begin = refl
+said types.ResendRequest begin = refl
+said types.Reject begin = refl
+said types.SequenceReset begin = refl
+said types.Logout begin = refl
+said types.Logon begin = refl
+said types.QuoteRequest begin = refl
+said types.Quote begin = refl
+said types.QuoteRequestReject begin = refl
+said types.QuoteCancel begin = refl
+said types.QuoteResponse begin = refl
+said types.QuoteStatusReport begin = refl
+said types.NewOrderSingle begin = refl
+said types.OrderCancelRequest begin = refl
+said types.OrderCancelReplaceRequest begin = refl
+said types.NewOrderCross begin = refl
+said types.ExecutionReport begin = refl
+said types.OrderCancelReject begin = refl
+said types.MarketDataRequest begin = refl
+said types.MarketDataSnapshot begin = refl
+said types.MarketDataRequestReject begin = refl
+said types.BusinessMessageReject begin = refl
+said types.Unsupported begin = refl
 
 pub returns : goal.returns
-unfolding header_told
 returns c = (refl, said)

@@ -3,7 +3,7 @@ use Rattle.std.specs.Str.{bytes_eq}
 use Rattle.fix_tables.specs.Tables.{rows_of}
 use Rattle.fix_dictionary.specs.Kinds.{type_of}
 use Rattle.data_dictionary.specs.Laws.{codes_told, is_among}
-use Rattle.data_dictionary.specs.MessageTypes.{application_types, code_of, session_types}
+use Rattle.data_dictionary.specs.MessageTypes.{application_types, session_types}
 use Rattle.data_dictionary.proofs.laws.each_table_is_told.Goals as goal
 
 either : (b : Bool) → (b ≡ true) ⊎ (b ≡ false)
@@ -20,7 +20,7 @@ second false b e = e
 
 -- none of the types is it: test by test
 no_rows : (kind : List ℕ) (begin : ℕ) → is_among kind codes_told ≡ false → length (rows_of (type_of kind) begin) ≡ 0
-unfolding session_types application_types code_of
+unfolding session_types application_types
 no_rows kind begin e0 =
     let e1 = second _ _ e0 in
     let e2 = second _ _ e1 in
@@ -93,5 +93,5 @@ no_rows kind begin e0 =
     refl)))))))))))))))))))))))
 
 pub returns : goal.returns
-unfolding session_types application_types code_of
+unfolding session_types application_types
 returns c = (λ kind begin. elim (either (is_among kind codes_told)) [ inl e ↦ inl e | inr e ↦ inr (no_rows kind begin e) ], refl)
