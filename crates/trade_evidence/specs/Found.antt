@@ -1,5 +1,7 @@
 -- What is found of a trade in the words of its day, so that its lines are there.
 use Rattle.std.specs.Prelude.{◌≡◌, ℕ, ℤ, ◌-◌, min, List, ◌∷◌, ◌++◌, Contains, Option, None, Some, filter, find, flat_map, length, map, slice_get}
+use Rattle.fix_dictionary.specs.declared.messages.App.{App}
+use Rattle.fix_dictionary.specs.declared.messages.App.TheVariants.{OrderCancelReplaceRequest}
 use Rattle.instruments.specs.Listing.{symbol_of}
 use Rattle.sef_moment.specs.Utc.{greatest}
 use Rattle.venue_rules.specs.declared.facts.Entry.{Entry}
@@ -76,8 +78,17 @@ abbrev pub moment_told : Input → Entry → ℕ
 moment_told (Message taken t) e = e.moment
 moment_told (Tick t) e = min e.moment greatest
 
+-- the identifier of the order whose place an order takes
+abbrev pub original_of : App → Option (List ℕ)
+original_of (OrderCancelReplaceRequest d) = Some d.original_id
+original_of _ = None
+
+abbrev pub original_told : Input → Option (List ℕ)
+original_told (Message taken t) = original_of taken.item.app
+original_told (Tick t) = None
+
 -- what an order's lines are made of is what the order was as it entered, and the row is that at which it did; the link is the one that it carries, or
--- that the order had whose place it takes
+-- that the order had whose place it takes, which is told by the identifier that the message names
 pub record TellsOrder (m : Market) (rs : List TrailRow) (is : List Input) (e : Entry) (x : OrderEntry) : Type 0 where
   pub row : TrailRow
   pub input : Input
@@ -92,6 +103,7 @@ pub record TellsOrder (m : Market) (rs : List TrailRow) (is : List Input) (e : E
   pub quantity : x.entered.quantity ≡ e.order.quantity
   pub price : x.entered.price ≡ price_told input e
   pub link : link_id x.entered.link ≡ e.order.link
+  pub original : x.entered.original ≡ original_told input
 
 -- an order that is met
 abbrev pub met_told : Market → Entry → Met
