@@ -1,5 +1,5 @@
 -- The words of a day have the request of the room of each trade that came about in one, as the room was opened, and tell its recipients.
-use Rattle.std.proofs.Common.{◌≡◌, refl, sym, ap, subst, ◌∙◌, ◌⊎◌, inl, inr, ℕ, ◌+◌, ◌-◌, ◌<◌, ◌==◌, Bool, true, false, cond, List, [], ◌∷◌, ◌++◌, map, filter, filter_map, find, length, Some, append-nil, eq-eqb, ne_eqb, arith}
+use Rattle.std.proofs.Common.{◌≡◌, refl, sym, ap, subst, ◌∙◌, ◌⊎◌, inl, inr, ℕ, ◌+◌, ◌-◌, ◌<◌, ◌==◌, Bool, true, false, cond, List, [], ◌∷◌, ◌++◌, map, filter, filter_map, find, length, Option, Some, append-nil, eq-eqb, ne_eqb, arith}
 use Rattle.std.specs.List.{cons_option, flat_map}
 use Rattle.std.proofs.lemmas.List.Elements.{filter-append}
 use Rattle.venue_rules.specs.declared.facts.Fact.{Fact}
@@ -20,7 +20,7 @@ use Rattle.trade_evidence.specs.declared.word.Said.{Said}
 use Rattle.trade_evidence.specs.declared.word.Said.TheVariants as said
 use Rattle.trade_evidence.specs.declared.word.Word.{Word}
 use Rattle.trade_evidence.specs.Found.{HasRequest}
-use Rattle.trade_evidence.specs.Lines.{is_asked, is_asked_said, is_sought, room_found_said, room_of as lines_of_room}
+use Rattle.trade_evidence.specs.Lines.{evidence, is_asked, is_asked_said, is_sought, lines_in, request_line, room_found_said, room_of as lines_of_room, room_word, trade_line, trade_row}
 use Rattle.venue_core.specs.Replay.{AreTold}
 use Rattle.trade_evidence.specs.Told.{trade_numbered, words_told}
 use Rattle.trade_evidence.proofs.Members.{Contains-from_In, In, In-append_cases, In-append_left, In-filter_map, In-from_Contains, In-map, Places, Places-above, Places-from, Places-unmap, found_first, found_past, found_picked, kept_all, kept_none, none_is_some, picked_from, picked_passes, same_some}
@@ -166,9 +166,19 @@ one_of : (rs : List ℕ) → 0 < length rs → (to : ℕ) × (others : List ℕ)
 one_of [] many = absurd (omega (arith, many))
 one_of (to ∷ others) many = (to, others, refl)
 
-has_request : (m : Market) (rs : List TrailRow) (is : List Input) (number : ℕ) → AreTold rs is → (p : Opened) → In p (added room_in_fact m no_history rs is) → Places number_of 0 (added room_in_fact m no_history rs is) → 0 < length p.2.recipients
-    → HasRequest m rs is (words_told m number rs is) (number_of p)
-has_request m rs is number told p i places many =
+-- the evidence for a trade in a room is the room's, whose request this is
+room_evidence : (m : Market) (words : List Word) (t : TradeFact) (room : ℕ) (w : Word) (a : Asked) → t.room ≡ Some room → find (is_sought (Request room)) words ≡ Some w → w.said ≡ said.Asked a
+    → evidence m words t ≡ (request_line m.participants w a ++ flat_map (room_word m.participants words a) words) ++ trade_line m t (trade_row words t)
+unfolding evidence
+room_evidence m words t room w a placed found says =
+    let file = m.participants in
+    let row = trade_row words t in
+    ap (λ (o : Option ℕ). lines_in file words t.number o row ++ trade_line m t row) placed
+    ∙ ap (λ (l : List ℕ). l ++ trade_line m t row) (ap (lines_of_room file words) found ∙ ap (room_found_said file words w) says)
+
+has_request : (m : Market) (rs : List TrailRow) (is : List Input) (number : ℕ) (t : TradeFact) → AreTold rs is → (p : Opened) → In p (added room_in_fact m no_history rs is) → Places number_of 0 (added room_in_fact m no_history rs is)
+    → 0 < length p.2.recipients → t.room ≡ Some (number_of p) → HasRequest m rs is (words_told m number rs is) t (number_of p)
+has_request m rs is number t told p i places many placed =
     let words = words_told m number rs is in
     let all = added room_in_fact m no_history rs is in
     let room = number_of p in
@@ -186,7 +196,7 @@ has_request m rs is number told p i places many =
       found = w.1;
       says = a.1;
       here = ap (λ (y : HeardAsked). y.room) a.2;
-      lines = λ file. ap (lines_of_room file words) w.1 ∙ ap (room_found_said file words w.0) a.1;
+      lines = room_evidence m words t room w.0 a.0 placed w.1 a.1;
       opened = p.2;
       row = p.0;
       input = p.1;
@@ -212,7 +222,7 @@ abbrev pub RoomTradesLaw : Type 0
 RoomTradesLaw = (m : Market) (is : List Input) → RoomTradesAreLawful m is
 
 pub room_trades_have_requests : RoomTradesLaw → PlacesLaw → (m : Market) (rs : List TrailRow) (is : List Input) (number room : ℕ) (t : TradeFact) → AreTold rs is
-    → trade_numbered (run m is).history number ≡ Some t → t.room ≡ Some room → HasRequest m rs is (words_told m number rs is) room
+    → trade_numbered (run m is).history number ≡ Some t → t.room ≡ Some room → HasRequest m rs is (words_told m number rs is) t room
 room_trades_have_requests law numbers m rs is number room t told numbered placed =
     let facts = (run m is).history.facts in
     let x = numbered_trade (trades facts) 1 (number - 1) t (numbered_at (trade_facts facts) number t numbered) in
@@ -228,7 +238,8 @@ room_trades_have_requests law numbers m rs is number room t told numbered placed
     let p = In-map it all lawful.asked (subst (In lawful.asked) same asked_in_it) in
     let many : 0 < length lawful.asked.recipients = let c = lawful.three_unrelated.3 in omega (arith, c.1) in
     let some : 0 < length p.0.2.recipients = subst (λ (r : Room). 0 < length r.recipients) (sym p.2) many in
-    subst (HasRequest m rs is (words_told m number rs is)) (ap (λ (r : Room). r.number) p.2 ∙ lawful.number) (has_request m rs is number told p.0 p.1 places some)
+    let same_room : number_of p.0 ≡ room = ap (λ (r : Room). r.number) p.2 ∙ lawful.number in
+    subst (HasRequest m rs is (words_told m number rs is) t) same_room (has_request m rs is number t told p.0 p.1 places some (placed ∙ ap (λ (n : ℕ). Some n) (sym same_room)))
   where
     from_zero : (k : ℕ) → k + 1 ≡ 0 + k + 1
     from_zero k = omega arith

@@ -18,6 +18,7 @@ use Rattle.trade_evidence.specs.declared.word.Word.{Word}
 use Rattle.trade_evidence.specs.Said.{words_of}
 use Rattle.trade_evidence.specs.Standing.{stood_at}
 use Rattle.venue_core.specs.Replay.{AreTold, Tells}
+use Rattle.trade_evidence.specs.Found.{original_told}
 use Rattle.trade_evidence.specs.Told.{came_of, words_at, words_from}
 use Rattle.trade_evidence.proofs.Members.{In, In-append_cases, In-map}
 use Rattle.trade_evidence.proofs.Says.{HeardAsked, HeardEntry, HeardFill, HeardHit, HeardHold, IsDeaf, asking-deaf, asking_in, askings_say, entries_say, entry-deaf, entry_in, fill-deaf, fill_in, fills_say, hits_say, hold-deaf, hold_in, holds_say, stood_silent, traded-deaf, traded_in}
@@ -103,7 +104,7 @@ row_says pick deaf m h number words r i =
 -- entries
 
 abbrev pub entry_at : Market → TrailRow × Input × Entry → HeardEntry
-entry_at m p = told_entry m p.0.n p.0.moment (is_tick_input p.1) p.2
+entry_at m p = told_entry m p.0.n p.0.moment (is_tick_input p.1) (original_told p.1) p.2
 
 entries_step : (m : Market) (number : ℕ) (h : History) (words : List Word) (r : TrailRow) (i : Input) (rs : List TrailRow) (is : List Input) → Tells r i
     → filter_map entry_in (words_at m h number words r i) ++ map (entry_at m) (added entry_in_fact m (after h (answer_input m h i)) rs is) ≡ map (entry_at m) (added entry_in_fact m h (r ∷ rs) (i ∷ is))

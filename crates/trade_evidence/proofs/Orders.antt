@@ -120,7 +120,7 @@ traded_fact (fact.Closed y) x h = absurd (none_is_some x h)
 -- What a word that is found says.
 
 abbrev heard : Word → Entered → HeardEntry
-heard w e = record { row = w.row; moment = w.moment; to = w.to; order = e.order; id = e.id; symbol = e.symbol; side = e.side; quantity = e.quantity; price = e.price; at_tick = e.at_tick }
+heard w e = record { row = w.row; moment = w.moment; to = w.to; order = e.order; id = e.id; symbol = e.symbol; side = e.side; quantity = e.quantity; price = e.price; original = e.original; at_tick = e.at_tick }
 
 entered_in : (w : Word) (s : Said) (y : HeardEntry) → entry_of_said w s ≡ Some y → (e : Entered) × (s ≡ said.Entered e) × (heard w e ≡ y)
 entered_in w (said.Entered e) y h = (e, refl, same_some (heard w e) y h)
@@ -290,6 +290,7 @@ entry_found m number rs is told places p i =
         side = ap (λ (y : HeardEntry). y.side) x.2;
         quantity = ap (λ (y : HeardEntry). y.quantity) x.2;
         price = ap (λ (y : HeardEntry). y.price) x.2 ∙ at_its_price p.1 p.2;
+        original = ap (λ (y : HeardEntry). y.original) x.2;
         link = link_found m number rs is told p.2 (ap (find (λ (y : Entry). y.number == n)) same ∙ found_map_back all p (Places-found (λ (q : TrailRow × Input × Entry). q.2.number) 0 all places p i)) w.0 x.0 w.1 x.1;
       };
     }

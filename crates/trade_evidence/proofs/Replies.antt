@@ -56,7 +56,7 @@ use Rattle.trade_evidence.specs.declared.came.Came.{Came}
 use Rattle.trade_evidence.specs.declared.came.Came.TheVariants as came
 use Rattle.trade_evidence.specs.declared.word.Word.{Word}
 use Rattle.trade_evidence.specs.declared.standing.Met.{Met}
-use Rattle.trade_evidence.specs.Found.{met_told}
+use Rattle.trade_evidence.specs.Found.{met_told, original_of, original_told}
 use Rattle.trade_evidence.specs.Said.{came_in, is_tick, price_in}
 use Rattle.trade_evidence.specs.Standing.{met_of}
 use Rattle.venue_core.specs.Replay.{Tells}
@@ -75,11 +75,11 @@ abbrev pub moment_at : Bool → ℕ → ℕ → ℕ
 moment_at true row entry = row
 moment_at false row entry = entry
 
-abbrev pub heard_with : Market → ℕ → Entry → ℕ → Option ℤ → Bool → HeardEntry
-heard_with m n e moment price tick = record { row = n; moment = moment; to = e.order.who; order = e.number; id = e.order.id; symbol = symbol_of m.instruments e.order.instrument; side = e.order.side; quantity = e.order.quantity; price = price; at_tick = tick }
+abbrev pub heard_with : Market → ℕ → Entry → ℕ → Option ℤ → Option (List ℕ) → Bool → HeardEntry
+heard_with m n e moment price original tick = record { row = n; moment = moment; to = e.order.who; order = e.number; id = e.order.id; symbol = symbol_of m.instruments e.order.instrument; side = e.order.side; quantity = e.order.quantity; price = price; original = original; at_tick = tick }
 
-abbrev pub told_entry : Market → ℕ → ℕ → Bool → Entry → HeardEntry
-told_entry m n t tick e = heard_with m n e (moment_at tick t e.moment) (price_at tick e.order.price) tick
+abbrev pub told_entry : Market → ℕ → ℕ → Bool → Option (List ℕ) → Entry → HeardEntry
+told_entry m n t tick original e = heard_with m n e (moment_at tick t e.moment) (price_at tick e.order.price) original tick
 
 -- of a trade in the book, the order that entered and the one that rested
 abbrev pub pair_told : ℕ → ℕ → Place → List HeardFill → List HeardFill
@@ -145,11 +145,12 @@ pub record Here : Type 0 where
   pub row : ℕ
   pub moment : ℕ
   pub came : Came
+  pub original : Option (List ℕ)
   pub tick : Bool
 
 abbrev pub Says : Here → History → Answer → Type 0
 Says w h a =
-    (filter_map (entry_by w.row w.moment w.came) a.replies ≡ map (told_entry w.market w.row w.moment w.tick) (entries a.facts))
+    (filter_map (entry_by w.row w.moment w.came) a.replies ≡ map (told_entry w.market w.row w.moment w.tick w.original) (entries a.facts))
     × ((filter_map (fill_by w.row) a.replies ≡ fills_told (next_trade h.facts) (at_row w.row (trades a.facts)))
     × ((filter_map (hold_by w.moment w.came) a.replies ≡ map told_hold (held_sides a.facts))
     × (AreOf (entries a.facts) (trades a.facts)
@@ -354,13 +355,13 @@ trades_of_entry es e (f ∷ fs) i = ((e, i, refl), trades_of_entry es e fs i)
 pub entered_once : (e : Entry) (fs : List Fill) → entries (entry_facts e fs) ≡ e ∷ []
 entered_once e fs = ap (λ es. e ∷ es) (no_entry_facts e fs)
 
-entry_said : (w : Here) (facts : List Fact) (e : Entry) (fs : List Fill) (n : ℕ) (first : ℕ → Reply) → ((k : ℕ) → entry_by w.row w.moment w.came (first k) ≡ Some (told_entry w.market w.row w.moment w.tick e))
-    → filter_map (entry_by w.row w.moment w.came) (numbered n (first ∷ entry_reports w.market facts e fs)) ≡ map (told_entry w.market w.row w.moment w.tick) (entries (entry_facts e fs))
+entry_said : (w : Here) (facts : List Fact) (e : Entry) (fs : List Fill) (n : ℕ) (first : ℕ → Reply) → ((k : ℕ) → entry_by w.row w.moment w.came (first k) ≡ Some (told_entry w.market w.row w.moment w.tick w.original e))
+    → filter_map (entry_by w.row w.moment w.came) (numbered n (first ∷ entry_reports w.market facts e fs)) ≡ map (told_entry w.market w.row w.moment w.tick w.original) (entries (entry_facts e fs))
 entry_said w facts e fs n first is =
     entry_picked (entry_by w.row w.moment w.came) w.market facts e (entry_picks w.row w.moment w.came w.market e) fs n first (λ k. is k ∙ sym (is 0))
     ∙ (ap (λ o. cons_option o (filter_map (λ (f : ℕ → Reply). entry_by w.row w.moment w.came (f 0)) (flat_map (fill_reports w.market e fs (next_trade facts)) (enumerate_from 0 fs)))) (is 0)
-    ∙ (ap (λ l. told_entry w.market w.row w.moment w.tick e ∷ l) (no_entries w.row w.moment w.came w.market e fs (next_trade facts) 0 fs)
-    ∙ sym (ap (map (told_entry w.market w.row w.moment w.tick)) (entered_once e fs))))
+    ∙ (ap (λ l. told_entry w.market w.row w.moment w.tick w.original e ∷ l) (no_entries w.row w.moment w.came w.market e fs (next_trade facts) 0 fs)
+    ∙ sym (ap (map (told_entry w.market w.row w.moment w.tick w.original)) (entered_once e fs))))
 
 fill_said : (w : Here) (facts : List Fact) (e : Entry) (fs : List Fill) (n : ℕ) (first : ℕ → Reply) → ((k : ℕ) → fill_by w.row (first k) ≡ None)
     → filter_map (fill_by w.row) (numbered n (first ∷ entry_reports w.market facts e fs)) ≡ fills_told (next_trade facts) (at_row w.row (trades (entry_facts e fs)))
@@ -402,19 +403,20 @@ met_said w h e n first is =
     (fills_met w.market e fs (next_trade h.facts) 0 fs es (In-append_right (entries h.facts) (entries (entry_facts e fs)) e (inl refl)) (λ f i. In-append_left (entries h.facts) (entries (entry_facts e fs)) f.resting.entry (fill_entered h.facts e.order f i)))
 
 -- what came fits the terms of the order that enters
-pub record Fits (w : Here) (e : Entry) : Type 0 where
+pub record Fits (w : Here) (original : Option (List ℕ)) (e : Entry) : Type 0 where
+  pub from : original ≡ w.original
   pub price : price_in w.came ≡ price_at w.tick e.order.price
   pub tick : is_tick w.came ≡ w.tick
   pub moment : w.moment ≡ moment_at w.tick w.moment e.moment
 
-fitting : (w : Here) (e : Entry) → Fits w e → Some (heard_with w.market w.row e w.moment (price_in w.came) (is_tick w.came)) ≡ Some (told_entry w.market w.row w.moment w.tick e)
-fitting w e f = λ j. Some (heard_with w.market w.row e (f.moment j) (f.price j) (f.tick j))
+fitting : (w : Here) (original : Option (List ℕ)) (e : Entry) → Fits w original e → Some (heard_with w.market w.row e w.moment (price_in w.came) original (is_tick w.came)) ≡ Some (told_entry w.market w.row w.moment w.tick w.original e)
+fitting w original e f = λ j. Some (heard_with w.market w.row e (f.moment j) (f.price j) (f.from j) (f.tick j))
 
 -- the first side of a cross, with which the second is held
 
-accepted_entry : (w : Here) (h : History) (o : OrderFact) (t : ℕ) → Fits w (entering h.facts o 0 t)
-    → filter_map (entry_by w.row w.moment w.came) (accepted w.market h o t).replies ≡ map (told_entry w.market w.row w.moment w.tick) (entries (accepted w.market h o t).facts)
-accepted_entry w h o t f = let e = entering h.facts o 0 t in entry_said w h.facts e (fills h.facts o) h.reports (λ n. reply o.who (OrderEntered (order_report w.market e o.quantity 0 n))) (λ k. fitting w e f)
+accepted_entry : (w : Here) (h : History) (o : OrderFact) (t : ℕ) → Fits w None (entering h.facts o 0 t)
+    → filter_map (entry_by w.row w.moment w.came) (accepted w.market h o t).replies ≡ map (told_entry w.market w.row w.moment w.tick w.original) (entries (accepted w.market h o t).facts)
+accepted_entry w h o t f = let e = entering h.facts o 0 t in entry_said w h.facts e (fills h.facts o) h.reports (λ n. reply o.who (OrderEntered (order_report w.market e o.quantity 0 n))) (λ k. fitting w None e f)
 
 accepted_fill : (w : Here) (h : History) (o : OrderFact) (t : ℕ) → filter_map (fill_by w.row) (accepted w.market h o t).replies ≡ fills_told (next_trade h.facts) (at_row w.row (trades (accepted w.market h o t).facts))
 accepted_fill w h o t = let e = entering h.facts o 0 t in fill_said w h.facts e (fills h.facts o) h.reports (λ n. reply o.who (OrderEntered (order_report w.market e o.quantity 0 n))) (λ k. refl)
@@ -435,20 +437,20 @@ accepted_asking w h o t = let e = entering h.facts o 0 t in asking_said w h.fact
 accepted_of : (m : Market) (h : History) (o : OrderFact) (t : ℕ) → AreOf (entries (accepted m h o t).facts) (trades (accepted m h o t).facts)
 accepted_of m h o t = trades_of_entry (entries (accepted m h o t).facts) (entering h.facts o 0 t) (fills h.facts o) (inl refl)
 
-accepted-Says : (w : Here) (h : History) (o : OrderFact) (t : ℕ) → Fits w (entering h.facts o 0 t) → ((k : ℕ) → hold_from w.moment o.who (order_report w.market (entering h.facts o 0 t) o.quantity 0 k) w.came ≡ None) → Says w h (accepted w.market h o t)
+accepted-Says : (w : Here) (h : History) (o : OrderFact) (t : ℕ) → Fits w None (entering h.facts o 0 t) → ((k : ℕ) → hold_from w.moment o.who (order_report w.market (entering h.facts o 0 t) o.quantity 0 k) w.came ≡ None) → Says w h (accepted w.market h o t)
 accepted-Says w h o t f none =
     let e = entering h.facts o 0 t in
     let held = no_held_facts e (fills h.facts o) in
     (accepted_entry w h o t f, (accepted_fill w h o t, (accepted_hold w h o t None none ∙ sym (ap (map told_hold) held), (accepted_of w.market h o t, (inl held, (accepted_hit w h o t, (accepted_met w h o t, accepted_asking w h o t)))))))
 
-replaced-Says : (w : Here) (h : History) (s : Sender) (d : ReplaceMessage) (r : Resting) (t : ℕ) → Fits w (entering h.facts (replacement d r) (filled r) t) → s.who ≡ r.entry.order.who → Says w h (replaced w.market h s d r t)
+replaced-Says : (w : Here) (h : History) (s : Sender) (d : ReplaceMessage) (r : Resting) (t : ℕ) → Fits w (Some d.original_id) (entering h.facts (replacement d r) (filled r) t) → s.who ≡ r.entry.order.who → Says w h (replaced w.market h s d r t)
 replaced-Says w h s d r t f own =
     let o = replacement d r in
     let e = entering h.facts o (filled r) t in
     let fs = fills h.facts o in
     let first : ℕ → Reply = λ n. reply s.who (OrderReplaced (record { order = order_report w.market e o.quantity (filled r) n; original_id = d.original_id })) in
     let held = no_held_facts e fs in (
-      entry_said w h.facts e fs h.reports first (λ k. ap (λ (who : ℕ). Some (record (heard_with w.market w.row e w.moment (price_in w.came) (is_tick w.came)) { to = who })) own ∙ fitting w e f),
+      entry_said w h.facts e fs h.reports first (λ k. ap (λ (who : ℕ). Some (record (heard_with w.market w.row e w.moment (price_in w.came) (Some d.original_id) (is_tick w.came)) { to = who })) own ∙ fitting w (Some d.original_id) e f),
       (
         fill_said w h.facts e fs h.reports first (λ k. refl),
         (
@@ -460,8 +462,9 @@ replaced-Says w h s d r t f own =
 
 -- Messages.
 
--- a message at t
-pub record IsMessage (w : Here) (t : ℕ) : Type 0 where
+-- a message at t, which names the order whose place another takes, or none
+pub record IsMessage (w : Here) (original : Option (List ℕ)) (t : ℕ) : Type 0 where
+  pub from : original ≡ w.original
   pub tick : w.tick ≡ false
   pub same : is_tick w.came ≡ w.tick
   pub moment : w.moment ≡ t
@@ -471,8 +474,9 @@ there : (o : Option ℤ) → is_none o ≡ false → o ≡ Some (unwrap_or o (po
 there None e = absurd (true≢false e)
 there (Some p) e = refl
 
-message_fits : (w : Here) (e : Entry) (t : ℕ) (price : Option ℤ) → IsMessage w t → price_in w.came ≡ price → e.moment ≡ t → e.order.price ≡ unwrap_or price (pos 0) → is_none price ≡ false → Fits w e
-message_fits w e t price is came moment terms some = record {
+message_fits : (w : Here) (original : Option (List ℕ)) (e : Entry) (t : ℕ) (price : Option ℤ) → IsMessage w original t → price_in w.came ≡ price → e.moment ≡ t → e.order.price ≡ unwrap_or price (pos 0) → is_none price ≡ false → Fits w original e
+message_fits w original e t price is came moment terms some = record {
+  from = is.from;
   price = came ∙ (there price some ∙ (ap Some (sym terms) ∙ sym (ap (λ (b : Bool). price_at b e.order.price) is.tick)));
   tick = is.same;
   moment = is.moment ∙ (sym moment ∙ sym (ap (λ (b : Bool). moment_at b w.moment e.moment) is.tick));
@@ -482,25 +486,25 @@ message_fits w e t price is came moment terms some = record {
 abbrev HoldsNone : Here → Type 0
 HoldsNone w = (to : ℕ) (r : OrderReport) → hold_from w.moment to r w.came ≡ None
 
-order-Says : (w : Here) (h : History) (s : Sender) (d : OrderMessage) (t : ℕ) → IsMessage w t → price_in w.came ≡ d.price → HoldsNone w → Says w h (answer_order w.market h s d t)
+order-Says : (w : Here) (h : History) (s : Sender) (d : OrderMessage) (t : ℕ) → IsMessage w None t → price_in w.came ≡ d.price → HoldsNone w → Says w h (answer_order w.market h s d t)
 order-Says w h s d t is price none =
     let o = order_asked w.market s.who d in
     let e = entering h.facts o 0 t in
     first_of-Says w h (order_refusals w.market h s d t) (accepted w.market h o t) ((refl, (refl, (refl, (tt, (inl refl, (refl, (tt, refl))))))), ((refl, (refl, (refl, (tt, (inl refl, (refl, (tt, refl))))))), ((refl, (refl, (refl, (tt, (inl refl, (refl, (tt, refl))))))), ((refl, (refl, (refl, (tt, (inl refl, (refl, (tt, refl))))))), ((refl, (refl, (refl, (tt, (inl refl, (refl, (tt, refl))))))), ((refl, (refl, (refl, (tt, (inl refl, (refl, (tt, refl))))))), ((refl, (refl, (refl, (tt, (inl refl, (refl, (tt, refl))))))), ((refl, (refl, (refl, (tt, (inl refl, (refl, (tt, refl))))))), tt))))))))
-    (λ n. accepted-Says w h o t (message_fits w e t d.price is price refl refl n.1.1.1.0) (λ k. none o.who (order_report w.market e o.quantity 0 k)))
+    (λ n. accepted-Says w h o t (message_fits w None e t d.price is price refl refl n.1.1.1.0) (λ k. none o.who (order_report w.market e o.quantity 0 k)))
 
 cancel-Says : (w : Here) (h : History) (s : Sender) (d : CancelMessage) (n : Named) → Says w h (answer_cancel_of w.market h s d n)
 cancel-Says w h s d IsUnknown = (refl, (refl, (refl, (tt, (inl refl, (refl, (tt, refl)))))))
 cancel-Says w h s d (IsHeld k) = first_of-Says w h (cancel_refusals h s d None) (held_cancelled w.market h s d k) ((refl, (refl, (refl, (tt, (inl refl, (refl, (tt, refl))))))), tt) (λ n. (refl, (refl, (refl, (tt, (inl refl, (refl, (tt, refl))))))))
 cancel-Says w h s d (IsResting r) = first_of-Says w h (cancel_refusals h s d (Some (standing r))) (cancelled w.market h s d r) ((refl, (refl, (refl, (tt, (inl refl, (refl, (tt, refl))))))), tt) (λ n. (refl, (refl, (refl, (tt, (inl refl, (refl, (tt, refl))))))))
 
-replace-Says : (w : Here) (h : History) (s : Sender) (d : ReplaceMessage) (t : ℕ) (n : Named) → IsMessage w t → price_in w.came ≡ d.price → ((r : Resting) → n ≡ IsResting r → s.who ≡ r.entry.order.who) → Says w h (answer_replace_of w.market h s d t n)
+replace-Says : (w : Here) (h : History) (s : Sender) (d : ReplaceMessage) (t : ℕ) (n : Named) → IsMessage w (Some d.original_id) t → price_in w.came ≡ d.price → ((r : Resting) → n ≡ IsResting r → s.who ≡ r.entry.order.who) → Says w h (answer_replace_of w.market h s d t n)
 replace-Says w h s d t IsUnknown is price own = (refl, (refl, (refl, (tt, (inl refl, (refl, (tt, refl)))))))
 replace-Says w h s d t (IsHeld k) is price own = first_of-Says w h (held_replace_refusals h s d) (replace_refused s d None IsHeldSide) ((refl, (refl, (refl, (tt, (inl refl, (refl, (tt, refl))))))), tt) (λ n. (refl, (refl, (refl, (tt, (inl refl, (refl, (tt, refl))))))))
 replace-Says w h s d t (IsResting r) is price own =
     let e = entering h.facts (replacement d r) (filled r) t in
     first_of-Says w h (replace_refusals w.market h s d r t) (replaced w.market h s d r t) ((refl, (refl, (refl, (tt, (inl refl, (refl, (tt, refl))))))), ((refl, (refl, (refl, (tt, (inl refl, (refl, (tt, refl))))))), ((refl, (refl, (refl, (tt, (inl refl, (refl, (tt, refl))))))), ((refl, (refl, (refl, (tt, (inl refl, (refl, (tt, refl))))))), ((refl, (refl, (refl, (tt, (inl refl, (refl, (tt, refl))))))), ((refl, (refl, (refl, (tt, (inl refl, (refl, (tt, refl))))))), ((refl, (refl, (refl, (tt, (inl refl, (refl, (tt, refl))))))), tt)))))))
-    (λ n. replaced-Says w h s d r t (message_fits w e t d.price is price refl refl n.1.1.0) (own r refl))
+    (λ n. replaced-Says w h s d r t (message_fits w (Some d.original_id) e t d.price is price refl refl n.1.1.0) (own r refl))
 
 -- who replaces an order is its owner
 
@@ -570,7 +574,7 @@ crossed_hold w h s d t is moment apart k =
     ap (hold_from w.moment o.who (order_report w.market (entering h.facts o 0 t) o.quantity 0 k)) is
     ∙ (λ j. Some (record { who = s.who; id = other_side d apart j; until = moment j + delay_of w.market.instruments (instrument_of w.market.instruments d.symbol) }))
 
-cross_accepted-Says : (w : Here) (h : History) (s : Sender) (d : CrossMessage) (t : ℕ) → IsMessage w t → w.came ≡ crossed w.market d → is_none d.price ≡ false → is_order_id_used h.facts s.who d.first.order_id ≡ false
+cross_accepted-Says : (w : Here) (h : History) (s : Sender) (d : CrossMessage) (t : ℕ) → IsMessage w None t → w.came ≡ crossed w.market d → is_none d.price ≡ false → is_order_id_used h.facts s.who d.first.order_id ≡ false
     → is_order_id_used h.facts s.who d.second.order_id ≡ false → bytes_eq d.first.order_id d.second.order_id ≡ false → Says w h (cross_accepted w.market h s d t)
 cross_accepted-Says w h s d t is came some one other apart =
     let o = side_order w.market s.who d (first_side d) in
@@ -581,7 +585,7 @@ cross_accepted-Says w h s d t is came some one other apart =
     let same_trades : trades first.facts ≡ trades (first.facts ++ Held k ∷ []) = sym (filter_map-append trade_in_fact first.facts (Held k ∷ []) ∙ append-nil (trades first.facts)) in
     let same_rooms : rooms first.facts ≡ rooms (first.facts ++ Held k ∷ []) = sym (filter_map-append room_in_fact first.facts (Held k ∷ []) ∙ append-nil (rooms first.facts)) in
     let held : held_sides (first.facts ++ Held k ∷ []) ≡ k ∷ [] = filter_map-append held_in_fact first.facts (Held k ∷ []) ∙ ap (λ ks. ks ++ k ∷ []) (no_held_facts e (fills h.facts o)) in (
-      accepted_entry w h o t (message_fits w e t d.price is (ap price_in came) refl refl some) ∙ ap (map (told_entry w.market w.row w.moment w.tick)) same_entries,
+      accepted_entry w h o t (message_fits w None e t d.price is (ap price_in came) refl refl some) ∙ ap (map (told_entry w.market w.row w.moment w.tick w.original)) same_entries,
       (
         accepted_fill w h o t ∙ ap (λ ts. fills_told (next_trade h.facts) (at_row w.row ts)) same_trades,
         (
@@ -603,7 +607,7 @@ cross_accepted-Says w h s d t is came some one other apart =
       ),
     )
 
-cross-Says : (w : Here) (h : History) (s : Sender) (d : CrossMessage) (t : ℕ) → IsMessage w t → w.came ≡ crossed w.market d → Says w h (answer_cross w.market h s d t)
+cross-Says : (w : Here) (h : History) (s : Sender) (d : CrossMessage) (t : ℕ) → IsMessage w None t → w.came ≡ crossed w.market d → Says w h (answer_cross w.market h s d t)
 cross-Says w h s d t is came =
     first_of-Says w h (cross_refusals w.market h s d t) (cross_accepted w.market h s d t) ((refl, (refl, (refl, (tt, (inl refl, (refl, (tt, refl))))))), ((refl, (refl, (refl, (tt, (inl refl, (refl, (tt, refl))))))), ((refl, (refl, (refl, (tt, (inl refl, (refl, (tt, refl))))))), ((refl, (refl, (refl, (tt, (inl refl, (refl, (tt, refl))))))), ((refl, (refl, (refl, (tt, (inl refl, (refl, (tt, refl))))))), ((refl, (refl, (refl, (tt, (inl refl, (refl, (tt, refl))))))), ((refl, (refl, (refl, (tt, (inl refl, (refl, (tt, refl))))))), ((refl, (refl, (refl, (tt, (inl refl, (refl, (tt, refl))))))), ((refl, (refl, (refl, (tt, (inl refl, (refl, (tt, refl))))))), ((refl, (refl, (refl, (tt, (inl refl, (refl, (tt, refl))))))), ((refl, (refl, (refl, (tt, (inl refl, (refl, (tt, refl))))))), tt)))))))))))
     (λ n.
@@ -613,10 +617,11 @@ cross-Says w h s d t is came =
     let same = bytes_eq d.first.order_id d.second.order_id in
     cross_accepted-Says w h s d t is came n.1.1.1.1.0 (or_left one (other || same) free) (or_left other same (or_right one (other || same) free)) (or_right other same (or_right one (other || same) free)))
 
-due-Says : (w : Here) (h : History) (k : HeldSide) → w.tick ≡ true → w.came ≡ came.Tick → Says w h (answer_due w.market h k)
-due-Says w h k tick came =
+due-Says : (w : Here) (h : History) (k : HeldSide) → w.tick ≡ true → w.came ≡ came.Tick → w.original ≡ None → Says w h (answer_due w.market h k)
+due-Says w h k tick came none =
     let e = entering h.facts k.order 0 k.due in
-    let fits : Fits w e = record {
+    let fits : Fits w None e = record {
+      from = sym none;
       price = ap price_in came ∙ sym (ap (λ (b : Bool). price_at b k.order.price) tick);
       tick = ap is_tick came ∙ sym tick;
       moment = sym (ap (λ (b : Bool). moment_at b w.moment k.due) tick);
@@ -697,7 +702,7 @@ withdrawn-Says : (w : Here) (h : History) (x : Answer) (qs : List RoomQuote) →
 withdrawn-Says w h x [] k = k
 withdrawn-Says w h x (q ∷ qs) k =
     let silent = all_silent w h (q ∷ qs) in (
-      silent.entry ∙ sym (ap (map (told_entry w.market w.row w.moment w.tick)) (none_entered qs)),
+      silent.entry ∙ sym (ap (map (told_entry w.market w.row w.moment w.tick w.original)) (none_entered qs)),
       (
         silent.fill ∙ sym (ap (λ ts. fills_told (next_trade h.facts) (at_row w.row ts)) (none_traded qs)),
         (
@@ -749,7 +754,7 @@ market_data-Says w h s d = first_of-Says w h (market_data_refusals w.market s d)
 
 -- where a message is told that came at t
 abbrev message_here : Market → List Word → ℕ → ℕ → Sender → App → Here
-message_here m words n t s a = record { market = m; row = n; moment = t; came = came_in m.instruments words n s.who a; tick = false }
+message_here m words n t s a = record { market = m; row = n; moment = t; came = came_in m.instruments words n s.who a; original = original_of a; tick = false }
 
 app-Says : (m : Market) (h : History) (words : List Word) (n moment : ℕ) (s : Sender) (a : App) (t : ℕ) → moment ≡ t → Says (message_here m words n moment s a) h (answer_app m h s a t)
 unfolding came_in
@@ -757,11 +762,11 @@ app-Says m h words n moment s (QuoteRequest d) t e = request-Says (message_here 
 app-Says m h words n moment s (Quote d) t e = quote-Says (message_here m words n moment s (Quote d)) h s d t (find_room h.facts d.request_id)
 app-Says m h words n moment s (QuoteCancel d) t e = withdrawal-Says (message_here m words n moment s (QuoteCancel d)) h s d t (d.cancel_type == 5) (d.cancel_type == 4)
 app-Says m h words n moment s (QuoteResponse d) t e = response-Says (message_here m words n moment s (QuoteResponse d)) h s d t (d.quote_id, refl)
-app-Says m h words n moment s (NewOrderSingle d) t e = order-Says (message_here m words n moment s (NewOrderSingle d)) h s d t (record { tick = refl; same = refl; moment = e }) refl (λ to r. refl)
+app-Says m h words n moment s (NewOrderSingle d) t e = order-Says (message_here m words n moment s (NewOrderSingle d)) h s d t (record { from = refl; tick = refl; same = refl; moment = e }) refl (λ to r. refl)
 app-Says m h words n moment s (OrderCancelRequest d) t e = cancel-Says (message_here m words n moment s (OrderCancelRequest d)) h s d (named h s.who d.original_id)
 app-Says m h words n moment s (OrderCancelReplaceRequest d) t e =
-    replace-Says (message_here m words n moment s (OrderCancelReplaceRequest d)) h s d t (named h s.who d.original_id) (record { tick = refl; same = refl; moment = e }) refl (named_own h s.who d.original_id)
-app-Says m h words n moment s (NewOrderCross d) t e = cross-Says (message_here m words n moment s (NewOrderCross d)) h s d t (record { tick = refl; same = refl; moment = e }) refl
+    replace-Says (message_here m words n moment s (OrderCancelReplaceRequest d)) h s d t (named h s.who d.original_id) (record { from = refl; tick = refl; same = refl; moment = e }) refl (named_own h s.who d.original_id)
+app-Says m h words n moment s (NewOrderCross d) t e = cross-Says (message_here m words n moment s (NewOrderCross d)) h s d t (record { from = refl; tick = refl; same = refl; moment = e }) refl
 app-Says m h words n moment s (MarketDataRequest d) t e = market_data-Says (message_here m words n moment s (MarketDataRequest d)) h s d
 app-Says m h words n moment s (BusinessMessageReject d) t e = (refl, (refl, (refl, (tt, (inl refl, (refl, (tt, refl)))))))
 app-Says m h words n moment s (QuoteStatusReport d) t e = (refl, (refl, (refl, (tt, (inl refl, (refl, (tt, refl)))))))
@@ -778,12 +783,12 @@ is_tick_input (Message taken t) = false
 is_tick_input (Tick t) = true
 
 abbrev pub here : Market → List Word → TrailRow → Input → Here
-here m words r i = record { market = m; row = r.n; moment = r.moment; came = came_of m words r.n i; tick = is_tick_input i }
+here m words r i = record { market = m; row = r.n; moment = r.moment; came = came_of m words r.n i; original = original_told i; tick = is_tick_input i }
 
-due-or-none : (w : Here) (h : History) (k : Option HeldSide) → w.tick ≡ true → w.came ≡ came.Tick → Says w h (answer_due_of w.market h k)
-due-or-none w h None tick came = (refl, (refl, (refl, (tt, (inl refl, (refl, (tt, refl)))))))
-due-or-none w h (Some k) tick came = due-Says w h k tick came
+due-or-none : (w : Here) (h : History) (k : Option HeldSide) → w.tick ≡ true → w.came ≡ came.Tick → w.original ≡ None → Says w h (answer_due_of w.market h k)
+due-or-none w h None tick came none = (refl, (refl, (refl, (tt, (inl refl, (refl, (tt, refl)))))))
+due-or-none w h (Some k) tick came none = due-Says w h k tick came none
 
 pub input-Says : (m : Market) (h : History) (words : List Word) (r : TrailRow) (i : Input) → Tells r i → Says (here m words r i) h (answer_input m h i)
 input-Says m h words r (Message taken t) tells = app-Says m h words r.n r.moment (record { who = taken.from; number = taken.item.number; kind = type_of taken.item.app }) taken.item.app t tells.3
-input-Says m h words r (Tick t) tells = due-or-none (here m words r (Tick t)) h (due h.facts t) refl refl
+input-Says m h words r (Tick t) tells = due-or-none (here m words r (Tick t)) h (due h.facts t) refl refl refl

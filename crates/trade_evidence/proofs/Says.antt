@@ -39,6 +39,7 @@ pub record HeardEntry : Type 0 where
   pub side : Side
   pub quantity : ℕ
   pub price : Option ℤ
+  pub original : Option (List ℕ)
   pub at_tick : Bool
 
 -- an order that is filled
@@ -74,7 +75,7 @@ pub record HeardAsked : Type 0 where
 -- in a word
 
 abbrev pub entry_of_said : Word → Said → Option HeardEntry
-entry_of_said w (said.Entered e) = Some (record { row = w.row; moment = w.moment; to = w.to; order = e.order; id = e.id; symbol = e.symbol; side = e.side; quantity = e.quantity; price = e.price; at_tick = e.at_tick })
+entry_of_said w (said.Entered e) = Some (record { row = w.row; moment = w.moment; to = w.to; order = e.order; id = e.id; symbol = e.symbol; side = e.side; quantity = e.quantity; price = e.price; original = e.original; at_tick = e.at_tick })
 entry_of_said w _ = None
 
 abbrev pub entry_in : Word → Option HeardEntry
@@ -110,13 +111,13 @@ asking_in w = asking_of_said w w.said
 
 -- in a reply
 
-abbrev pub entry_from : ℕ → ℕ → Came → ℕ → OrderReport → Option ℕ → Option HeardEntry
-entry_from n t c to r None = None
-entry_from n t c to r (Some order) = Some (record { row = n; moment = t; to = to; order = order; id = r.id; symbol = r.symbol; side = r.side; quantity = r.left; price = price_in c; at_tick = is_tick c })
+abbrev pub entry_from : ℕ → ℕ → Came → Option (List ℕ) → ℕ → OrderReport → Option ℕ → Option HeardEntry
+entry_from n t c original to r None = None
+entry_from n t c original to r (Some order) = Some (record { row = n; moment = t; to = to; order = order; id = r.id; symbol = r.symbol; side = r.side; quantity = r.left; price = price_in c; original = original; at_tick = is_tick c })
 
 abbrev pub entry_what : ℕ → ℕ → Came → ℕ → What → Option HeardEntry
-entry_what n t c to (what.OrderEntered r) = entry_from n t c to r r.order
-entry_what n t c to (what.OrderReplaced r) = entry_from n t c to r.order r.order.order
+entry_what n t c to (what.OrderEntered r) = entry_from n t c None to r r.order
+entry_what n t c to (what.OrderReplaced r) = entry_from n t c (Some r.original_id) to r.order r.order.order
 entry_what n t c to _ = None
 
 abbrev pub entry_by : ℕ → ℕ → Came → Reply → Option HeardEntry
@@ -246,9 +247,9 @@ held_entry n t came.Tick to r = refl
 held_entry n t came.Other to r = refl
 
 entered_entry : (n t : ℕ) (c : Came) (to : ℕ) (original : Option (List ℕ)) (r : OrderReport) (o : Option ℕ) (rest : List Word) → filter_map entry_in rest ≡ []
-    → filter_map entry_in (said_by n t to (entered_of c original r o) ++ rest) ≡ cons_option (entry_from n t c to r o) []
+    → filter_map entry_in (said_by n t to (entered_of c original r o) ++ rest) ≡ cons_option (entry_from n t c original to r o) []
 entered_entry n t c to original r None rest k = k
-entered_entry n t c to original r (Some order) rest k = ap (cons_option (entry_from n t c to r (Some order))) k
+entered_entry n t c to original r (Some order) rest k = ap (cons_option (entry_from n t c original to r (Some order))) k
 
 filled_entry : (n t to : ℕ) (f : FilledReport) (o : Option ℕ) → filter_map entry_in (said_by n t to (filled_of f o) ++ []) ≡ []
 filled_entry n t to f None = refl

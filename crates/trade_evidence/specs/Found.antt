@@ -1,7 +1,8 @@
 -- What is found of a trade in the words of its day, so that its lines are there.
 use Rattle.std.specs.Prelude.{◌≡◌, ℕ, ℤ, ◌-◌, min, List, ◌∷◌, ◌++◌, Contains, Option, None, Some, filter, find, flat_map, length, map, slice_get}
+use Rattle.fix_dictionary.specs.declared.messages.App.{App}
+use Rattle.fix_dictionary.specs.declared.messages.App.TheVariants.{OrderCancelReplaceRequest}
 use Rattle.instruments.specs.Listing.{symbol_of}
-use Rattle.participants.specs.ParticipantFile.{ParticipantFile}
 use Rattle.sef_moment.specs.Utc.{greatest}
 use Rattle.venue_rules.specs.declared.facts.Entry.{Entry}
 use Rattle.venue_rules.specs.declared.facts.Fact.{Fact}
@@ -22,7 +23,7 @@ use Rattle.trade_evidence.specs.declared.standing.Met.{Met}
 use Rattle.trade_evidence.specs.declared.word.Asked.{Asked}
 use Rattle.trade_evidence.specs.declared.word.Said.TheVariants as said
 use Rattle.trade_evidence.specs.declared.word.Word.{Word}
-use Rattle.trade_evidence.specs.Lines.{both_lines, entries_linked, evidence, is_asked, is_sought, link_id, request_line, room_lines, room_word, standing_line, standing_lines, trade_line, trade_row}
+use Rattle.trade_evidence.specs.Lines.{both_lines, entries_linked, evidence, is_asked, is_sought, link_id, request_line, room_word, standing_line, standing_lines, trade_line, trade_row}
 use Rattle.trade_evidence.specs.Standing.{prices_of, stood_words}
 
 -- a row, and the input that it tells, whose answer made this a fact
@@ -33,15 +34,16 @@ pub record CameAt (m : Market) (rs : List TrailRow) (is : List Input) (row : Tra
   pub told : slice_get rs (length earlier) ≡ Some row
   pub made : Contains (answer_input m (run m earlier).history input).facts fact
 
--- the request of a room is found: its lines begin with it; it tells what was asked for when the room was opened, and by whom, at the row and the
--- moment of the message that did; and who are told to have been asked are its recipients
-pub record HasRequest (m : Market) (rs : List TrailRow) (is : List Input) (words : List Word) (room : ℕ) : Type 0 where
+-- the request of a trade's room is found: the trade's evidence are the line of this request, the other lines of its room, and the line of the trade at its
+-- row; it tells what was asked for when the room was opened, and by whom, at the row and the moment of the message that did; and who are told to have
+-- been asked are its recipients
+pub record HasRequest (m : Market) (rs : List TrailRow) (is : List Input) (words : List Word) (t : TradeFact) (room : ℕ) : Type 0 where
   pub word : Word
   pub asked : Asked
   pub found : find (is_sought (Request room)) words ≡ Some word
   pub says : word.said ≡ said.Asked asked
   pub here : asked.room ≡ room
-  pub lines : (file : ParticipantFile) → room_lines file words room ≡ request_line file word asked ++ flat_map (room_word file words asked) words
+  pub lines : evidence m words t ≡ (request_line m.participants word asked ++ flat_map (room_word m.participants words asked) words) ++ trade_line m t (trade_row words t)
   pub opened : Room
   pub row : TrailRow
   pub input : Input
@@ -76,8 +78,17 @@ abbrev pub moment_told : Input → Entry → ℕ
 moment_told (Message taken t) e = e.moment
 moment_told (Tick t) e = min e.moment greatest
 
+-- the identifier of the order whose place an order takes
+abbrev pub original_of : App → Option (List ℕ)
+original_of (OrderCancelReplaceRequest d) = Some d.original_id
+original_of _ = None
+
+abbrev pub original_told : Input → Option (List ℕ)
+original_told (Message taken t) = original_of taken.item.app
+original_told (Tick t) = None
+
 -- what an order's lines are made of is what the order was as it entered, and the row is that at which it did; the link is the one that it carries, or
--- that the order had whose place it takes
+-- that the order had whose place it takes, which is told by the identifier that the message names
 pub record TellsOrder (m : Market) (rs : List TrailRow) (is : List Input) (e : Entry) (x : OrderEntry) : Type 0 where
   pub row : TrailRow
   pub input : Input
@@ -92,6 +103,7 @@ pub record TellsOrder (m : Market) (rs : List TrailRow) (is : List Input) (e : E
   pub quantity : x.entered.quantity ≡ e.order.quantity
   pub price : x.entered.price ≡ price_told input e
   pub link : link_id x.entered.link ≡ e.order.link
+  pub original : x.entered.original ≡ original_told input
 
 -- an order that is met
 abbrev pub met_told : Market → Entry → Met

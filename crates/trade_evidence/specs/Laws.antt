@@ -11,7 +11,7 @@ use Rattle.trade_evidence.specs.Told.{trade_numbered, words_told}
 -- the words of a day have the request of the room of each trade that came about in one
 abbrev pub RoomTradesHaveRequests : Type 0
 RoomTradesHaveRequests = (m : Market) (rs : List TrailRow) (is : List Input) (number room : ℕ) (t : TradeFact) → AreTold rs is → trade_numbered (run m is).history number ≡ Some t → t.room ≡ Some room
-    → HasRequest m rs is (words_told m number rs is) room
+    → HasRequest m rs is (words_told m number rs is) t room
 
 -- the words of a day have both orders of each trade that came about in the book
 abbrev pub BookTradesHaveOrders : Type 0

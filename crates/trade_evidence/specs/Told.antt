@@ -86,7 +86,7 @@ pub record IsEvidence (m : Market) (rs : List TrailRow) (number : ℕ) (text : L
   pub numbered : trade_numbered (run m items).history number ≡ Some trade
   pub is : text ≡ evidence m (words_told m number rs items) trade
   pub made : HasRow m rs items (words_told m number rs items) number trade
-  pub requested : (room : ℕ) → trade.room ≡ Some room → HasRequest m rs items (words_told m number rs items) room
+  pub requested : (room : ℕ) → trade.room ≡ Some room → HasRequest m rs items (words_told m number rs items) trade room
   pub ordered : trade.room ≡ None → HasOrders m rs items (words_told m number rs items) number trade
 
 -- what was written is the evidence for this trade, and nothing else

@@ -1,3 +1,4 @@
 pub mod Prices
 pub mod Examples
 pub mod Rows
+pub mod Rooms

@@ -2,3 +2,5 @@
 pub mod Line
 pub mod Table
 pub mod Printing
+-- what every day keeps
+pub mod Laws

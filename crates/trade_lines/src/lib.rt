@@ -2,9 +2,11 @@
 #![tactic(auto)]
 
 mod form;
+mod laws;
 mod line;
 mod printing;
 mod table;
 
+pub use laws::each_room_trade_is_told_with_its_room;
 pub use line::{append, append_deal, append_number, append_price, name_at};
 pub use printing::{PrintFault, print_table, print_trades};
