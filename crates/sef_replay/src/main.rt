@@ -10,57 +10,24 @@ mod migrating;
 mod printing;
 mod replaying;
 mod trade;
+mod wanted;
 
 use command_line::{Task, task_given};
 pub use failure::{Failure, Stop};
 pub use form::Form;
 pub use migrating::print_migrated;
 pub use printing::print_day;
-use sqlite::{Alter, Connection};
-use std::alloc::Global;
-use std::io::Write;
+use sqlite::Connection;
 use std::process::ExitCode;
 pub use trade::{print_trade, trade_number};
-
-/// What is printed of a trail: its trades in a form, and perhaps after one of an older version was made into version 3; or the evidence for
-/// the trade with a number.
-#[derive(Clone, Copy)]
-enum Wanted {
-    Day(Form),
-    MigratedDay(Form),
-    Trade(u64),
-}
-
-/// Prints what is wanted of the trail that a database keeps, and gives the database up.
-fn print_wanted<S: Alter + Drop, W: Write>(
-    alloc: Global,
-    conn: Connection<S>,
-    wanted: Wanted,
-    writer: &mut W,
-) -> Result<(), Failure> {
-    let printed = match wanted {
-        Wanted::Day(form) => print_day(alloc, conn, form, writer),
-        Wanted::MigratedDay(form) => print_migrated(alloc, conn, form, writer),
-        Wanted::Trade(number) => print_trade(alloc, conn, number, writer),
-    };
-    match printed {
-        Ok(conn) => {
-            drop(conn);
-            Ok(())
-        }
-        Err((failure, conn)) => {
-            drop(conn);
-            Err(failure)
-        }
-    }
-}
+use wanted::{Wanted, given_up, print_wanted};
 
 /// Prints what is wanted of the trail at a path. The file is looked at before, so that none is made where there is none, and none that is
 /// no database is touched.
 fn print_trail(rt: &HostRuntime, path: &str, wanted: Wanted) -> Result<(), Failure> {
     file::look_at(rt, path)?;
     match Connection::open(rt, path) {
-        Ok(conn) => print_wanted(rt.alloc(), conn, wanted, &mut rt.stdout()),
+        Ok(conn) => given_up(print_wanted(rt.alloc(), conn, wanted, &mut rt.stdout())),
         Err(error) => Err(Failure::from(error)),
     }
 }

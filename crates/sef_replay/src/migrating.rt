@@ -5,10 +5,11 @@ ghost use Rattle.std.specs.Io.KnownBytes.{Keeps};
 ghost use Rattle.sqlite.specs.State.{HasCleanDisk, Survives};
 ghost use Rattle.sqlite.specs.Held.{state};
 ghost use Rattle.audit_trail.specs.Older.{MayBecomeThird};
+ghost use Rattle.audit_trail.specs.Reading.{IsTrailLike};
 ghost use Rattle.sef_replay.specs.Day.{UnlessPrinting};
 ghost use Rattle.sef_replay.specs.Older.{EitherFault, IsEitherFailure, IsThirdNow, LeavesThird, RefusesEither, RefusesToBringUp, TellsEither};
 ghost use Rattle.sef_replay.specs.declared.failure.Failure.TheVariants.{Trail as TrailRefused};
-ghost use Rattle.venue_rules.specs.declared.trail.TrailFault.TheVariants.{Refused};
+ghost use Rattle.venue_rules.specs.declared.trail.TrailFault.TheVariants.{OtherVersion, Refused};
 
 use crate::failure::Failure;
 use crate::form::Form;
@@ -28,6 +29,7 @@ fn brought_up<S: Alter>(
     ensures durable { IfOk result (λ up. HasCleanDisk (state S.Store up) → LeavesThird (state S.Store conn) (state S.Store up)) }
     ensures fault { IfErr result (λ e. HasCleanDisk (state S.Store e.1) → EitherFault (state S.Store conn).now e.0) }
     ensures cause { IfErr result (λ e. HasCleanDisk (state S.Store e.1) → e.0 ≡ Refused → RefusesToBringUp (state S.Store conn) (state S.Store e.1)) }
+    ensures understood { IfErr result (λ e. HasCleanDisk (state S.Store e.1) → e.0 ≡ OtherVersion → IsTrailLike (state S.Store conn)) }
     ensures crash { IfOk result (λ up. Survives (state S.Store conn) (state S.Store up) (MayBecomeThird (state S.Store conn))) }
     ensures crash_err { IfErr result (λ e. Survives (state S.Store conn) (state S.Store e.1) (MayBecomeThird (state S.Store conn))) }
 {
@@ -50,6 +52,7 @@ pub fn print_migrated<S: Alter, W: Write>(
     ensures told { IfOk result (λ back. HasCleanDisk (state S.Store back) → TellsEither form (state S.Store conn).now (W.contents writer.old) (W.contents writer.new)) }
     ensures fault { IfErr result (λ e. HasCleanDisk (state S.Store e.1) → IsEitherFailure (state S.Store conn).now e.0) }
     ensures cause { IfErr result (λ e. HasCleanDisk (state S.Store e.1) → e.0 ≡ TrailRefused 1 → RefusesEither (state S.Store conn) (state S.Store e.1)) }
+    ensures understood { IfErr result (λ e. HasCleanDisk (state S.Store e.1) → e.0 ≡ TrailRefused 4 → IsTrailLike (state S.Store conn)) }
     ensures unwritten { IfErr result (λ e. UnlessPrinting e.0 (Keeps (W.contents writer.old) (W.contents writer.new))) }
 
     // A crash leaves what it could leave before, or of an older trail the whole one of version 3; after Ok, that one alone.

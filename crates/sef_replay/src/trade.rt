@@ -4,7 +4,7 @@ ghost use Rattle.std.specs.Prelude.{◌≡◌, ◌++◌, ℕ, ◌<◌, ◌^◌, 
 ghost use Rattle.std.specs.Io.KnownBytes.{Keeps};
 ghost use Rattle.sqlite.specs.State.{HasCleanDisk, Survives};
 ghost use Rattle.sqlite.specs.Held.{state};
-ghost use Rattle.audit_trail.specs.Reading.{RefusesToOpen};
+ghost use Rattle.audit_trail.specs.Reading.{IsTrailLike, RefusesToOpen};
 ghost use Rattle.audit_trail.specs.Trail.{kept_rows, store};
 ghost use Rattle.sef_replay.specs.declared.failure.Failure.TheVariants.{Trail as TrailRefused};
 ghost use Rattle.sef_replay.specs.Trade.{IsRefusalOf, IsTradeFailureOf, TellsTradeKept, TellsTradeOf, UnlessTold};
@@ -88,6 +88,7 @@ pub fn print_trade<S: Alter, W: Write>(
     ensures told { IfOk result (λ back. HasCleanDisk (state S.Store back) → TellsTradeOf (state S.Store conn).now number (W.contents writer.old) (W.contents writer.new)) }
     ensures fault { IfErr result (λ e. HasCleanDisk (state S.Store e.1) → IsTradeFailureOf (state S.Store conn).now number e.0) }
     ensures cause { IfErr result (λ e. HasCleanDisk (state S.Store e.1) → e.0 ≡ TrailRefused 1 → RefusesToOpen (state S.Store conn) (state S.Store e.1)) }
+    ensures understood { IfErr result (λ e. HasCleanDisk (state S.Store e.1) → e.0 ≡ TrailRefused 4 → IsTrailLike (state S.Store conn)) }
     ensures unwritten { IfErr result (λ e. UnlessTold e.0 (Keeps (W.contents writer.old) (W.contents writer.new))) }
 
     // Nothing is committed: a crash leaves what it could leave before.

@@ -55,3 +55,12 @@ returns-in-Err-OtherVersion-default-clause-cause g c =
 
 pub returns-in-Err-clause-cause : goal.returns-in-Err-clause-cause
 returns-in-Err-clause-cause g c clean is = inl (c.in-Err.ensures.cause clean is)
+
+pub returns-in-Err-OtherVersion-default-clause-understood : goal.returns-in-Err-OtherVersion-default-clause-understood
+returns-in-Err-OtherVersion-default-clause-understood g c =
+    let back = c.in-Err-OtherVersion-default in
+    of_err c.migrate.result _ _ _ c.migrate.ensures.crash_err c.migrate.ensures.crash_err
+    (λ e s _ clean is. back.ensures.understood (clean_before _ _ _ s clean) back.field-0-0-is)
+
+pub returns-in-Err-clause-understood : goal.returns-in-Err-clause-understood
+returns-in-Err-clause-understood g c clean is = c.in-Err.ensures.understood clean is

@@ -1,6 +1,8 @@
 use Rattle.sqlite.specs.Held.{state}
-use Rattle.std.proofs.Common.{inl, sym, ◌∙◌}
-use Rattle.sef_replay.proofs.Causes.{is_refused, refused_at_last}
+use Rattle.std.proofs.Common.{inl, subst, sym, ◌∙◌}
+use Rattle.sef_replay.specs.declared.failure.Failure.{Failure}
+use Rattle.sef_replay.specs.Day.{IsFailureOf}
+use Rattle.sef_replay.proofs.Causes.{is_other, is_refused, never_other, refused_at_last}
 use Rattle.sef_replay.proofs.Older.{clean_before, either_told, failure_at_last, leaves_still, of_err, of_ok, survives_printing}
 use Rattle.sef_replay.proofs.migrating.print_migrated.Goals as goal
 
@@ -37,3 +39,12 @@ returns-in-Ok-clause-cause g c =
 
 pub returns-in-Err-clause-cause : goal.returns-in-Err-clause-cause
 returns-in-Err-clause-cause g c clean is = inl (c.in-Err.ensures.cause clean (is_refused c.in-Err.fault (sym c.from.ensures ∙ is)))
+
+-- a trail that was brought up is of version 3
+pub returns-in-Ok-clause-understood : goal.returns-in-Ok-clause-understood
+returns-in-Ok-clause-understood g c =
+    of_err c.print_day.result _ _ _ c.print_day.ensures.fault c.print_day.ensures.crash_err
+    (λ e why s clean is. never_other (state g.S.Store c.args.conn) (state g.S.Store c.in-Ok.conn) (c.in-Ok.ensures.third (clean_before _ _ _ s clean)) (subst (λ (f : Failure). IsFailureOf (state g.S.Store c.in-Ok.conn).now f) is (why clean)))
+
+pub returns-in-Err-clause-understood : goal.returns-in-Err-clause-understood
+returns-in-Err-clause-understood g c clean is = c.in-Err.ensures.understood clean (is_other c.in-Err.fault (sym c.from.ensures ∙ is))

@@ -1,7 +1,7 @@
 use Rattle.std.proofs.Common.{rules, sym, ◌∙◌}
 use Rattle.sqlite.specs.State.{HasCleanDisk}
 use Rattle.audit_trail.specs.Trail.{store}
-use Rattle.sef_replay.proofs.Causes.{is_refused}
+use Rattle.sef_replay.proofs.Causes.{is_other, is_refused}
 use Rattle.sef_replay.proofs.Kept.{day_printed}
 use Rattle.sef_replay.proofs.printing.print_day.Goals as goal
 
@@ -12,3 +12,6 @@ returns-in-Ok-print_kept-clause-told g c clean =
 
 pub returns-in-Err-clause-cause : goal.returns-in-Err-clause-cause
 returns-in-Err-clause-cause g c clean is = c.in-Err.ensures.cause clean (is_refused c.in-Err.fault (sym c.from.ensures ∙ is))
+
+pub returns-in-Err-clause-understood : goal.returns-in-Err-clause-understood
+returns-in-Err-clause-understood g c clean is = c.in-Err.ensures.understood clean (is_other c.in-Err.fault (sym c.from.ensures ∙ is))

@@ -3,7 +3,7 @@ use Rattle.sqlite.specs.State.{HasCleanDisk}
 use Rattle.audit_trail.specs.Trail.{store}
 use Rattle.sef_replay.specs.declared.failure.Failure.TheVariants.{Trail as TrailRefused}
 use Rattle.sef_replay.specs.Trade.{IsRefusalOf}
-use Rattle.sef_replay.proofs.Causes.{is_refused, never_told}
+use Rattle.sef_replay.proofs.Causes.{is_other, is_refused, never_told}
 use Rattle.sef_replay.proofs.trade.print_trade.Goals as goal
 
 pub returns-in-Err-clause-cause : goal.returns-in-Err-clause-cause
@@ -13,3 +13,11 @@ pub returns-in-Err-print_kept-clause-cause : goal.returns-in-Err-print_kept-clau
 returns-in-Err-print_kept-clause-cause g c clean =
     let last : HasCleanDisk (store g.S.Store c.print_kept.new.trail) = search rules in
     never_told (IsRefusalOf _ _ _ _) c.in-Err-print_kept.failure (TrailRefused 1) (λ none. none) (c.in-Err-print_kept.ensures.refused last)
+
+pub returns-in-Err-clause-understood : goal.returns-in-Err-clause-understood
+returns-in-Err-clause-understood g c clean is = c.in-Err.ensures.understood clean (is_other c.in-Err.fault (sym c.from.ensures ∙ is))
+
+pub returns-in-Err-print_kept-clause-understood : goal.returns-in-Err-print_kept-clause-understood
+returns-in-Err-print_kept-clause-understood g c clean =
+    let last : HasCleanDisk (store g.S.Store c.print_kept.new.trail) = search rules in
+    never_told (IsRefusalOf _ _ _ _) c.in-Err-print_kept.failure (TrailRefused 4) (λ none. none) (c.in-Err-print_kept.ensures.refused last)
