@@ -2,8 +2,8 @@
 """tools/machine.py: prints how many checks of a crate this machine runs side by side, one a processor, as far as memory goes."""
 import os
 
-# A check of a crate of this repository was seen to take 3 GB at most, at one job.
-MEMORY_OF_A_CHECK = 3_500_000_000
+# Checks of this repository's crates were seen to take 1 to 4 GB at one job, and those of three programs 4.5 to 6 GB for a while.
+MEMORY_OF_A_CHECK = 4_500_000_000
 
 GROUP = "/sys/fs/cgroup"
 
