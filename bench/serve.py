@@ -14,6 +14,7 @@ TURNS = 3
 ROUND_TRIPS = 2_000
 RECORDED = 10  # of so many messages one is sent where each is a row of a trail
 IDLE = 10.0  # seconds
+CONFINED = 2  # processors
 TICKS = os.sysconf("SC_CLK_TCK")
 # messages that are refused without a look at the book, and orders that rest and are cancelled
 KINDS = (("refused", "NOPE"), ("come and gone", "IRS5Y"))
@@ -141,13 +142,21 @@ def in_turn(venues, place, messages, is_told):
             venue.process.wait()
 
 
+def started(port, place, peers):
+    """Ours, and the peer where there is one."""
+    return [ours(port)] if peers == "alone" else [ours(port), peer(place, port + 100)]
+
+
 def main():
     messages, port, place, peers = int(sys.argv[1]), int(sys.argv[2]), sys.argv[3], sys.argv[4]
-    print(f"load of the machine: {os.getloadavg()[0]:.1f} on {os.cpu_count()} processors", flush=True)
-    venues = [ours(port)]
-    if peers != "alone":
-        venues.append(peer(place, port + 100))
-    in_turn(venues, place, messages, True)
+    processors = sorted(os.sched_getaffinity(0))
+    print(f"load of the machine: {os.getloadavg()[0]:.1f} on {len(processors)} processors", flush=True)
+    in_turn(started(port, place, peers), place, messages, True)
+    if len(processors) > CONFINED:
+        print(f"confined to {CONFINED} processors, venue and client together:", flush=True)
+        os.sched_setaffinity(0, processors[:CONFINED])
+        in_turn(started(port, place, peers), place, messages, False)
+        os.sched_setaffinity(0, processors)
     print("each message a row of a trail in a file, a transaction each:", flush=True)
     venues = [ours(port, "--trail", fresh(f"{place}/serve.trail"))]
     if peers == "recorded":

@@ -22,7 +22,7 @@ abbrev pub with_first : Room → RoomQuote → List Fact → RoomFact
 with_first r q before = record { number = r.number; requester = r.requester; asked = r.recipients; first = q.number; shown = map shown_order (picture before r.instrument) }
 
 -- A trade in a room is told with who was asked as the room was opened, the first quote that came in it, and the orders that rested just before
--- that quote, which are shown with it (17 CFR 37.9(a)(3)).
+-- that quote (17 CFR 37.9(a)(3)).
 pub record TellsRoom (m : Market) (h : History) (t : TradeFact) (room : ℕ) : Type 0 where
   pub opened : Room
   pub first : RoomQuote

@@ -4,7 +4,7 @@ ghost use Rattle.trade_lines.specs.Laws.{RoomTradesTellRooms};
 
 use venue_rules::{every_report_is_numbered, every_room_trade_is_lawful};
 
-/// The line and the row of each trade in a room have who was asked in it, its first quote, and what rested then and was shown with it
+/// The line and the row of each trade in a room have who was asked in it, its first quote, and what rested just before that
 /// (17 CFR 37.9(a)(3)).
 pub fn each_room_trade_is_told_with_its_room()
     ensures { RoomTradesTellRooms }
