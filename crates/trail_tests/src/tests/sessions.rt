@@ -109,25 +109,20 @@ fn hand_over(board: &Board<Item>, hands: &mut Vec<HandSeat<Item>>, place: usize,
     hands[place].hand(board, item).is_ok()
 }
 
-// What was taken from a seat.
-fn found_in(taken: Option<Outgoing>) -> Found {
-    match taken {
-        None => Found::Nothing,
-        Some(Outgoing::Cut) => Found::Mark,
-        Some(Outgoing::Message(message)) => {
-            drop(message);
-            Found::Reply
-        }
-    }
-}
-
 // Takes what is in this seat, and lets it go.
 fn collect(board: &Board<Outgoing>, take: &mut TakeSeat<Outgoing>) -> Found
     requires own { take.old.board ≡ board.now }
     requires free { take.old.in_hand ≡ None }
     ensures { IsSameTaker take.old take.new × (take.new.in_hand ≡ None) }
 {
-    let found = found_in(take.take(board));
+    let found = match take.take(board) {
+        None => Found::Nothing,
+        Some(Outgoing::Cut) => Found::Mark,
+        Some(Outgoing::Message(message)) => {
+            drop(message);
+            Found::Reply
+        }
+    };
     take.clear(board);
     found
 }

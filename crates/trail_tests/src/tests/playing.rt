@@ -3,17 +3,13 @@ ghost use Rattle.std.specs.Prelude.{◌≡◌, length};
 ghost use Rattle.intake_seats.specs.Ends.{AreHands, AreTakes, AreUnusedHands, AreUnusedTakes};
 ghost use Rattle.trail_keeper.specs.Written.{LeadsTo};
 
-use super::files::{connect, files};
-use super::items::{COUNT, ITEMS, LINE, Sent, TRADES, item_of, items_in, moment_of};
+use super::items::{COUNT, ITEMS, LINE, Sent, TRADES, items_in, message_of, moment_of};
 use super::sessions::{Boards, Ends, NOTHING, Sessions, make_boards};
 use audit_trail::Files;
 use gateway::mem_line::MemClock;
-use instruments::Instruments;
 use intake_seats::Board;
-use participants::Participants;
 use sef_moment::Moment;
 use sqlite::{Alter, Connection};
-use sqlite_disk::{Disk, Files as Pair};
 use std::alloc::{AllocError, Global};
 use std::mem::drop;
 use std::test::Fail;
@@ -35,8 +31,8 @@ const ROUNDS: u64 = 600;
 
 /// What a day came to.
 #[derive(Clone, Copy)]
-pub struct Told {
-    /// So many items were in the trail as it began, if the rows were those of the first items and could be read.
+pub struct Day {
+    /// So many items, and ticks behind the last, were in the trail as it began, if the rows were these and could be read.
     pub found: Option<usize>,
     /// Whether the trades of these were told as they should be.
     pub is_told: bool,
@@ -45,7 +41,7 @@ pub struct Told {
 }
 
 /// The venue did not begin.
-const NOT_BEGUN: Told = Told {
+pub const NOT_BEGUN: Day = Day {
     found: None,
     is_told: false,
     answered: Some(0),
@@ -69,8 +65,9 @@ fn takes<K: Keep + Drop>(
     sessions: &mut Sessions<'_>,
     sent: &Sent,
 ) -> Option<bool> {
-    let item = item_of(alloc, sent)?;
-    if !sessions.hand(sent.from, item) {
+    let message = message_of(alloc, sent)?;
+    let place = (sent.who as usize).saturating_sub(1);
+    if !sessions.hand(place, message) {
         return None;
     }
     takes_a_turn(alloc, worker, moment_of(sent)).ok()
@@ -132,12 +129,8 @@ fn answer_each<K: Keep + Drop>(
     }
 }
 
-// Whether nothing waits for any participant; and each is cut where the trail has refused a row, and else none.
-fn are_served(queues: &[Queue], are_cut: bool) -> bool {
-    queues.iter().all(|queue| queue.waiting.is_empty() && queue.is_cut == are_cut)
-}
-
-// The same of what is left of a worker.
+// What a worker kept its rows in, and how many items are answered, if nothing waits for any participant, and each is cut where the trail
+// has refused a row, and else none.
 fn left_of<K: Keep + Drop>(worker: Worker<'_, K>, answered: Option<usize>) -> (K, Option<usize>) {
     let Parts {
         venue,
@@ -149,7 +142,8 @@ fn left_of<K: Keep + Drop>(worker: Worker<'_, K>, answered: Option<usize>) -> (K
     drop(venue);
     drop(takes);
     drop(hands);
-    let are_served = are_served(queues.as_slice(), answered != Some(ITEMS.len()));
+    let are_cut = answered != Some(ITEMS.len());
+    let are_served = queues.iter().all(|queue| queue.waiting.is_empty() && queue.is_cut == are_cut);
     drop(queues);
     (keeper, if are_served { answered } else { None })
 }
@@ -217,16 +211,6 @@ fn answer_rest<S: Alter + Drop>(
     answered
 }
 
-// How many of the items a journal's trail has.
-fn found_in<S: Alter>(journal: &mut Journal<S>) -> Option<usize>
-    ensures same { journal.new.rows ≡ journal.old.rows }
-{
-    match journal.rows() {
-        Ok(rows) => items_in(rows.as_slice()),
-        Err(_) => None,
-    }
-}
-
 // Whether the trades of a venue are told as they should be after so many of the items.
 fn is_told(alloc: Global, venue: &Venue, items: usize) -> bool {
     let mut lines = Vec::new(alloc);
@@ -239,17 +223,20 @@ fn go_on<S: Alter + Drop>(
     alloc: Global,
     journal: Journal<S>,
     venue: Venue,
-) -> Result<(Connection<S>, Told), Fail>
+) -> Result<(Connection<S>, Day), Fail>
     requires leads { LeadsTo journal.rows venue }
 {
     let mut journal = journal;
-    let found = found_in(&mut journal);
+    let found = match journal.rows() {
+        Ok(rows) => items_in(rows.as_slice(), &[]).map(|items| items as usize),
+        Err(_) => None,
+    };
     let items = found.unwrap_or(0);
     let is_told = is_told(alloc, &venue, items);
     let (journal, answered) = answer_rest(alloc, journal, venue, items)?;
     Ok((
         journal.into_connection(),
-        Told {
+        Day {
             found,
             is_told,
             answered,
@@ -257,48 +244,16 @@ fn go_on<S: Alter + Drop>(
     ))
 }
 
-// Both files, and the market that they tell.
-#[derive(Drop)]
-struct Given {
-    files: Files,
-    participants: Participants,
-    instruments: Instruments,
-}
-
-fn make_given(alloc: Global) -> Result<Given, AllocError> {
-    let files = files(alloc)?;
-    let participants = fixture_participants(alloc)?;
-    let instruments = fixture_instruments(alloc, USUAL_DELAY)?;
-    Ok(Given {
-        files,
-        participants,
-        instruments,
-    })
-}
-
-// Begins where the trail leads that a database keeps, or with an empty one, and goes on.
-fn begin<S: Alter + Drop>(
+/// Plays a day over a database, up to the first item that is not answered: a venue begins where its trail leads, or with an empty one.
+pub fn play<S: Alter + Drop>(
     alloc: Global,
     conn: Connection<S>,
-) -> Result<(Connection<S>, Told), Fail> {
-    let Given {
-        files,
-        participants,
-        instruments,
-    } = make_given(alloc)?;
-    match start_trail(alloc, conn, &files, participants, instruments) {
+    files: &Files,
+) -> Result<(Connection<S>, Day), Fail> {
+    let participants = fixture_participants(alloc)?;
+    let instruments = fixture_instruments(alloc, USUAL_DELAY)?;
+    match start_trail(alloc, conn, files, participants, instruments) {
         Ok((journal, venue)) => go_on(alloc, journal, venue),
         Err((_, conn)) => Ok((conn, NOT_BEGUN)),
-    }
-}
-
-/// Plays a day over a trail's files, up to the first item that is not answered.
-pub fn play<D: Disk + Drop>(alloc: Global, pair: Pair<D>) -> Result<(Pair<D>, Told), Fail> {
-    match connect(alloc, pair) {
-        Ok(conn) => {
-            let (conn, told) = begin(alloc, conn)?;
-            Ok((conn.into_store().close(), told))
-        }
-        Err(pair) => Ok((pair, NOT_BEGUN)),
     }
 }

@@ -1,0 +1,34 @@
+//! A trail in a file.
+
+use super::files::{INSTRUMENTS, files_of};
+use super::keeping::{Finding, WHOLE, find};
+use super::steps::{Step, take_all};
+use audit_trail::Files;
+use sqlite::Connection;
+use std::fs;
+use std::test::*;
+
+/// Opens the file, takes these steps, and closes it: what is found before.
+fn told_of_file(rt: &HostRuntime, files: &Files, steps: &[Step]) -> Result<Finding, Fail> {
+    let conn = Connection::open(rt, "audit_trail_test/t.db")?;
+    let (conn, _) = take_all(rt.alloc(), conn, files, steps);
+    let (finding, _, conn) = find(rt.alloc(), conn, None, files);
+    conn.close()?;
+    Ok(finding)
+}
+
+/// What is found of a new trail of the worked items, and of the same once its file was closed and opened again.
+fn both_told(rt: &HostRuntime) -> Result<(Finding, Finding), Fail> {
+    let files = files_of(rt.alloc(), INSTRUMENTS, 0)?;
+    let _ = fs::remove_dir_all(rt, "audit_trail_test");
+    fs::create_dir(rt, "audit_trail_test")?;
+    let made = told_of_file(rt, &files, &[Step::Keep(7)])?;
+    let again = told_of_file(rt, &files, &[])?;
+    Ok((made, again))
+}
+
+#[test]
+fn kept_and_found(rt: HostRuntime) -> Result<(), Fail> {
+    assert_eq!(rt; both_told(&rt)?, (WHOLE, WHOLE));
+    Ok(())
+}

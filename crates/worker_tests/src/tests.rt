@@ -1,5 +1,0 @@
-mod files;
-mod items;
-mod playing;
-mod sessions;
-mod stops;
