@@ -1,9 +1,8 @@
 -- What a fault says of the output.
 use Rattle.data_dictionary.specs.declared.faults.WriteFault.{WriteFault}
-use Rattle.data_dictionary.specs.declared.faults.WriteFault.TheVariants.{Memory, Output, Unnamed}
+use Rattle.data_dictionary.specs.declared.faults.WriteFault.TheVariants.{Memory, Output}
 
 -- the fact, unless a write failed
 abbrev pub UnlessWriting : WriteFault → Type 0 → Type 0
 UnlessWriting Memory fact = fact
 UnlessWriting Output fact = Unit {0}
-UnlessWriting Unnamed fact = fact

@@ -3,13 +3,13 @@ use Rattle.std.specs.Prelude.{◌≡◌, ◌⊎◌, ℕ, Bool, true, false, not,
 use Rattle.std.specs.List.{list_all}
 use Rattle.std.specs.Str.{bytes_eq}
 use Rattle.fix_tables.specs.Tables.{header_rows, rows_of}
-use Rattle.fix_dictionary.specs.Kinds.{type_of}
+use Rattle.fix_dictionary.specs.Kinds.{is_session, type_of}
 use Rattle.fix_tables.specs.Table.{value_fault}
 use Rattle.fix_tables.specs.declared.table.Row.{Row}
 use Rattle.fix_dictionary.specs.declared.kinds.MessageType.{MessageType}
 use Rattle.data_dictionary.specs.Fields.{data_type_of, name_of}
 use Rattle.data_dictionary.specs.Layout.{each, lines_in, said_by}
-use Rattle.data_dictionary.specs.MessageTypes.{application_types, session_types}
+use Rattle.data_dictionary.specs.MessageTypes.{Listed, application_types, session_types}
 use Rattle.data_dictionary.specs.Values.{values_of}
 
 -- the lines of a table say each of its rows once, in order, with its tag, whether it is required, and its group
@@ -37,6 +37,14 @@ are_distinct (text ∷ texts) = not (is_among text texts) && are_distinct texts
 abbrev pub EachTableIsTold : Type 0
 EachTableIsTold = ((kind : List ℕ) (begin : ℕ) → (is_among kind codes_told ≡ true) ⊎ (length (rows_of (type_of kind) begin) ≡ 0))
     × (are_distinct codes_told ≡ true)
+
+-- whether a type is one of the session's own
+abbrev pub is_of_session : Listed → Bool
+is_of_session kind = is_session (type_of kind.code)
+
+-- The types of the transport dictionary are the session's own, and none of the application dictionary is.
+abbrev pub TypesAreApart : Type 0
+TypesAreApart = (list_all is_of_session session_types ≡ true) × (list_all (λ kind. not (is_of_session kind)) application_types ≡ true)
 
 -- each number is above the one before
 abbrev pub are_rising : List ℕ → Bool

@@ -4,19 +4,18 @@ ghost use Rattle.std.specs.List.{flat_map};
 ghost use Rattle.std.specs.Io.KnownBytes.{Appends, Keeps};
 ghost use Rattle.data_dictionary.specs.Dictionaries.{application_text, dictionary_text, table_text, field_head, field_text, fields_text, header_text, message_head, message_text, messages_text, trailer_text, transport_text, value_text, values_text};
 ghost use Rattle.data_dictionary.specs.Faults.{UnlessWriting};
-ghost use Rattle.data_dictionary.specs.Fields.{data_type_of, name_of};
 ghost use Rattle.data_dictionary.specs.MessageTypes.{seen};
 ghost use Rattle.fix_tables.specs.Tables.{rows_of};
 ghost use Rattle.data_dictionary.specs.Values.{named, values_of};
 
 use crate::faults::WriteFault;
-use crate::fields::{DataType, application_tags, field_of, transport_tags, type_name_of};
+use crate::fields::{DataType, application_tags, data_type_of, name_of, transport_tags, type_name_of};
 use crate::lines::{append, append_fields_asked, append_table, required};
 use crate::message_types::{Listed, application_types, session_types};
 use fix_dictionary::MessageType;
 use fix_tables::{header, resend_request_rows, rows_of, type_of};
 use itoa::Buffer;
-use std::alloc::Global;
+use std::alloc::{AllocError, Global};
 use std::io::Write;
 
 /// The data dictionaries of a FIXT 1.1 engine.
@@ -33,7 +32,7 @@ fn append_message_head(
     text: &mut Vec<u8>,
     category: &'static str,
     kind: &Listed,
-) -> Result<(), WriteFault>
+) -> Result<(), AllocError>
     ensures { OnOk result (text.new.items ≡ text.old.items ++ message_head category.now (seen kind.now)) }
 {
     append(
@@ -51,7 +50,7 @@ fn append_message_head(
 }
 
 // Appends the lines of a type's table. The number that a resend request begins with bounds only its 16, of which a line says nothing.
-fn append_table_of(text: &mut Vec<u8>, kind: MessageType) -> Result<(), WriteFault>
+fn append_table_of(text: &mut Vec<u8>, kind: MessageType) -> Result<(), AllocError>
     ensures { OnOk result (text.new.items ≡ text.old.items ++ table_text (rows_of kind 0)) }
 {
     match kind {
@@ -65,7 +64,7 @@ fn append_message(
     text: &mut Vec<u8>,
     category: &'static str,
     kind: &Listed,
-) -> Result<(), WriteFault>
+) -> Result<(), AllocError>
     ensures { OnOk result (text.new.items ≡ text.old.items ++ message_text category.now (seen kind.now)) }
 {
     append_message_head(text, category, kind)?;
@@ -77,7 +76,7 @@ fn append_each_message(
     text: &mut Vec<u8>,
     category: &'static str,
     kinds: &[Listed],
-) -> Result<(), WriteFault>
+) -> Result<(), AllocError>
     ensures { OnOk result (text.new.items ≡ text.old.items ++ flat_map (λ kind. message_text category.now (seen kind)) kinds.now) }
 {
     for kind in kinds {
@@ -92,7 +91,7 @@ fn append_messages(
     text: &mut Vec<u8>,
     category: &'static str,
     kinds: &[Listed],
-) -> Result<(), WriteFault>
+) -> Result<(), AllocError>
     ensures { OnOk result (text.new.items ≡ text.old.items ++ messages_text category.now (map seen kinds.now)) }
 {
     append(text, &["  <messages>\n"])?;
@@ -105,7 +104,7 @@ fn append_value(
     text: &mut Vec<u8>,
     value: &'static str,
     name: &'static str,
-) -> Result<(), WriteFault>
+) -> Result<(), AllocError>
     ensures { OnOk result (text.new.items ≡ text.old.items ++ value_text (named value.now name.now)) }
 {
     append(
@@ -122,7 +121,7 @@ fn append_value(
 
 // Appends the values of a data type that has few.
 #[tactic(auto, unfolding(crate::specs::Dictionaries::values_text, crate::specs::Values::values_of))]
-fn append_values(text: &mut Vec<u8>, data_type: DataType) -> Result<(), WriteFault>
+fn append_values(text: &mut Vec<u8>, data_type: DataType) -> Result<(), AllocError>
     ensures { OnOk result (text.new.items ≡ text.old.items ++ values_text (values_of data_type)) }
 {
     match data_type {
@@ -143,14 +142,7 @@ fn append_values(text: &mut Vec<u8>, data_type: DataType) -> Result<(), WriteFau
 }
 
 #[tactic(auto, unfolding(crate::specs::Dictionaries::field_head))]
-fn append_field_head(
-    text: &mut Vec<u8>,
-    tag: u32,
-    name: &'static str,
-    data_type: DataType,
-) -> Result<(), WriteFault>
-    requires name { name.now ≡ name_of tag }
-    requires data_type { data_type ≡ data_type_of tag }
+fn append_field_head(text: &mut Vec<u8>, tag: u32) -> Result<(), AllocError>
     ensures { OnOk result (text.new.items ≡ text.old.items ++ field_head tag) }
 {
     let mut digits = Buffer::new();
@@ -159,27 +151,24 @@ fn append_field_head(
         text,
         &[
             "' name='",
-            name,
+            name_of(tag),
             "' type='",
-            type_name_of(data_type),
+            type_name_of(data_type_of(tag)),
             "'>\n",
         ],
     )
 }
 
 #[tactic(auto, unfolding(crate::specs::Dictionaries::field_text))]
-fn append_field(text: &mut Vec<u8>, tag: u32) -> Result<(), WriteFault>
+fn append_field(text: &mut Vec<u8>, tag: u32) -> Result<(), AllocError>
     ensures { OnOk result (text.new.items ≡ text.old.items ++ field_text tag) }
 {
-    let Some(field) = field_of(tag) else {
-        return Err(WriteFault::Unnamed);
-    };
-    append_field_head(text, tag, field.name, field.data_type)?;
-    append_values(text, field.data_type)?;
+    append_field_head(text, tag)?;
+    append_values(text, data_type_of(tag))?;
     append(text, &["    </field>\n"])
 }
 
-fn append_each_field(text: &mut Vec<u8>, tags: &[u32]) -> Result<(), WriteFault>
+fn append_each_field(text: &mut Vec<u8>, tags: &[u32]) -> Result<(), AllocError>
     ensures { OnOk result (text.new.items ≡ text.old.items ++ flat_map field_text tags.now) }
 {
     for tag in tags {
@@ -190,7 +179,7 @@ fn append_each_field(text: &mut Vec<u8>, tags: &[u32]) -> Result<(), WriteFault>
 
 // Appends the fields, to the end of the dictionary.
 #[tactic(auto, unfolding(crate::specs::Dictionaries::fields_text))]
-fn append_fields(text: &mut Vec<u8>, tags: &[u32]) -> Result<(), WriteFault>
+fn append_fields(text: &mut Vec<u8>, tags: &[u32]) -> Result<(), AllocError>
     ensures { OnOk result (text.new.items ≡ text.old.items ++ fields_text tags.now) }
 {
     append(text, &["  <components/>\n  <fields>\n"])?;
@@ -200,7 +189,7 @@ fn append_fields(text: &mut Vec<u8>, tags: &[u32]) -> Result<(), WriteFault>
 
 // Appends the header, from the dictionary's first line on.
 #[tactic(auto, unfolding(crate::specs::Dictionaries::header_text, crate::specs::Layout::frame_begin))]
-fn append_header(text: &mut Vec<u8>) -> Result<(), WriteFault>
+fn append_header(text: &mut Vec<u8>) -> Result<(), AllocError>
     ensures { OnOk result (text.new.items ≡ text.old.items ++ header_text) }
 {
     append(
@@ -213,7 +202,7 @@ fn append_header(text: &mut Vec<u8>) -> Result<(), WriteFault>
 }
 
 #[tactic(auto, unfolding(crate::specs::Dictionaries::trailer_text, crate::specs::Layout::frame_end))]
-fn append_trailer(text: &mut Vec<u8>) -> Result<(), WriteFault>
+fn append_trailer(text: &mut Vec<u8>) -> Result<(), AllocError>
     ensures { OnOk result (text.new.items ≡ text.old.items ++ trailer_text) }
 {
     append(text, &["  <trailer>\n"])?;
@@ -222,7 +211,7 @@ fn append_trailer(text: &mut Vec<u8>) -> Result<(), WriteFault>
 }
 
 #[tactic(auto, unfolding(crate::specs::Dictionaries::transport_text))]
-fn append_transport(text: &mut Vec<u8>) -> Result<(), WriteFault>
+fn append_transport(text: &mut Vec<u8>) -> Result<(), AllocError>
     ensures { OnOk result (text.new.items ≡ text.old.items ++ transport_text) }
 {
     append_header(text)?;
@@ -232,7 +221,7 @@ fn append_transport(text: &mut Vec<u8>) -> Result<(), WriteFault>
 }
 
 #[tactic(auto, unfolding(crate::specs::Dictionaries::application_text))]
-fn append_application(text: &mut Vec<u8>) -> Result<(), WriteFault>
+fn append_application(text: &mut Vec<u8>) -> Result<(), AllocError>
     ensures { OnOk result (text.new.items ≡ text.old.items ++ application_text) }
 {
     append(
@@ -244,7 +233,7 @@ fn append_application(text: &mut Vec<u8>) -> Result<(), WriteFault>
 }
 
 #[tactic(auto, unfolding(crate::specs::Dictionaries::dictionary_text))]
-fn text_of(alloc: Global, dictionary: Dictionary) -> Result<Vec<u8>, WriteFault>
+fn text_of(alloc: Global, dictionary: Dictionary) -> Result<Vec<u8>, AllocError>
     ensures { IfOk result (λ text. text.items ≡ dictionary_text dictionary) }
 {
     let mut text = Vec::new(alloc);
@@ -255,9 +244,9 @@ fn text_of(alloc: Global, dictionary: Dictionary) -> Result<Vec<u8>, WriteFault>
     Ok(text)
 }
 
-/// Writes a data dictionary as QuickFIX reads it (XML): the rows of each table by which messages are read and printed, in printed
-/// order, each with whether it is required and in the group in which it stands; then each field of theirs once, with its tag, name and
-/// data type, and its values where there are few.
+/// Writes a data dictionary as QuickFIX reads it (XML): the rows of each table by which messages are read and printed, in
+/// printed order, each with whether it is required and in the group in which it stands; then each field of theirs once,
+/// with its tag, name and data type, and the values that stand here for the data type, if any do.
 pub fn write_dictionary<W: Write>(
     alloc: Global,
     dictionary: Dictionary,

@@ -12,9 +12,6 @@ pub enum WriteFault {
     /// 2: a write failed.
     #[error("output")]
     Output,
-    /// 3: a table has a tag that no field here has; none of this version's tables has one. Nothing was written.
-    #[error("a field has no name")]
-    Unnamed,
 }
 
 impl From<AllocError> for WriteFault {

@@ -2,7 +2,7 @@
 ghost use Rattle.std.specs.Prelude.{◌≡◌, map, nat_eq};
 ghost use Rattle.std.specs.List.{find};
 ghost use Rattle.std.specs.Option.{option_map};
-ghost use Rattle.data_dictionary.specs.Fields.{field_with, fields, seen, type_name_of};
+ghost use Rattle.data_dictionary.specs.Fields.{data_type_of, field_with, fields, name_of, seen, type_name_of};
 ghost use Rattle.data_dictionary.specs.Layout.{application_tags, transport_tags};
 
 /// A data type of FIX 5.0 SP2, narrowed where the venue reads few values.
@@ -210,9 +210,29 @@ fn first_of(fields: &[Field], tag: u32) -> Option<&Field>
     fields.iter().find(|field| field.tag == tag)
 }
 
-/// The field with this tag.
-pub(crate) fn field_of(tag: u32) -> Option<Field>
+// The field with this tag.
+fn field_of(tag: u32) -> Option<Field>
     ensures { option_map seen result ≡ field_with tag }
 {
     first_of(fields(), tag).copied()
+}
+
+/// The name of the field with this tag, empty where no field has it.
+pub(crate) fn name_of(tag: u32) -> &'static str
+    ensures { result.now ≡ name_of tag }
+{
+    match field_of(tag) {
+        Some(field) => field.name,
+        None => "",
+    }
+}
+
+/// The data type of the field with this tag, a text where no field has it.
+pub(crate) fn data_type_of(tag: u32) -> DataType
+    ensures { result ≡ data_type_of tag }
+{
+    match field_of(tag) {
+        Some(field) => field.data_type,
+        None => DataType::Text,
+    }
 }

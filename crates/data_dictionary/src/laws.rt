@@ -1,5 +1,5 @@
 //! What holds of the dictionaries.
-ghost use Rattle.data_dictionary.specs.Laws.{EachRowIsSaid, EachTableIsTold, NamesTellFields, ValuesAreRead};
+ghost use Rattle.data_dictionary.specs.Laws.{EachRowIsSaid, EachTableIsTold, NamesTellFields, TypesAreApart, ValuesAreRead};
 ghost use Rattle.data_dictionary.specs.Layout.{application_tags, transport_tags};
 
 /// The lines of each table say each of its rows once, in order, with its tag, whether it is required, and the group in whose lines it
@@ -11,6 +11,12 @@ pub fn each_row_is_said()
 /// A type that neither dictionary lists has no table, and none is listed twice.
 pub fn each_table_is_told()
     ensures { EachTableIsTold }
+{}
+
+/// The types that the transport dictionary lists are the session's own, and none that the application dictionary lists is.
+#[tactic(auto, unfolding(crate::specs::MessageTypes::session_types, crate::specs::MessageTypes::application_types))]
+pub fn types_are_apart()
+    ensures { TypesAreApart }
 {}
 
 /// No tag and no name of a field stands twice in a dictionary, and each field has a name: so a name tells its tag.

@@ -5,9 +5,9 @@ ghost use Rattle.fix_fields.specs.Views.{joined};
 ghost use Rattle.data_dictionary.specs.Dictionaries.{answer, attributes, fields_asked, line_text, table_text};
 ghost use Rattle.data_dictionary.specs.Layout.{is_counted, lines_in, required, told};
 
-use crate::faults::WriteFault;
-use crate::fields::field_of;
+use crate::fields::name_of;
 use fix_tables::Row;
+use std::alloc::AllocError;
 
 /// How a line names a field: by its tag, and with whether it is required.
 #[derive(Clone, Copy)]
@@ -27,7 +27,7 @@ pub(crate) enum Line {
 }
 
 /// Appends texts, one behind the other.
-pub(crate) fn append(text: &mut Vec<u8>, parts: &[&str]) -> Result<(), WriteFault>
+pub(crate) fn append(text: &mut Vec<u8>, parts: &[&str]) -> Result<(), AllocError>
     ensures { OnOk result (text.new.items ≡ text.old.items ++ joined parts.now) }
 {
     for part in parts {
@@ -65,17 +65,14 @@ fn told(row: &Row) -> Mention
 
 // Appends which field it is, and whether it is required.
 #[tactic(auto, unfolding(crate::specs::Dictionaries::attributes))]
-fn append_attributes(text: &mut Vec<u8>, field: Mention) -> Result<(), WriteFault>
+fn append_attributes(text: &mut Vec<u8>, field: Mention) -> Result<(), AllocError>
     ensures { OnOk result (text.new.items ≡ text.old.items ++ attributes field) }
 {
-    let Some(known) = field_of(field.tag) else {
-        return Err(WriteFault::Unnamed);
-    };
     append(
         text,
         &[
             " name='",
-            known.name,
+            name_of(field.tag),
             "' required='",
             answer(field.required),
             "'",
@@ -84,7 +81,7 @@ fn append_attributes(text: &mut Vec<u8>, field: Mention) -> Result<(), WriteFaul
 }
 
 #[tactic(auto, unfolding(crate::specs::Dictionaries::line_text))]
-fn append_line(text: &mut Vec<u8>, line: Line) -> Result<(), WriteFault>
+fn append_line(text: &mut Vec<u8>, line: Line) -> Result<(), AllocError>
     ensures { OnOk result (text.new.items ≡ text.old.items ++ line_text line) }
 {
     match line {
@@ -110,7 +107,7 @@ fn is_counted(tag: u32, rows: &[Row]) -> bool
 
 // Appends the lines of the rows that stand in this group, 0 for outside of groups. A count field has the lines of its instances' rows
 // behind it.
-fn append_rows(text: &mut Vec<u8>, group: u32, rows: &[Row]) -> Result<(), WriteFault>
+fn append_rows(text: &mut Vec<u8>, group: u32, rows: &[Row]) -> Result<(), AllocError>
     ensures { OnOk result (text.new.items ≡ text.old.items ++ flat_map line_text (lines_in group rows.now)) }
 {
     let Some((row, rest)) = rows.split_first() else {
@@ -131,7 +128,7 @@ fn append_rows(text: &mut Vec<u8>, group: u32, rows: &[Row]) -> Result<(), Write
 
 /// Appends the lines of a table.
 #[tactic(auto, unfolding(crate::specs::Dictionaries::table_text))]
-pub(crate) fn append_table(text: &mut Vec<u8>, rows: &[Row]) -> Result<(), WriteFault>
+pub(crate) fn append_table(text: &mut Vec<u8>, rows: &[Row]) -> Result<(), AllocError>
     ensures { OnOk result (text.new.items ≡ text.old.items ++ table_text rows.now) }
 {
     append_rows(text, 0, rows)
@@ -139,7 +136,7 @@ pub(crate) fn append_table(text: &mut Vec<u8>, rows: &[Row]) -> Result<(), Write
 
 /// Appends the lines of fields that stand in no group.
 #[tactic(auto, unfolding(crate::specs::Dictionaries::fields_asked))]
-pub(crate) fn append_fields_asked(text: &mut Vec<u8>, fields: &[Mention]) -> Result<(), WriteFault>
+pub(crate) fn append_fields_asked(text: &mut Vec<u8>, fields: &[Mention]) -> Result<(), AllocError>
     ensures { OnOk result (text.new.items ≡ text.old.items ++ fields_asked fields.now) }
 {
     for field in fields {
