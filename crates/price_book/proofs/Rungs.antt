@@ -6,7 +6,6 @@ use Rattle.std.proofs.lemmas.Bool.Decides.{nat_tests}
 use Rattle.std.proofs.lemmas.List.Edits.{length-insert, get_or-insert_at}
 use Rattle.fix_dictionary.specs.declared.values.Side.{Side}
 use Rattle.fix_dictionary.specs.declared.values.Side.TheVariants.{Buy, Sell}
-use Rattle.venue_rules.specs.declared.facts.Entry.{Entry}
 use Rattle.venue_rules.specs.Book.{Resting, is_better, is_day, is_side, rests}
 use Rattle.price_book.specs.declared.ladder.Ladder.{Ladder}
 use Rattle.price_book.specs.declared.row.Row.{Row}
@@ -14,11 +13,11 @@ use Rattle.price_book.specs.Rows.{row_of, rows_of, AreRanked, IsRow, behind, put
 use Rattle.price_book.specs.Numbered.{numbered}
 use Rattle.price_book.proofs.Numbers.{Found, numbered-some}
 use Rattle.price_book.proofs.Ranking.{rank-put, row-found, rows-reduced, rows-without, cut-length, are-ranked, stands}
-use Rattle.price_book.specs.Live.{is_live, ranked_live, whole_order, entered, reduced, without, Ledger, Absent, IsPlaceOf}
+use Rattle.price_book.specs.Live.{is_live, ranked_live, joined_by, reduced, without, Ledger, Absent, IsPlaceOf}
 use Rattle.price_book.specs.Ladders.{rank_last}
 use Rattle.price_book.specs.Rungs.{rung, rung_of, held, AreOrdered, Lacks, IsLadder, lower, AreLadders}
 use Rattle.price_book.proofs.Living.{other-number, same-number}
-use Rattle.price_book.proofs.Ladders.{ladder-entered, ladder-reduced, ladder-without, ledger-absent, absent-filter, absent-ranked, reduced-absent, without-absent}
+use Rattle.price_book.proofs.Ladders.{ladder-joined, ladder-reduced, ladder-without, ledger-absent, absent-filter, absent-ranked, reduced-absent, without-absent}
 
 -- Ladders by their rungs.
 
@@ -255,15 +254,15 @@ same-instrument y x Sell Buy h = absurd (grind (arith, nat_tests))
 
 -- the ladders after an entry, a trade and a removal are those of the orders
 
-pub ladders-entered : (rs : List Resting) (e : Entry) (before after : List Ladder) → is_live (whole_order e) ≡ true → AreLadders rs before → ((m : ℕ) → held m after ≡ (if m == rung e.order.instrument e.order.side then put_last e.order.side (row_of (whole_order e)) (held m before) else held m before)) → AreLadders (entered e rs) after
-ladders-entered rs e before after live are change x side =
-    change (rung x side) ∙ ap (λ hs. if rung x side == rung e.order.instrument e.order.side then put_last e.order.side (row_of (whole_order e)) hs else hs) (are x side)
-    ∙ by (rung x side == rung e.order.instrument e.order.side) refl
-    ∙ ap (λ b. rows_of (cond b (rank_last side (whole_order e) (ranked_live x side rs)) (ranked_live x side rs))) (sym (own-rung x side (whole_order e) live))
-    ∙ ap rows_of (sym (ladder-entered x side e rs))
+pub ladders-joined : (rs : List Resting) (r : Resting) (before after : List Ladder) → is_live r ≡ true → AreLadders rs before → ((m : ℕ) → held m after ≡ (if m == rung r.entry.order.instrument r.entry.order.side then put_last r.entry.order.side (row_of r) (held m before) else held m before)) → AreLadders (joined_by r rs) after
+ladders-joined rs r before after live are change x side =
+    change (rung x side) ∙ ap (λ hs. if rung x side == rung r.entry.order.instrument r.entry.order.side then put_last r.entry.order.side (row_of r) hs else hs) (are x side)
+    ∙ by (rung x side == rung r.entry.order.instrument r.entry.order.side) refl
+    ∙ ap (λ b. rows_of (cond b (rank_last side r (ranked_live x side rs)) (ranked_live x side rs))) (sym (own-rung x side r live))
+    ∙ ap rows_of (sym (ladder-joined x side r rs))
   where
-    by : (b : Bool) → (rung x side == rung e.order.instrument e.order.side) ≡ b → (if b then put_last e.order.side (row_of (whole_order e)) (rows_of (ranked_live x side rs)) else rows_of (ranked_live x side rs)) ≡ rows_of (cond b (rank_last side (whole_order e) (ranked_live x side rs)) (ranked_live x side rs))
-    by true h = ap (λ s. put_last s (row_of (whole_order e)) (rows_of (ranked_live x side rs))) (sym (same-side x e.order.instrument side e.order.side h)) ∙ sym (rank-put side (whole_order e) (ranked_live x side rs))
+    by : (b : Bool) → (rung x side == rung r.entry.order.instrument r.entry.order.side) ≡ b → (if b then put_last r.entry.order.side (row_of r) (rows_of (ranked_live x side rs)) else rows_of (ranked_live x side rs)) ≡ rows_of (cond b (rank_last side r (ranked_live x side rs)) (ranked_live x side rs))
+    by true h = ap (λ s. put_last s (row_of r) (rows_of (ranked_live x side rs))) (sym (same-side x r.entry.order.instrument side r.entry.order.side h)) ∙ sym (rank-put side r (ranked_live x side rs))
     by false h = refl
 
 elsewhere : (n low : ℕ) (rs : List Resting) (k : ℕ) (d : Resting) (p : Resting → Bool) → Ledger low rs → k < length rs → (get_or rs k d).entry.number ≡ n → p (get_or rs k d) ≡ false → Absent n (filter p rs)
@@ -368,5 +367,5 @@ pub held-more : (side : Side) (row : Row) (b : Bool) (rows : List Row) → lengt
 held-more side row true rows = omega (arith, put-more side row rows)
 held-more side row false rows = omega arith
 
-pub live-whole : (e : Entry) → is_day e.order.life ≡ true → 0 < e.order.quantity → is_live (whole_order e) ≡ true
-live-whole e day some = ap (λ b. b && nat_lt 0 e.order.quantity) day ∙ below 0 e.order.quantity some
+pub live-left : (r : Resting) → is_day r.entry.order.life ≡ true → 0 < r.left → is_live r ≡ true
+live-left r day some = ap (λ b. b && nat_lt 0 r.left) day ∙ below 0 r.left some

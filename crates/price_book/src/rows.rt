@@ -1,24 +1,23 @@
 //! The orders of a side as they are ranked: where one stands, and what an entry, a trade and a removal do to them.
-ghost use Rattle.std.specs.Prelude.{◌≡◌, ℕ, ◌≤◌, ◌<◌, ◌+◌, ◌^◌, length};
+ghost use Rattle.std.specs.Prelude.{◌≡◌, ℕ, ◌≤◌, ◌<◌, length};
 ghost use Rattle.std.specs.List.{remove};
 ghost use Rattle.std.specs.Vec.{vec_capacity, vec_len};
-ghost use Rattle.price_book.specs.Live.{whole_order};
 ghost use Rattle.price_book.specs.Rows.{row_of, comes_before, AreRanked, IsRow, behind, put_last, cut_at};
+ghost use Rattle.price_book.specs.Views.{seen};
 
 use crate::orders::is_better;
+use crate::resting::Resting;
 use crate::row::Row;
 use fix_dictionary::{Amount, Price, Side};
-use venue_rules::Entry;
 
-/// The whole order, as it stands on its side.
-pub(crate) fn row_of(entry: &Entry) -> Row
-    requires { entry.now.filled_before + entry.now.order.quantity ≤ 10 ^ 15 }
-    ensures { result ≡ row_of (whole_order entry.now) }
+/// An order, as it stands on its side.
+pub(crate) fn row_of(order: Resting<'_>) -> Row
+    ensures { result ≡ row_of (seen order.entry) }
 {
     Row {
-        number: entry.number,
-        price: entry.order.price,
-        left: Amount::new(entry.order.quantity.get()),
+        number: order.entry.number,
+        price: order.entry.order.price,
+        left: Amount::new(order.left),
     }
 }
 
