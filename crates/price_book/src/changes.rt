@@ -1,11 +1,13 @@
 //! What each fact does to the orders that rest.
-ghost use Rattle.std.specs.Prelude.{◌≡◌, ℕ, ◌≤◌, length, true, List, [], IfOk};
+ghost use Rattle.std.specs.Prelude.{◌≡◌, ℕ, ◌≤◌, length, true, List, [], IfOk, Some};
 ghost use Rattle.venue_rules.specs.Book.{Resting, side_room};
 ghost use Rattle.venue_rules.specs.Facts.{entries};
 ghost use Rattle.price_book.specs.Kept.{are_whole};
-ghost use Rattle.price_book.specs.Live.{joined_by, reduced, traded_of, without, change, steps, Ledger, AreLedgers};
+ghost use Rattle.price_book.specs.Live.{joined_by, reduced, traded_of, without, change, steps, terms_of, Ledger, AreLedgers};
+ghost use Rattle.price_book.specs.Numbered.{slot_at};
 ghost use Rattle.price_book.specs.Rungs.{rung, held, IsInStep, HasRoom};
 ghost use Rattle.price_book.specs.Views.{seen};
+ghost use Rattle.price_book.specs.declared.slot.Slot.{Slot};
 ghost use Rattle.fix_dictionary.specs.declared.values.Side.{Side};
 
 use crate::entering::SIDE_ROOM;
@@ -17,7 +19,7 @@ use crate::orders_kept::OrdersKept;
 use crate::resting::Resting as Lent;
 use crate::rows::row_of;
 use crate::sides::{enter_ladder, leave_ladder, reduce_ladder};
-use crate::slots::name_of;
+use crate::slots::{Terms, name_of, terms_of};
 use fix_dictionary::Identifier;
 use std::alloc::{AllocError, Global};
 use std::collections::HashMap;
@@ -82,6 +84,19 @@ fn enter(orders: &mut OrdersKept, order: Lent<'_>)
     }
 }
 
+// The order of this number and these terms is gone.
+fn take_off(orders: &mut OrdersKept, number: u64, terms: &Terms)
+    requires step { (rs : List Resting) × IsInStep rs orders.old }
+    requires here { (s : Slot) × (slot_at orders.old.slots.entries number ≡ Some s) × (terms_of s.entry ≡ terms.now) }
+    ensures step { (rs : List Resting) → IsInStep rs orders.old → IsInStep (without number rs) orders.new }
+    ensures room { (n : ℕ) → HasRoom n orders.old → HasRoom n orders.new }
+{
+    let (instrument, side, price) = (terms.instrument, terms.side, terms.price);
+    leave_ladder(&mut orders.ladders, instrument, side, price, number);
+    remove_name(&orders.slots, &mut orders.names, &terms.name, number);
+    forget(&mut orders.slots, number);
+}
+
 // The order of this number is gone.
 fn leave(orders: &mut OrdersKept, number: u64)
     requires { (rs : List Resting) × IsInStep rs orders.old }
@@ -91,13 +106,8 @@ fn leave(orders: &mut OrdersKept, number: u64)
     let Some(slot) = orders.slots.get(&number) else {
         return;
     };
-    let instrument = slot.entry.order.instrument;
-    let side = slot.entry.order.side;
-    let price = slot.entry.order.price;
-    let name = name_of(&slot.entry);
-    leave_ladder(&mut orders.ladders, instrument, side, price, number);
-    remove_name(&orders.slots, &mut orders.names, &name, number);
-    forget(&mut orders.slots, number);
+    let terms = terms_of(&slot.entry);
+    take_off(orders, number, &terms);
 }
 
 // So much less is left of the order of this number; it is gone where nothing is.
@@ -109,13 +119,14 @@ fn reduce(orders: &mut OrdersKept, number: u64, quantity: u64)
     let Some(slot) = orders.slots.get(&number) else {
         return;
     };
+    if slot.left <= quantity {
+        let terms = terms_of(&slot.entry);
+        take_off(orders, number, &terms);
+        return;
+    }
     let instrument = slot.entry.order.instrument;
     let side = slot.entry.order.side;
     let price = slot.entry.order.price;
-    if slot.left <= quantity {
-        leave(orders, number);
-        return;
-    }
     reduce_ladder(
         &mut orders.ladders,
         instrument,
