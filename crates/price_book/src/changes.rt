@@ -163,8 +163,8 @@ fn change(orders: &mut OrdersKept, fact: &Fact)
     }
 }
 
-/// Facts more, for whose order there is room. It enters last, with what its trades leave of it: one of which nothing is left is
-/// never put among those that rest.
+/// Facts more, for whose order there is room. It enters last, with what its trades leave of it: one of which nothing is
+/// left is never put among those that rest.
 pub(crate) fn add_facts(orders: &mut OrdersKept, facts: &[Fact])
     requires step { (rs : List Resting) × AreLedgers rs facts.now × IsInStep rs orders.old }
     requires room { HasRoom (length (entries facts.now)) orders.old }

@@ -1,7 +1,6 @@
 use Rattle.std.proofs.Common.{◌≡◌, ◌∙◌, ap, sym, refl, [], ◌∷◌, ◌++◌, length, cond, true, ◌==◌, arith}
 use Rattle.venue_rules.specs.Book.{Resting}
 use Rattle.price_book.specs.Live.{is_live, joined_by}
-use Rattle.price_book.specs.Rows.{row_of}
 use Rattle.price_book.specs.Rungs.{rung, held}
 use Rattle.price_book.specs.Views.{seen}
 use Rattle.price_book.proofs.Rungs.{ladders-joined, held-more, live-left, ranked-there}

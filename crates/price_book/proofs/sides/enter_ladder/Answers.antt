@@ -1,8 +1,9 @@
 use Rattle.std.proofs.Common.{◌≡◌, ◌∙◌, ap, sym, refl, List, length, ◌==◌, if◌then◌else◌, arith}
+use Rattle.std.proofs.lemmas.List.{length-reverse}
 use Rattle.price_book.specs.declared.ladder.Ladder.{Ladder}
 use Rattle.price_book.specs.declared.row.Row.{Row}
 use Rattle.price_book.specs.Rows.{put_last}
-use Rattle.price_book.specs.Rungs.{rung, held, IsLadder}
+use Rattle.price_book.specs.Rungs.{rung, rows_in, held, IsLadder}
 use Rattle.price_book.proofs.Rungs.{held-there, held-changed, ordered-changed}
 use Rattle.price_book.proofs.sides.enter_ladder.Goals as goal
 
@@ -11,7 +12,7 @@ put_last-requires-clause-room c =
     let ls : List Ladder = c.args.ladders.now.items in
     let l : Ladder = c.index_mut.result.now in
     let there : IsLadder (rung c.args.instrument c.args.side) ls c.in-Some.at = rw c.deref.ensures.value at c.in-Some.ensures in
-    omega (arith, ap length (held-there (rung c.args.instrument c.args.side) ls c.in-Some.at l c.requires.ordered there c.index_mut.ensures.value), c.requires.places, l.room, l.rows.ok)
+    omega (arith, ap length (held-there (rung c.args.instrument c.args.side) ls c.in-Some.at l c.requires.ordered there c.index_mut.ensures.value), c.requires.places, l.room, l.rows.ok, length-reverse l.rows.items)
 
 pub put_last-requires-clause-ranked : goal.put_last-requires-clause-ranked
 put_last-requires-clause-ranked c =
@@ -37,13 +38,13 @@ put_last-requires-2-clause-room c =
     let n = rung c.args.instrument c.args.side in
     let l : Ladder = c.index_mut-2.result.now in
     let held-is = held-there n c.open-at.new.ladders.items c.open-at.result l c.open-at.ensures.ordered c.open-at.ensures.there c.index_mut-2.ensures.value in
-    omega (arith, ap length (sym (c.open-at.ensures.held n) ∙ held-is), c.requires.places, l.room, l.rows.ok)
+    omega (arith, ap length (sym (c.open-at.ensures.held n) ∙ held-is), c.requires.places, l.room, l.rows.ok, length-reverse l.rows.items)
 
 pub put_last-requires-2-clause-ranked : goal.put_last-requires-2-clause-ranked
 put_last-requires-2-clause-ranked c =
     let n = rung c.args.instrument c.args.side in
     let l : Ladder = c.index_mut-2.result.now in
-    let held-is : held n c.args.ladders.now.items ≡ l.rows.items = sym (c.open-at.ensures.held n) ∙ held-there n c.open-at.new.ladders.items c.open-at.result l c.open-at.ensures.ordered c.open-at.ensures.there c.index_mut-2.ensures.value in
+    let held-is : held n c.args.ladders.now.items ≡ rows_in l = sym (c.open-at.ensures.held n) ∙ held-there n c.open-at.new.ladders.items c.open-at.result l c.open-at.ensures.ordered c.open-at.ensures.there c.index_mut-2.ensures.value in
     rw held-is at c.requires.ranked
 
 pub returns-clause-ordered : goal.returns-clause-ordered
