@@ -8,7 +8,7 @@ use Rattle.venue_rules.specs.declared.facts.Entry.{Entry}
 use Rattle.venue_rules.specs.Book.{Resting}
 use Rattle.venue_rules.specs.declared.facts.Fact.{Fact}
 use Rattle.price_book.specs.declared.slot.Slot.{Slot}
-use Rattle.price_book.specs.Live.{seen_slot, is_live, whole_order, entered, reduced, without, steps, Ledger, AreLedgers, Absent, IsPlaceOf}
+use Rattle.price_book.specs.Live.{seen_slot, is_live, joined_by, reduced, without, changes, Ledger, AreLedgers, Absent, IsPlaceOf}
 use Rattle.price_book.specs.declared.orders_kept.OrdersKept.{OrdersKept}
 use Rattle.price_book.specs.Rungs.{IsInStep}
 use Rattle.price_book.specs.Numbered.{numbered, slot_at, IsNumbered, number_at}
@@ -196,11 +196,11 @@ map-cond : (b : Bool) (o p : Option Slot) → option_map seen_slot (cond b o p) 
 map-cond true o p = refl
 map-cond false o p = refl
 
-pub put-numbered : (e : Entry) (s : Slot) (rs : List Resting) (es fs : List (ℕ × Slot)) → is_live (whole_order e) ≡ true → Ledger 0 (entered e rs) → seen_slot s ≡ whole_order e → ((m : ℕ) → slot_at fs m ≡ cond (e.number == m) (Some s) (slot_at es m)) → IsNumbered rs es → IsNumbered (entered e rs) fs
-put-numbered e s rs es fs live ledger seen change kept m =
-    let grown : entered e rs ≡ rs ++ whole_order e ∷ [] = ap (λ b. cond b (rs ++ whole_order e ∷ []) rs) live in
-    ap (option_map seen_slot) (change m) ∙ map-cond (e.number == m) (Some s) (slot_at es m) ∙ ap (λ r. cond (e.number == m) (Some r) (option_map seen_slot (slot_at es m))) seen ∙ ap (cond (e.number == m) (Some (whole_order e))) (kept m)
-    ∙ sym (ap (numbered m) grown ∙ numbered-pushed m rs (whole_order e) (pushed-absent 0 rs (whole_order e) (rw grown at ledger)))
+pub put-numbered : (r : Resting) (s : Slot) (rs : List Resting) (es fs : List (ℕ × Slot)) → is_live r ≡ true → Ledger 0 (joined_by r rs) → seen_slot s ≡ r → ((m : ℕ) → slot_at fs m ≡ cond (r.entry.number == m) (Some s) (slot_at es m)) → IsNumbered rs es → IsNumbered (joined_by r rs) fs
+put-numbered r s rs es fs live ledger seen change kept m =
+    let grown : joined_by r rs ≡ rs ++ r ∷ [] = ap (λ b. cond b (rs ++ r ∷ []) rs) live in
+    ap (option_map seen_slot) (change m) ∙ map-cond (r.entry.number == m) (Some s) (slot_at es m) ∙ ap (λ t. cond (r.entry.number == m) (Some t) (option_map seen_slot (slot_at es m))) seen ∙ ap (cond (r.entry.number == m) (Some r)) (kept m)
+    ∙ sym (ap (numbered m) grown ∙ numbered-pushed m rs r (pushed-absent 0 rs r (rw grown at ledger)))
 
 pub forget-numbered : (n : ℕ) (rs : List Resting) (es fs : List (ℕ × Slot)) → Ledger 0 rs → ((m : ℕ) → slot_at fs m ≡ cond (n == m) None (slot_at es m)) → IsNumbered rs es → IsNumbered (without n rs) fs
 forget-numbered n rs es fs ledger change kept m =
@@ -243,6 +243,5 @@ reordered rs es fs same kept n = ap (option_map seen_slot) (same n) ∙ kept n
 -- what facts that are still to come make of the orders that are kept
 pub record Going (target : List Resting) (rest : List Fact) (o : OrdersKept) : Type 0 where
   pub now : List Resting
-  pub ledgers : AreLedgers now rest
   pub step : IsInStep now o
-  pub same : steps now rest ≡ target
+  pub same : changes now rest ≡ target

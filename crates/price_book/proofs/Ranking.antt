@@ -1,11 +1,11 @@
-use Rattle.std.proofs.Common.{◌≡◌, refl, sym, ap, ◌∙◌, ℕ, zero, suc, ◌+◌, ◌-◌, ◌≤◌, ◌<◌, Bool, true, false, cond, not, ◌&&◌, ◌||◌, ◌==◌, nat_lt, ◌⊎◌, inl, inr, ℤ, List, [], ◌∷◌, filter, length, get_or, set, Option, Some, option_map, arith, if◌then◌else◌}
+use Rattle.std.proofs.Common.{◌≡◌, refl, sym, ap, ◌∙◌, ℕ, zero, suc, ◌+◌, ◌-◌, ◌≤◌, ◌<◌, Bool, true, false, cond, not, ◌&&◌, ◌||◌, ◌==◌, nat_lt, ◌⊎◌, inl, inr, ℤ, List, [], ◌∷◌, filter, length, get_or, set, reverse, Option, Some, option_map, arith, if◌then◌else◌}
 use Rattle.std.specs.List.{insert, remove}
 use Rattle.std.specs.List.Sorted.{IsPartitionedBy, IsPartitionPoint}
 use Rattle.std.specs.Option.{unwrap_or}
 use Rattle.std.proofs.Math.Numerals.{one-add}
 use Rattle.std.proofs.lemmas.Bool.Decides.{nat_tests}
 use Rattle.std.proofs.lemmas.Int.{ints}
-use Rattle.std.proofs.lemmas.List.{length-map}
+use Rattle.std.proofs.lemmas.List.{length-map, length-reverse}
 use Rattle.fix_dictionary.specs.declared.values.Side.{Side}
 use Rattle.fix_dictionary.specs.declared.values.Side.TheVariants.{Buy, Sell}
 use Rattle.venue_rules.specs.Book.{Resting, is_better, rank, ranked, rests}
@@ -20,6 +20,7 @@ use Rattle.price_book.proofs.Ladders.{ledger-absent, ledger-filter, absent-ranke
 use Rattle.price_book.proofs.Numbers.{Found, numbered-some, without-place, number-read, numbered-at}
 use Rattle.price_book.proofs.Placing.{ranked-all}
 use Rattle.price_book.proofs.SlotSteps.{map-remove}
+use Rattle.price_book.proofs.Turned.{read-turned, set-turned, point-turned}
 use Rattle.std.proofs.lemmas.List.Elements.{All-filter}
 
 -- The orders of a side as they are ranked.
@@ -112,6 +113,22 @@ behind-point side p rows i h point = sym (behind-is side p rows i h (λ k d j. o
     on : (b : Bool) → not b ≡ false → b ≡ true
     on true e = refl
     on false e = cc
+
+-- the same, in rows that stand the worst first
+
+pub placed-turned : (side : Side) (p : ℤ) (n : ℕ) (rows : List Row) (at k : ℕ) → AreRanked side (reverse rows) → IsRow n p (reverse rows) k → at ≤ length rows → IsPartitionPoint (λ y. not (comes_before side p n y) ≡ true) (λ y. not (comes_before side p n y) ≡ false) rows at → at + k ≡ length rows
+placed-turned side p n rows at k ranked is bound point =
+    let there : length rows - at ≡ k = placed side p n (reverse rows) (length rows - at) k ranked is (omega (arith, length-reverse rows)) (point-turned (comes_before side p n) (λ y. not (comes_before side p n y)) rows at (length rows - at) (λ y. refl) (omega (arith, bound)) point) in
+    omega (arith, bound, there)
+
+pub not-twice : (b : Bool) → b ≡ not (not b)
+not-twice true = refl
+not-twice false = refl
+
+pub behind-turned : (side : Side) (p : ℤ) (rows : List Row) (i : ℕ) → i ≤ length rows → IsPartitionPoint (λ (y : Row). is_better side p y.price ≡ true) (λ (y : Row). is_better side p y.price ≡ false) rows i → i + behind side p (reverse rows) ≡ length rows
+behind-turned side p rows i h point =
+    let there : length rows - i ≡ behind side p (reverse rows) = behind-point side p (reverse rows) (length rows - i) (omega (arith, length-reverse rows)) (point-turned (λ (y : Row). not (is_better side p y.price)) (λ (y : Row). is_better side p y.price) rows i (length rows - i) (λ y. not-twice (is_better side p y.price)) (omega (arith, h)) point) in
+    omega (arith, h, there)
 
 -- an order more, one that is cut, one that goes
 
@@ -272,8 +289,10 @@ numbered-ranked n low side (r ∷ rs) l = numbered-rank n side r (ranked side rs
 pub stands : (n x : ℕ) (side : Side) (rs : List Resting) (r : Resting) → Ledger 0 rs → numbered n rs ≡ Some r → rests x side r ≡ true → Found n (ranked_live x side rs) r
 stands n x side rs r l some on = numbered-some n (ranked_live x side rs) r (numbered-ranked n 0 side (filter (rests x side) rs) (ledger-filter 0 (rests x side) rs l) ∙ numbered-filter n (rests x side) rs r some on)
 
-pub cut-here : (k q : ℕ) (rows : List Row) (at : ℕ) (row : Row) (less : ℕ) → at ≡ k → row ≡ get_or rows at row → less ≡ row.left - q → set rows at (record { number = row.number; price = row.price; left = less }) ≡ cut_at k q rows
-cut-here k q rows at row less e is l = ap (λ m. set rows at (record { number = row.number; price = row.price; left = m })) l ∙ cut-set at q rows row is ∙ ap (λ j. cut_at j q rows) e
+pub cut-here : (k q : ℕ) (rows : List Row) (at : ℕ) (row : Row) (less : ℕ) → at + k + 1 ≡ length rows → row ≡ get_or rows at row → less ≡ row.left - q → reverse (set rows at (record { number = row.number; price = row.price; left = less })) ≡ cut_at k q (reverse rows)
+cut-here k q rows at row less e is l =
+    ap (λ m. reverse (set rows at (record { number = row.number; price = row.price; left = m }))) l ∙ set-turned rows at k (record { number = row.number; price = row.price; left = row.left - q }) e
+    ∙ cut-set k q (reverse rows) row (is ∙ sym (read-turned rows at k row e))
 
 -- each order of a side is kept by its number
 pub sides-kept : (x : ℕ) (side : Side) (rs : List Resting) (es : List (ℕ × Slot)) → Ledger 0 rs → IsNumbered rs es → AreKept (ranked_live x side rs) es

@@ -6,7 +6,6 @@ use Rattle.std.proofs.lemmas.Bool.Decides.{nat_tests}
 use Rattle.std.proofs.lemmas.List.Edits.{length-insert, get_or-insert_at}
 use Rattle.fix_dictionary.specs.declared.values.Side.{Side}
 use Rattle.fix_dictionary.specs.declared.values.Side.TheVariants.{Buy, Sell}
-use Rattle.venue_rules.specs.declared.facts.Entry.{Entry}
 use Rattle.venue_rules.specs.Book.{Resting, is_better, is_day, is_side, rests}
 use Rattle.price_book.specs.declared.ladder.Ladder.{Ladder}
 use Rattle.price_book.specs.declared.row.Row.{Row}
@@ -14,11 +13,11 @@ use Rattle.price_book.specs.Rows.{row_of, rows_of, AreRanked, IsRow, behind, put
 use Rattle.price_book.specs.Numbered.{numbered}
 use Rattle.price_book.proofs.Numbers.{Found, numbered-some}
 use Rattle.price_book.proofs.Ranking.{rank-put, row-found, rows-reduced, rows-without, cut-length, are-ranked, stands}
-use Rattle.price_book.specs.Live.{is_live, ranked_live, whole_order, entered, reduced, without, Ledger, Absent, IsPlaceOf}
+use Rattle.price_book.specs.Live.{is_live, ranked_live, joined_by, reduced, without, Ledger, Absent, IsPlaceOf}
 use Rattle.price_book.specs.Ladders.{rank_last}
-use Rattle.price_book.specs.Rungs.{rung, rung_of, held, AreOrdered, Lacks, IsLadder, lower, AreLadders}
+use Rattle.price_book.specs.Rungs.{rung, rung_of, rows_in, held, AreOrdered, Lacks, IsLadder, lower, AreLadders}
 use Rattle.price_book.proofs.Living.{other-number, same-number}
-use Rattle.price_book.proofs.Ladders.{ladder-entered, ladder-reduced, ladder-without, ledger-absent, absent-filter, absent-ranked, reduced-absent, without-absent}
+use Rattle.price_book.proofs.Ladders.{ladder-joined, ladder-reduced, ladder-without, ledger-absent, absent-filter, absent-ranked, reduced-absent, without-absent}
 
 -- Ladders by their rungs.
 
@@ -39,32 +38,32 @@ rungs-rise low (l ∷ ls) (suc i) (suc j) d o h k = rungs-rise (rung_of l + 1) l
 
 -- what a ladder holds
 
-pub held-at : (low n : ℕ) (ls : List Ladder) (k : ℕ) (d : Ladder) → AreOrdered low ls → k < length ls → n ≡ rung_of (get_or ls k d) → held n ls ≡ (get_or ls k d).rows.items
+pub held-at : (low n : ℕ) (ls : List Ladder) (k : ℕ) (d : Ladder) → AreOrdered low ls → k < length ls → n ≡ rung_of (get_or ls k d) → held n ls ≡ rows_in (get_or ls k d)
 held-at low n [] k d o h e = absurd (omega (arith, h))
-held-at low n (l ∷ ls) zero d o h e = ap (λ b. if b then l.rows.items else held n ls) (eq-eqb n (rung_of l) e)
+held-at low n (l ∷ ls) zero d o h e = ap (λ b. if b then rows_in l else held n ls) (eq-eqb n (rung_of l) e)
 held-at low n (l ∷ ls) (suc k) d o h e =
     let later : rung_of l + 1 ≤ rung_of (get_or ls k d) = rung-least (rung_of l + 1) ls k d o.1 (omega (arith, h)) in
-    ap (λ b. if b then l.rows.items else held n ls) (above (rung_of l) n (omega (arith, later, e))) ∙ held-at (rung_of l + 1) n ls k d o.1 (omega (arith, h)) e
+    ap (λ b. if b then rows_in l else held n ls) (above (rung_of l) n (omega (arith, later, e))) ∙ held-at (rung_of l + 1) n ls k d o.1 (omega (arith, h)) e
 
 pub held-lacks : (n : ℕ) (ls : List Ladder) → Lacks n ls → held n ls ≡ []
 held-lacks n [] a = refl
-held-lacks n (l ∷ ls) a = ap (λ b. if b then l.rows.items else held n ls) a.0 ∙ held-lacks n ls a.1
+held-lacks n (l ∷ ls) a = ap (λ b. if b then rows_in l else held n ls) a.0 ∙ held-lacks n ls a.1
 
 never : (b : Bool) → b ≡ true → b ≡ false → ⊥
 never true h k = cc
 never false h k = cc
 
 -- a ladder changes where it stands
-pub held-set : (low : ℕ) (ls : List Ladder) (k : ℕ) (t d : Ladder) (m : ℕ) → AreOrdered low ls → k < length ls → rung_of t ≡ rung_of (get_or ls k d) → held m (set ls k t) ≡ (if m == rung_of t then t.rows.items else held m ls)
+pub held-set : (low : ℕ) (ls : List Ladder) (k : ℕ) (t d : Ladder) (m : ℕ) → AreOrdered low ls → k < length ls → rung_of t ≡ rung_of (get_or ls k d) → held m (set ls k t) ≡ (if m == rung_of t then rows_in t else held m ls)
 held-set low [] k t d m o h e = absurd (omega (arith, h))
 held-set low (l ∷ ls) zero t d m o h e = by (m == rung_of t) (ap (λ n. m == n) e)
   where
-    by : (b : Bool) → b ≡ (m == rung_of l) → (if b then t.rows.items else held m ls) ≡ (if b then t.rows.items else (if m == rung_of l then l.rows.items else held m ls))
+    by : (b : Bool) → b ≡ (m == rung_of l) → (if b then rows_in t else held m ls) ≡ (if b then rows_in t else (if m == rung_of l then rows_in l else held m ls))
     by true f = refl
-    by false f = ap (λ c. if c then l.rows.items else held m ls) f
+    by false f = ap (λ c. if c then rows_in l else held m ls) f
 held-set low (l ∷ ls) (suc k) t d m o h e = by (m == rung_of l) (m == rung_of t) refl refl (held-set (rung_of l + 1) ls k t d m o.1 (omega (arith, h)) e)
   where
-    by : (b c : Bool) → (m == rung_of l) ≡ b → (m == rung_of t) ≡ c → held m (set ls k t) ≡ (if m == rung_of t then t.rows.items else held m ls) → (if b then l.rows.items else held m (set ls k t)) ≡ (if c then t.rows.items else (if b then l.rows.items else held m ls))
+    by : (b c : Bool) → (m == rung_of l) ≡ b → (m == rung_of t) ≡ c → held m (set ls k t) ≡ (if m == rung_of t then rows_in t else held m ls) → (if b then rows_in l else held m (set ls k t)) ≡ (if c then rows_in t else (if b then rows_in l else held m ls))
     by true true f g ih =
         let later : rung_of l + 1 ≤ rung_of (get_or ls k d) = rung-least (rung_of l + 1) ls k d o.1 (omega (arith, h)) in
         absurd (clash (same-number m (rung_of l) f) (same-number m (rung_of t) g) later)
@@ -72,7 +71,7 @@ held-set low (l ∷ ls) (suc k) t d m o h e = by (m == rung_of l) (m == rung_of 
         clash : m ≡ rung_of l → m ≡ rung_of t → rung_of l + 1 ≤ rung_of (get_or ls k d) → ⊥
         clash a b later = omega (arith, a, b, later, e)
     by true false f g ih = refl
-    by false c f g ih = ih ∙ ap (λ q. if q then t.rows.items else held m ls) g
+    by false c f g ih = ih ∙ ap (λ q. if q then rows_in t else held m ls) g
 
 pub ordered-set : (low : ℕ) (ls : List Ladder) (k : ℕ) (t d : Ladder) → AreOrdered low ls → k < length ls → rung_of t ≡ rung_of (get_or ls k d) → AreOrdered low (set ls k t)
 ordered-set low [] k t d o h e = absurd (omega (arith, h))
@@ -127,8 +126,8 @@ lacks-there low n (l ∷ ls) o h = by (nat_lt (rung_of l) n) refl h (lacks-there
         (apart (rung_of l) n off, lacks-below (rung_of l + 1) n ls (omega (arith, up)) o.1)
 
 -- a ladder more
-pub held-insert : (n : ℕ) (ls : List Ladder) (t : Ladder) (m : ℕ) → Lacks n ls → rung_of t ≡ n → held m (insert ls (lower n ls) t) ≡ (if m == n then t.rows.items else held m ls)
-held-insert n [] t m a e = ap (λ k. if m == k then t.rows.items else []) e
+pub held-insert : (n : ℕ) (ls : List Ladder) (t : Ladder) (m : ℕ) → Lacks n ls → rung_of t ≡ n → held m (insert ls (lower n ls) t) ≡ (if m == n then rows_in t else held m ls)
+held-insert n [] t m a e = ap (λ k. if m == k then rows_in t else []) e
 held-insert n (l ∷ ls) t m a e = by (nat_lt (rung_of l) n) (held-insert n ls t m a.1 e)
   where
     over : (b c : Bool) (xs ys zs : List Row) → (m == rung_of l) ≡ b → (m == n) ≡ c → (if b then xs else (if c then ys else zs)) ≡ (if c then ys else (if b then xs else zs))
@@ -136,9 +135,9 @@ held-insert n (l ∷ ls) t m a e = by (nat_lt (rung_of l) n) (held-insert n ls t
     over true false xs ys zs f g = refl
     over false c xs ys zs f g = refl
 
-    by : (b : Bool) → held m (insert ls (lower n ls) t) ≡ (if m == n then t.rows.items else held m ls) → held m (insert (l ∷ ls) (if b then suc (lower n ls) else 0) t) ≡ (if m == n then t.rows.items else held m (l ∷ ls))
-    by true ih = ap (λ hs. if m == rung_of l then l.rows.items else hs) ih ∙ over (m == rung_of l) (m == n) (l.rows.items) (t.rows.items) (held m ls) refl refl
-    by false ih = ap (λ k. if m == k then t.rows.items else held m (l ∷ ls)) e
+    by : (b : Bool) → held m (insert ls (lower n ls) t) ≡ (if m == n then rows_in t else held m ls) → held m (insert (l ∷ ls) (if b then suc (lower n ls) else 0) t) ≡ (if m == n then rows_in t else held m (l ∷ ls))
+    by true ih = ap (λ hs. if m == rung_of l then rows_in l else hs) ih ∙ over (m == rung_of l) (m == n) (rows_in l) (rows_in t) (held m ls) refl refl
+    by false ih = ap (λ k. if m == k then rows_in t else held m (l ∷ ls)) e
 
 pub ordered-insert : (low n : ℕ) (ls : List Ladder) (t : Ladder) → AreOrdered low ls → low ≤ n → Lacks n ls → rung_of t ≡ n → AreOrdered low (insert ls (lower n ls) t)
 ordered-insert low n [] t o h a e = (omega (arith, h, e), tt)
@@ -151,7 +150,7 @@ ordered-insert low n (l ∷ ls) t o h a e = by (nat_lt (rung_of l) n) refl (λ l
         let off : n ≡ rung_of l → ⊥ = λ s. never (n == rung_of l) (eq-eqb n (rung_of l) s) a.0 in
         (omega (arith, h, e), (omega (arith, up, off, e), o.1))
 
-pub held-opened : (n : ℕ) (ls : List Ladder) (t : Ladder) (m : ℕ) → Lacks n ls → rung_of t ≡ n → t.rows.items ≡ [] → held m (insert ls (lower n ls) t) ≡ held m ls
+pub held-opened : (n : ℕ) (ls : List Ladder) (t : Ladder) (m : ℕ) → Lacks n ls → rung_of t ≡ n → rows_in t ≡ [] → held m (insert ls (lower n ls) t) ≡ held m ls
 held-opened n ls t m a e none = held-insert n ls t m a e ∙ ap (λ xs. if m == n then xs else held m ls) none ∙ by (m == n) refl
   where
     by : (b : Bool) → (m == n) ≡ b → (if b then [] else held m ls) ≡ held m ls
@@ -162,21 +161,21 @@ pub opened-there : (n : ℕ) (ls : List Ladder) (t : Ladder) → rung_of t ≡ n
 opened-there n ls t e = (omega (arith, length-insert ls (lower n ls) t (lower-bound n ls), lower-bound n ls), λ d. ap rung_of (get_or-insert_at ls (lower n ls) t d (lower-bound n ls)) ∙ e)
 
 -- the orders of a ladder change where it stands
-pub held-changed : (f : List Row → List Row) (n : ℕ) (ls : List Ladder) (k : ℕ) (l t : Ladder) (m : ℕ) → AreOrdered 0 ls → IsLadder n ls k → l ≡ get_or ls k l → rung_of t ≡ rung_of l → t.rows.items ≡ f (l.rows.items) → held m (set ls k t) ≡ (if m == n then f (held m ls) else held m ls)
+pub held-changed : (f : List Row → List Row) (n : ℕ) (ls : List Ladder) (k : ℕ) (l t : Ladder) (m : ℕ) → AreOrdered 0 ls → IsLadder n ls k → l ≡ get_or ls k l → rung_of t ≡ rung_of l → rows_in t ≡ f (rows_in l) → held m (set ls k t) ≡ (if m == n then f (held m ls) else held m ls)
 held-changed f n ls k l t m o at is e change =
     let own : rung_of l ≡ n = ap rung_of is ∙ at.1 l in
-    held-set 0 ls k t l m o at.0 (e ∙ ap rung_of is) ∙ ap (λ r. if m == r then t.rows.items else held m ls) (e ∙ own) ∙ by (m == n) refl
+    held-set 0 ls k t l m o at.0 (e ∙ ap rung_of is) ∙ ap (λ r. if m == r then rows_in t else held m ls) (e ∙ own) ∙ by (m == n) refl
   where
-    by : (b : Bool) → (m == n) ≡ b → (if b then t.rows.items else held m ls) ≡ (if b then f (held m ls) else held m ls)
-    by true g = change ∙ ap f (ap (λ (q : Ladder). q.rows.items) is ∙ sym (held-at 0 m ls k l o at.0 (same-number m n g ∙ sym (at.1 l))))
+    by : (b : Bool) → (m == n) ≡ b → (if b then rows_in t else held m ls) ≡ (if b then f (held m ls) else held m ls)
+    by true g = change ∙ ap f (ap rows_in is ∙ sym (held-at 0 m ls k l o at.0 (same-number m n g ∙ sym (at.1 l))))
     by false g = refl
 
 pub ordered-changed : (n : ℕ) (ls : List Ladder) (k : ℕ) (l t : Ladder) → AreOrdered 0 ls → IsLadder n ls k → l ≡ get_or ls k l → rung_of t ≡ rung_of l → AreOrdered 0 (set ls k t)
 ordered-changed n ls k l t o at is e = ordered-set 0 ls k t l o at.0 (e ∙ ap rung_of is)
 
 -- what a ladder that was found holds
-pub held-there : (n : ℕ) (ls : List Ladder) (k : ℕ) (l : Ladder) → AreOrdered 0 ls → IsLadder n ls k → l ≡ get_or ls k l → held n ls ≡ l.rows.items
-held-there n ls k l o at is = held-at 0 n ls k l o at.0 (sym (at.1 l)) ∙ ap (λ (q : Ladder). q.rows.items) (sym is)
+pub held-there : (n : ℕ) (ls : List Ladder) (k : ℕ) (l : Ladder) → AreOrdered 0 ls → IsLadder n ls k → l ≡ get_or ls k l → held n ls ≡ rows_in l
+held-there n ls k l o at is = held-at 0 n ls k l o at.0 (sym (at.1 l)) ∙ ap rows_in (sym is)
 
 pub held-none : (n : ℕ) (f : List Row → List Row) (ls : List Ladder) (m : ℕ) → f [] ≡ [] → Lacks n ls → held m ls ≡ (if m == n then f (held m ls) else held m ls)
 held-none n f ls m none a = by (m == n) refl
@@ -255,15 +254,15 @@ same-instrument y x Sell Buy h = absurd (grind (arith, nat_tests))
 
 -- the ladders after an entry, a trade and a removal are those of the orders
 
-pub ladders-entered : (rs : List Resting) (e : Entry) (before after : List Ladder) → is_live (whole_order e) ≡ true → AreLadders rs before → ((m : ℕ) → held m after ≡ (if m == rung e.order.instrument e.order.side then put_last e.order.side (row_of (whole_order e)) (held m before) else held m before)) → AreLadders (entered e rs) after
-ladders-entered rs e before after live are change x side =
-    change (rung x side) ∙ ap (λ hs. if rung x side == rung e.order.instrument e.order.side then put_last e.order.side (row_of (whole_order e)) hs else hs) (are x side)
-    ∙ by (rung x side == rung e.order.instrument e.order.side) refl
-    ∙ ap (λ b. rows_of (cond b (rank_last side (whole_order e) (ranked_live x side rs)) (ranked_live x side rs))) (sym (own-rung x side (whole_order e) live))
-    ∙ ap rows_of (sym (ladder-entered x side e rs))
+pub ladders-joined : (rs : List Resting) (r : Resting) (before after : List Ladder) → is_live r ≡ true → AreLadders rs before → ((m : ℕ) → held m after ≡ (if m == rung r.entry.order.instrument r.entry.order.side then put_last r.entry.order.side (row_of r) (held m before) else held m before)) → AreLadders (joined_by r rs) after
+ladders-joined rs r before after live are change x side =
+    change (rung x side) ∙ ap (λ hs. if rung x side == rung r.entry.order.instrument r.entry.order.side then put_last r.entry.order.side (row_of r) hs else hs) (are x side)
+    ∙ by (rung x side == rung r.entry.order.instrument r.entry.order.side) refl
+    ∙ ap (λ b. rows_of (cond b (rank_last side r (ranked_live x side rs)) (ranked_live x side rs))) (sym (own-rung x side r live))
+    ∙ ap rows_of (sym (ladder-joined x side r rs))
   where
-    by : (b : Bool) → (rung x side == rung e.order.instrument e.order.side) ≡ b → (if b then put_last e.order.side (row_of (whole_order e)) (rows_of (ranked_live x side rs)) else rows_of (ranked_live x side rs)) ≡ rows_of (cond b (rank_last side (whole_order e) (ranked_live x side rs)) (ranked_live x side rs))
-    by true h = ap (λ s. put_last s (row_of (whole_order e)) (rows_of (ranked_live x side rs))) (sym (same-side x e.order.instrument side e.order.side h)) ∙ sym (rank-put side (whole_order e) (ranked_live x side rs))
+    by : (b : Bool) → (rung x side == rung r.entry.order.instrument r.entry.order.side) ≡ b → (if b then put_last r.entry.order.side (row_of r) (rows_of (ranked_live x side rs)) else rows_of (ranked_live x side rs)) ≡ rows_of (cond b (rank_last side r (ranked_live x side rs)) (ranked_live x side rs))
+    by true h = ap (λ s. put_last s (row_of r) (rows_of (ranked_live x side rs))) (sym (same-side x r.entry.order.instrument side r.entry.order.side h)) ∙ sym (rank-put side r (ranked_live x side rs))
     by false h = refl
 
 elsewhere : (n low : ℕ) (rs : List Resting) (k : ℕ) (d : Resting) (p : Resting → Bool) → Ledger low rs → k < length rs → (get_or rs k d).entry.number ≡ n → p (get_or rs k d) ≡ false → Absent n (filter p rs)
@@ -368,5 +367,5 @@ pub held-more : (side : Side) (row : Row) (b : Bool) (rows : List Row) → lengt
 held-more side row true rows = omega (arith, put-more side row rows)
 held-more side row false rows = omega arith
 
-pub live-whole : (e : Entry) → is_day e.order.life ≡ true → 0 < e.order.quantity → is_live (whole_order e) ≡ true
-live-whole e day some = ap (λ b. b && nat_lt 0 e.order.quantity) day ∙ below 0 e.order.quantity some
+pub live-left : (r : Resting) → is_day r.entry.order.life ≡ true → 0 < r.left → is_live r ≡ true
+live-left r day some = ap (λ b. b && nat_lt 0 r.left) day ∙ below 0 r.left some

@@ -1,4 +1,4 @@
-use Rattle.std.specs.Prelude.{◌≡◌, ⊤, ℕ, suc, ◌+◌, ◌*◌, ◌≤◌, ◌<◌, ◌^◌, ◌==◌, nat_lt, false, List, [], ◌∷◌, length, get_or, if◌then◌else◌}
+use Rattle.std.specs.Prelude.{◌≡◌, ⊤, ℕ, suc, ◌+◌, ◌*◌, ◌≤◌, ◌<◌, ◌^◌, ◌==◌, nat_lt, false, List, [], ◌∷◌, length, get_or, reverse, if◌then◌else◌}
 use Rattle.std.specs.Coded.{×_prop, Unit-prop, le_prop}
 use Rattle.std.specs.HashMap.{spare as unused}
 use Rattle.std.specs.Vec.{vec_capacity, vec_len}
@@ -20,10 +20,14 @@ rung x Sell = x * 2 + 1
 abbrev pub rung_of : Ladder → ℕ
 rung_of l = rung l.instrument l.side
 
+-- the rows of a ladder, the best first; it keeps the best last
+abbrev pub rows_in : Ladder → List Row
+rows_in l = reverse l.rows.items
+
 -- the rows of the ladder of a rung; none where it has no ladder
 abbrev pub held : ℕ → List Ladder → List Row
 held n [] = []
-held n (l ∷ ls) = if n == rung_of l then l.rows.items else held n ls
+held n (l ∷ ls) = if n == rung_of l then rows_in l else held n ls
 
 -- ladders that stand by their rungs, one to a rung
 abbrev pub AreOrdered : ℕ → List Ladder → Type 0

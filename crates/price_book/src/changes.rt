@@ -1,24 +1,29 @@
 //! What each fact does to the orders that rest.
-ghost use Rattle.std.specs.Prelude.{◌≡◌, ℕ, ◌≤◌, ◌<◌, ◌+◌, ◌^◌, length, true, List, [], ◌∷◌, IfOk};
-ghost use Rattle.std.specs.Vec.{vec_capacity, vec_len};
+ghost use Rattle.std.specs.Prelude.{◌≡◌, ℕ, ◌≤◌, length, true, List, [], IfOk, Some};
 ghost use Rattle.venue_rules.specs.Book.{Resting, side_room};
 ghost use Rattle.venue_rules.specs.Facts.{entries};
-ghost use Rattle.price_book.specs.Kept.{are_whole, is_whole};
-ghost use Rattle.price_book.specs.Live.{entered, reduced, traded_of, without, step, steps, Ledger, AreLedgers};
+ghost use Rattle.price_book.specs.Kept.{are_whole};
+ghost use Rattle.price_book.specs.Live.{joined_by, reduced, traded_of, without, change, steps, terms_of, Ledger, AreLedgers};
+ghost use Rattle.price_book.specs.Numbered.{slot_at};
 ghost use Rattle.price_book.specs.Rungs.{rung, held, IsInStep, HasRoom};
+ghost use Rattle.price_book.specs.Views.{seen};
+ghost use Rattle.price_book.specs.declared.slot.Slot.{Slot};
 ghost use Rattle.fix_dictionary.specs.declared.values.Side.{Side};
 
 use crate::entering::SIDE_ROOM;
+use crate::filling::entering;
 use crate::named::{add_name, remove_name};
 use crate::numbered::{forget, put, reduce_slot, reserve_slots};
 use crate::orders::is_day;
 use crate::orders_kept::OrdersKept;
+use crate::resting::Resting as Lent;
+use crate::rows::row_of;
 use crate::sides::{enter_ladder, leave_ladder, reduce_ladder};
-use crate::slots::name_of;
+use crate::slots::{Terms, name_of, terms_of};
 use fix_dictionary::Identifier;
 use std::alloc::{AllocError, Global};
 use std::collections::HashMap;
-use venue_rules::{Entry, Fact, Place, Trade};
+use venue_rules::{Fact, Place, Trade};
 
 // No more orders rest.
 const MOST: usize = 0xffff_ffff;
@@ -55,21 +60,41 @@ pub(crate) fn reserve(orders: &mut OrdersKept) -> Result<(), AllocError>
     Ok(())
 }
 
-// An order enters; it rests where it may.
-fn enter(orders: &mut OrdersKept, entry: &Entry)
+// An order enters with what is left of it; it rests where it may.
+fn enter(orders: &mut OrdersKept, order: Lent<'_>)
     requires step { (rs : List Resting) × IsInStep rs orders.old }
     requires room { HasRoom 1 orders.old }
-    requires whole { entry.now.filled_before + entry.now.order.quantity ≤ 10 ^ 15 }
-    ensures step { (rs : List Resting) → Ledger 0 (entered entry.now rs) → IsInStep rs orders.old → IsInStep (entered entry.now rs) orders.new }
+    ensures step { (rs : List Resting) → Ledger 0 (joined_by (seen order.entry) rs) → IsInStep rs orders.old → IsInStep (joined_by (seen order.entry) rs) orders.new }
     ensures room { HasRoom 0 orders.new }
 {
+    let entry = order.entry;
     let _link: Option<Identifier> = entry.order.link;
-    if is_day(entry.order.life) && 0 < entry.order.quantity.get() {
+    if is_day(entry.order.life) && 0 < order.left {
         let name = name_of(entry);
         add_name(&orders.slots, &mut orders.names, &name, entry.number);
-        put(&mut orders.slots, entry);
-        enter_ladder(orders.alloc, &mut orders.ladders, &mut orders.spare, entry);
+        put(&mut orders.slots, order);
+        enter_ladder(
+            orders.alloc,
+            &mut orders.ladders,
+            &mut orders.spare,
+            entry.order.instrument,
+            entry.order.side,
+            row_of(order),
+        );
     }
+}
+
+// The order of this number and these terms is gone.
+fn take_off(orders: &mut OrdersKept, number: u64, terms: &Terms)
+    requires step { (rs : List Resting) × IsInStep rs orders.old }
+    requires here { (s : Slot) × (slot_at orders.old.slots.entries number ≡ Some s) × (terms_of s.entry ≡ terms.now) }
+    ensures step { (rs : List Resting) → IsInStep rs orders.old → IsInStep (without number rs) orders.new }
+    ensures room { (n : ℕ) → HasRoom n orders.old → HasRoom n orders.new }
+{
+    let (instrument, side, price) = (terms.instrument, terms.side, terms.price);
+    leave_ladder(&mut orders.ladders, instrument, side, price, number);
+    remove_name(&orders.slots, &mut orders.names, &terms.name, number);
+    forget(&mut orders.slots, number);
 }
 
 // The order of this number is gone.
@@ -81,13 +106,8 @@ fn leave(orders: &mut OrdersKept, number: u64)
     let Some(slot) = orders.slots.get(&number) else {
         return;
     };
-    let instrument = slot.entry.order.instrument;
-    let side = slot.entry.order.side;
-    let price = slot.entry.order.price;
-    let name = name_of(&slot.entry);
-    leave_ladder(&mut orders.ladders, instrument, side, price, number);
-    remove_name(&orders.slots, &mut orders.names, &name, number);
-    forget(&mut orders.slots, number);
+    let terms = terms_of(&slot.entry);
+    take_off(orders, number, &terms);
 }
 
 // So much less is left of the order of this number; it is gone where nothing is.
@@ -99,13 +119,14 @@ fn reduce(orders: &mut OrdersKept, number: u64, quantity: u64)
     let Some(slot) = orders.slots.get(&number) else {
         return;
     };
+    if slot.left <= quantity {
+        let terms = terms_of(&slot.entry);
+        take_off(orders, number, &terms);
+        return;
+    }
     let instrument = slot.entry.order.instrument;
     let side = slot.entry.order.side;
     let price = slot.entry.order.price;
-    if slot.left <= quantity {
-        leave(orders, number);
-        return;
-    }
     reduce_ladder(
         &mut orders.ladders,
         instrument,
@@ -129,24 +150,21 @@ fn trade(orders: &mut OrdersKept, trade: &Trade)
     }
 }
 
-// One fact more.
-fn add_fact(orders: &mut OrdersKept, fact: &Fact)
-    requires step { (rs : List Resting) × IsInStep rs orders.old }
-    requires room { HasRoom (length (entries (fact.now ∷ []))) orders.old }
-    requires whole { is_whole fact.now ≡ true }
-    ensures step { (rs : List Resting) → Ledger 0 (step rs fact.now) → IsInStep rs orders.old → IsInStep (step rs fact.now) orders.new }
-    ensures room { (n : ℕ) → HasRoom (length (entries (fact.now ∷ [])) + n) orders.old → HasRoom n orders.new }
+// What a fact does to the orders that rest before an order enters.
+fn change(orders: &mut OrdersKept, fact: &Fact)
+    requires { (rs : List Resting) × IsInStep rs orders.old }
+    ensures step { (rs : List Resting) → IsInStep rs orders.old → IsInStep (change rs fact.now) orders.new }
+    ensures room { (n : ℕ) → HasRoom n orders.old → HasRoom n orders.new }
 {
     match fact {
-        Fact::Entered(entry) => enter(orders, entry),
         Fact::Traded(fact) => trade(orders, fact),
         Fact::Removed(removal) => leave(orders, removal.order),
         _ => {}
     }
 }
 
-#[tactic(auto, using(crate::proofs::SlotSteps::facts_on))]
-/// Facts more, for whose orders there is room.
+/// Facts more, for whose order there is room. It enters last, with what its trades leave of it: one of which nothing is
+/// left is never put among those that rest.
 pub(crate) fn add_facts(orders: &mut OrdersKept, facts: &[Fact])
     requires step { (rs : List Resting) × AreLedgers rs facts.now × IsInStep rs orders.old }
     requires room { HasRoom (length (entries facts.now)) orders.old }
@@ -155,6 +173,9 @@ pub(crate) fn add_facts(orders: &mut OrdersKept, facts: &[Fact])
     ensures room { HasRoom 0 orders.new }
 {
     for fact in facts {
-        add_fact(orders, fact);
+        change(orders, fact);
+    }
+    if let Some(order) = entering(facts) {
+        enter(orders, order);
     }
 }

@@ -6,7 +6,8 @@ ghost use Rattle.venue_rules.specs.Book.{side_room};
 use crate::row::Row;
 use fix_dictionary::Side;
 
-/// The orders that rest in an instrument and on a side, the best first, with room for as many as may rest and one that enters.
+/// The orders that rest in an instrument and on a side, the best last, with room for as many as may rest and one that
+/// enters.
 #[derive(Drop)]
 pub(crate) struct Ladder {
     pub(crate) instrument: u32,

@@ -1,10 +1,12 @@
 //! The orders that rest, by their numbers.
-ghost use Rattle.std.specs.Prelude.{◌≡◌, ◌≤◌, ◌<◌, ◌+◌, ◌^◌, true, List, IfOk};
+ghost use Rattle.std.specs.Prelude.{◌≡◌, ◌≤◌, ◌<◌, true, List, IfOk};
 ghost use Rattle.std.specs.HashMap.{spare};
 ghost use Rattle.venue_rules.specs.Book.{Resting};
-ghost use Rattle.price_book.specs.Live.{entered, reduced, without, Ledger, whole_order, is_live};
+ghost use Rattle.price_book.specs.Live.{joined_by, reduced, without, Ledger, is_live};
 ghost use Rattle.price_book.specs.Numbered.{IsNumbered, IsLeft};
+ghost use Rattle.price_book.specs.Views.{seen};
 
+use crate::resting::Resting as Lent;
 use crate::slot::Slot;
 use crate::slots::slot_of;
 use fix_dictionary::Identifier;
@@ -26,13 +28,12 @@ pub(crate) fn reserve_slots(slots: &mut Numbered) -> Result<(), AllocError>
 }
 
 /// An order more, for which there is room.
-pub(crate) fn put(slots: &mut Numbered, entry: &Entry)
+pub(crate) fn put(slots: &mut Numbered, order: Lent<'_>)
     requires room { 1 ≤ spare slots.old }
-    requires whole { entry.now.filled_before + entry.now.order.quantity ≤ 10 ^ 15 }
-    ensures { (rs : List Resting) → is_live (whole_order entry.now) ≡ true → Ledger 0 (entered entry.now rs) → IsNumbered rs slots.old.entries → IsNumbered (entered entry.now rs) slots.new.entries }
+    ensures { (rs : List Resting) → is_live (seen order.entry) ≡ true → Ledger 0 (joined_by (seen order.entry) rs) → IsNumbered rs slots.old.entries → IsNumbered (joined_by (seen order.entry) rs) slots.new.entries }
 {
-    let _link: Option<Identifier> = entry.order.link;
-    let _before = slots.insert(entry.number, slot_of(entry));
+    let _link: Option<Identifier> = order.entry.order.link;
+    let _before = slots.insert(order.entry.number, slot_of(order));
 }
 
 /// So much less is left of the order of this number, of which more is left.

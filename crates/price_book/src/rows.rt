@@ -1,24 +1,24 @@
-//! The orders of a side as they are ranked: where one stands, and what an entry, a trade and a removal do to them.
-ghost use Rattle.std.specs.Prelude.{◌≡◌, ℕ, ◌≤◌, ◌<◌, ◌+◌, ◌^◌, length};
+//! The orders of a side as they are ranked, the best last: where one stands, and what an entry, a trade and a removal do
+//! to them. None has to move where one comes or goes at the end, as the best does, which trades first.
+ghost use Rattle.std.specs.Prelude.{◌≡◌, ℕ, ◌<◌, ◌+◌, length, reverse};
 ghost use Rattle.std.specs.List.{remove};
 ghost use Rattle.std.specs.Vec.{vec_capacity, vec_len};
-ghost use Rattle.price_book.specs.Live.{whole_order};
 ghost use Rattle.price_book.specs.Rows.{row_of, comes_before, AreRanked, IsRow, behind, put_last, cut_at};
+ghost use Rattle.price_book.specs.Views.{seen};
 
 use crate::orders::is_better;
+use crate::resting::Resting;
 use crate::row::Row;
 use fix_dictionary::{Amount, Price, Side};
-use venue_rules::Entry;
 
-/// The whole order, as it stands on its side.
-pub(crate) fn row_of(entry: &Entry) -> Row
-    requires { entry.now.filled_before + entry.now.order.quantity ≤ 10 ^ 15 }
-    ensures { result ≡ row_of (whole_order entry.now) }
+/// An order, as it stands on its side.
+pub(crate) fn row_of(order: Resting<'_>) -> Row
+    ensures { result ≡ row_of (seen order.entry) }
 {
     Row {
-        number: entry.number,
-        price: entry.order.price,
-        left: Amount::new(entry.order.quantity.get()),
+        number: order.entry.number,
+        price: order.entry.order.price,
+        left: Amount::new(order.left),
     }
 }
 
@@ -29,40 +29,40 @@ fn comes_before(side: Side, price: Price, number: u64, row: &Row) -> bool
     is_better(side, row.price, price) || (row.number < number && !is_better(side, price, row.price))
 }
 
-// Where the order of this number and price stands on a side.
+// Where the order of this number and price stands on a side: the last of those that do not come before it.
 fn place_of(rows: &[Row], side: Side, price: Price, number: u64) -> usize
-    requires ranked { AreRanked side rows.now }
-    requires there { (k : ℕ) × IsRow number price rows.now k }
-    ensures { (k : ℕ) → IsRow number price rows.now k → result ≡ k }
+    requires ranked { AreRanked side (reverse rows.now) }
+    requires there { (k : ℕ) × IsRow number price (reverse rows.now) k }
+    ensures { (k : ℕ) → IsRow number price (reverse rows.now) k → result + k + 1 ≡ length rows.now }
 {
-    rows.partition_point(|row| comes_before(side, price, number, row))
+    let count = rows.partition_point(|row| !comes_before(side, price, number, row));
+    count - 1
 }
 
-// Behind how many orders of a side one of this price comes that enters last: behind all that are as good.
-fn behind(rows: &[Row], side: Side, price: Price) -> usize
-    requires { AreRanked side rows.now }
-    ensures bound { result ≤ length rows.now }
-    ensures place { result ≡ behind side price rows.now }
+// How many orders of a side are worse than one of this price.
+fn worse(rows: &[Row], side: Side, price: Price) -> usize
+    requires { AreRanked side (reverse rows.now) }
+    ensures { result + behind side price (reverse rows.now) ≡ length rows.now }
 {
-    rows.partition_point(|row| !is_better(side, price, row.price))
+    rows.partition_point(|row| is_better(side, price, row.price))
 }
 
-/// An order that enters stands behind all of its side that are as good.
+/// An order that enters stands behind all of its side that are as good, and before all that are worse.
 pub(crate) fn put_last(rows: &mut Vec<Row>, side: Side, row: Row)
     requires room { vec_len rows.old < vec_capacity rows.old }
-    requires ranked { AreRanked side rows.old.items }
-    ensures rows { rows.new.items ≡ put_last side row rows.old.items }
+    requires ranked { AreRanked side (reverse rows.old.items) }
+    ensures rows { reverse rows.new.items ≡ put_last side row (reverse rows.old.items) }
     ensures capacity { vec_capacity rows.new ≡ vec_capacity rows.old }
 {
-    let at = behind(rows, side, row.price);
+    let at = worse(rows, side, row.price);
     let _inserted = rows.insert(at, row);
 }
 
 /// So much less is left of the order of this number and price.
 pub(crate) fn cut(rows: &mut Vec<Row>, side: Side, price: Price, number: u64, quantity: u64)
-    requires ranked { AreRanked side rows.old.items }
-    requires there { (k : ℕ) × IsRow number price rows.old.items k }
-    ensures rows { (k : ℕ) → IsRow number price rows.old.items k → rows.new.items ≡ cut_at k quantity rows.old.items }
+    requires ranked { AreRanked side (reverse rows.old.items) }
+    requires there { (k : ℕ) × IsRow number price (reverse rows.old.items) k }
+    ensures rows { (k : ℕ) → IsRow number price (reverse rows.old.items) k → reverse rows.new.items ≡ cut_at k quantity (reverse rows.old.items) }
     ensures capacity { vec_capacity rows.new ≡ vec_capacity rows.old }
 {
     let at = place_of(rows, side, price, number);
@@ -72,9 +72,9 @@ pub(crate) fn cut(rows: &mut Vec<Row>, side: Side, price: Price, number: u64, qu
 
 /// The order of this number and price is gone.
 pub(crate) fn take_out(rows: &mut Vec<Row>, side: Side, price: Price, number: u64)
-    requires ranked { AreRanked side rows.old.items }
-    requires there { (k : ℕ) × IsRow number price rows.old.items k }
-    ensures rows { (k : ℕ) → IsRow number price rows.old.items k → rows.new.items ≡ remove rows.old.items k }
+    requires ranked { AreRanked side (reverse rows.old.items) }
+    requires there { (k : ℕ) × IsRow number price (reverse rows.old.items) k }
+    ensures rows { (k : ℕ) → IsRow number price (reverse rows.old.items) k → reverse rows.new.items ≡ remove (reverse rows.old.items) k }
     ensures capacity { vec_capacity rows.new ≡ vec_capacity rows.old }
 {
     let at = place_of(rows, side, price, number);

@@ -1,19 +1,17 @@
 //! The orders that rest, side by side: finding a side, and what an entry, a trade and a removal do to it.
-ghost use Rattle.std.specs.Prelude.{◌≡◌, ◌≤◌, ◌<◌, ◌+◌, ◌^◌, ◌==◌, ℕ, length, [], if◌then◌else◌, MatchOption};
+ghost use Rattle.std.specs.Prelude.{◌≡◌, ◌≤◌, ◌<◌, ◌+◌, ◌==◌, ℕ, length, [], if◌then◌else◌, MatchOption};
 ghost use Rattle.std.specs.List.{remove};
 ghost use Rattle.std.specs.Vec.{vec_capacity, vec_len};
 ghost use Rattle.venue_rules.specs.Book.{side_room};
-ghost use Rattle.price_book.specs.Live.{whole_order};
-ghost use Rattle.price_book.specs.Rows.{row_of, AreRanked, IsRow, put_last, cut_at};
+ghost use Rattle.price_book.specs.Rows.{AreRanked, IsRow, put_last, cut_at};
 ghost use Rattle.price_book.specs.Rungs.{rung, held, AreOrdered, Lacks, IsLadder, lower};
 
 use crate::ladder::Ladder;
 use crate::row::Row;
-use crate::rows::{cut, put_last, row_of, take_out};
+use crate::rows::{cut, put_last, take_out};
 use fix_dictionary::{Price, Side};
 use std::alloc::Global;
 use std::mem;
-use venue_rules::Entry;
 
 // The place of an instrument's side among all.
 fn rung(instrument: u32, side: Side) -> u64
@@ -85,35 +83,34 @@ fn open(ladders: &mut Vec<Ladder>, rows: Vec<Row>, instrument: u32, side: Side) 
     at
 }
 
-/// An order takes its place on its side.
+/// An order takes its place on a side.
 pub(crate) fn enter_ladder(
     alloc: Global,
     ladders: &mut Vec<Ladder>,
     spare: &mut Vec<Row>,
-    entry: &Entry,
+    instrument: u32,
+    side: Side,
+    row: Row,
 )
     requires room { vec_len ladders.old < vec_capacity ladders.old }
     requires spare { side_room < vec_capacity spare.old }
     requires empty { spare.old.items ≡ [] }
-    requires places { length (held (rung entry.now.order.instrument entry.now.order.side) ladders.old.items) ≤ side_room }
+    requires places { length (held (rung instrument side) ladders.old.items) ≤ side_room }
     requires ordered { AreOrdered 0 ladders.old.items }
-    requires whole { entry.now.filled_before + entry.now.order.quantity ≤ 10 ^ 15 }
-    requires ranked { AreRanked entry.now.order.side (held (rung entry.now.order.instrument entry.now.order.side) ladders.old.items) }
+    requires ranked { AreRanked side (held (rung instrument side) ladders.old.items) }
     ensures ordered { AreOrdered 0 ladders.new.items }
-    ensures held { (m : ℕ) → held m ladders.new.items ≡ (if m == rung entry.now.order.instrument entry.now.order.side then put_last entry.now.order.side (row_of (whole_order entry.now)) (held m ladders.old.items) else held m ladders.old.items) }
+    ensures held { (m : ℕ) → held m ladders.new.items ≡ (if m == rung instrument side then put_last side row (held m ladders.old.items) else held m ladders.old.items) }
     ensures empty { spare.new.items ≡ [] }
     ensures len { vec_len ladders.new ≤ vec_len ladders.old + 1 }
     ensures capacity { vec_capacity ladders.new ≡ vec_capacity ladders.old }
 {
-    let instrument = entry.order.instrument;
-    let side = entry.order.side;
     if let Some(at) = find_ladder(ladders, instrument, side) {
-        put_last(&mut ladders[at].rows, side, row_of(entry));
+        put_last(&mut ladders[at].rows, side, row);
         return;
     }
     let rows = mem::replace(spare, Vec::new(alloc));
     let at = open(ladders, rows, instrument, side);
-    put_last(&mut ladders[at].rows, side, row_of(entry));
+    put_last(&mut ladders[at].rows, side, row);
 }
 
 /// So much less is left of the order of this price and number on a side.

@@ -1,39 +1,58 @@
-use Rattle.std.proofs.Common.{◌≡◌, ◌∙◌, sym, refl, drop, List, length, ◌+◌, [], ◌∷◌}
+use Rattle.std.proofs.Common.{◌≡◌, ◌∙◌, sym, ap, refl, subst, List, length, Some, None, option_map}
 use Rattle.venue_rules.specs.declared.facts.Fact.{Fact}
 use Rattle.venue_rules.specs.Facts.{entries}
-use Rattle.price_book.specs.Live.{step, steps, Ledger, AreLedgers}
-use Rattle.price_book.specs.Rungs.{HasRoom}
-use Rattle.price_book.proofs.SlotSteps.{steps-more, steps-end, entries-rest, ledgers-more}
-use Rattle.price_book.proofs.Numbers.{ledger-head}
+use Rattle.venue_rules.specs.Book.{Resting}
+use Rattle.price_book.specs.Live.{change, changes, steps, entering, joined_by, Ledger}
+use Rattle.price_book.specs.Rungs.{IsInStep, HasRoom}
+use Rattle.price_book.specs.Views.{seen}
+use Rattle.price_book.proofs.Joining.{joined, changes-more, changes-end, entered-last, ledger-steps, entering-some}
 use Rattle.price_book.proofs.changes.add_facts.Goals as goal
 
 pub loop-fact-init : goal.loop-fact-init
-loop-fact-init c = ((λ rs l h. record { now = rs; ledgers = l; step = h; same = refl }), c.requires.room)
+loop-fact-init c = ((λ rs h. record { now = rs; step = h; same = refl }), c.requires.room)
 
-pub add_fact-requires-clause-step : goal.add_fact-requires-clause-step
-add_fact-requires-clause-step c = let g = c.loop-fact.invariant.0 c.requires.step.0 c.requires.step.1 c.requires.step.2 in (g.now, g.step)
+pub change-requires : goal.change-requires
+change-requires c = let g = c.loop-fact.invariant.0 c.requires.step.0 c.requires.step.2 in (g.now, g.step)
 
 pub loop-fact-preserved : goal.loop-fact-preserved
 loop-fact-preserved c =
     let fs : List Fact = c.args.facts.now in
     let i = c.loop-fact.fact-index in
-    let f : Fact = c.fact-item.result in
-    let rest : List Fact = drop (i + 1) fs in
-    let room : HasRoom (length (entries (f ∷ [])) + length (entries rest)) c.loop-fact.orders = rw (entries-rest fs i f c.loop-fact-test.true c.fact-item.is) at c.loop-fact.invariant.1 in (
-      (λ rs l h.
-          let g = c.loop-fact.invariant.0 rs l h in
-          let ledgers : Ledger 0 g.now × AreLedgers (step g.now f) rest = ledgers-more g.now fs i f c.loop-fact-test.true c.fact-item.is g.ledgers in
+    let f : Fact = c.fact-item.result in (
+      (λ rs h.
+          let g = c.loop-fact.invariant.0 rs h in
           record {
-            now = step g.now f;
-            ledgers = ledgers.1;
-            step = c.add_fact.ensures.step g.now (ledger-head (step g.now f) rest ledgers.1) g.step;
-            same = sym (steps-more g.now fs i f c.loop-fact-test.true c.fact-item.is) ∙ g.same;
+            now = change g.now f;
+            step = c.change.ensures.step g.now g.step;
+            same = sym (changes-more g.now fs i f c.loop-fact-test.true c.fact-item.is) ∙ g.same;
           }),
-      c.add_fact.ensures.room (length (entries rest)) room,
+      c.change.ensures.room (length (entries fs)) c.loop-fact.invariant.1,
     )
 
-pub returns-clause-step : goal.returns-clause-step
-returns-clause-step c = λ rs l h.
-    let g = c.loop-fact.invariant.0 rs l h in
-    let end : g.now ≡ steps rs c.args.facts.now = sym (steps-end g.now c.args.facts.now c.loop-fact.fact-index c.loop-fact-test.false) ∙ g.same in
-    rw (sym end) g.step
+pub enter-requires-clause-room : goal.enter-requires-clause-room
+enter-requires-clause-room c =
+    let fs : List Fact = c.args.facts.now in
+    let some : entering fs ≡ Some (seen c.in-Some.order) = sym c.entering.ensures ∙ ap (option_map seen) c.in-Some.is in
+    subst (λ n. HasRoom n c.loop-fact.orders) (entering-some fs (seen c.in-Some.order) some c.requires.room.one) c.loop-fact.invariant.1
+
+pub returns-in-Some-clause-step : goal.returns-in-Some-clause-step
+returns-in-Some-clause-step c = λ rs l h.
+    let fs : List Fact = c.args.facts.now in
+    let r : Resting = seen c.in-Some.order in
+    let g = c.loop-fact.invariant.0 rs h in
+    let end : g.now ≡ changes rs fs = sym (changes-end g.now fs c.loop-fact.fact-index c.loop-fact-test.false) ∙ g.same in
+    let some : entering fs ≡ Some r = sym c.entering.ensures ∙ ap (option_map seen) c.in-Some.is in
+    let same : steps rs fs ≡ joined_by r (changes rs fs) = entered-last rs fs c.requires.room.one l ∙ ap (λ o. joined o (changes rs fs)) some in
+    let ledger : Ledger 0 (joined_by r (changes rs fs)) = rw same at (ledger-steps rs fs l) in
+    let step : IsInStep (changes rs fs) c.loop-fact.orders = rw end at g.step in
+    rw same (c.enter.ensures.step (changes rs fs) ledger step)
+
+pub returns-in_default-clause-step : goal.returns-in_default-clause-step
+returns-in_default-clause-step c = λ rs l h.
+    let fs : List Fact = c.args.facts.now in
+    let g = c.loop-fact.invariant.0 rs h in
+    let end : g.now ≡ changes rs fs = sym (changes-end g.now fs c.loop-fact.fact-index c.loop-fact-test.false) ∙ g.same in
+    let none : entering fs ≡ None = sym c.entering.ensures ∙ ap (option_map seen) c.in_default.is in
+    let same : steps rs fs ≡ changes rs fs = entered-last rs fs c.requires.room.one l ∙ ap (λ o. joined o (changes rs fs)) none in
+    let step : IsInStep (changes rs fs) c.loop-fact.orders = rw end at g.step in
+    rw same step

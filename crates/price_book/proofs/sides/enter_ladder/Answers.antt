@@ -1,69 +1,59 @@
 use Rattle.std.proofs.Common.{◌≡◌, ◌∙◌, ap, sym, refl, List, length, ◌==◌, if◌then◌else◌, arith}
+use Rattle.std.proofs.lemmas.List.{length-reverse}
 use Rattle.price_book.specs.declared.ladder.Ladder.{Ladder}
 use Rattle.price_book.specs.declared.row.Row.{Row}
-use Rattle.price_book.specs.Live.{whole_order}
-use Rattle.price_book.specs.Rows.{row_of, put_last}
-use Rattle.price_book.specs.Rungs.{rung, held, IsLadder}
+use Rattle.price_book.specs.Rows.{put_last}
+use Rattle.price_book.specs.Rungs.{rung, rows_in, held, IsLadder}
 use Rattle.price_book.proofs.Rungs.{held-there, held-changed, ordered-changed}
 use Rattle.price_book.proofs.sides.enter_ladder.Goals as goal
 
 pub put_last-requires-clause-room : goal.put_last-requires-clause-room
 put_last-requires-clause-room c =
-    let e = c.args.entry.now in
     let ls : List Ladder = c.args.ladders.now.items in
     let l : Ladder = c.index_mut.result.now in
-    let there : IsLadder (rung e.order.instrument e.order.side) ls c.in-Some.at = rw c.deref.ensures.value at c.in-Some.ensures in
-    omega (arith, ap length (held-there (rung e.order.instrument e.order.side) ls c.in-Some.at l c.requires.ordered there c.index_mut.ensures.value), c.requires.places, l.room, l.rows.ok)
+    let there : IsLadder (rung c.args.instrument c.args.side) ls c.in-Some.at = rw c.deref.ensures.value at c.in-Some.ensures in
+    omega (arith, ap length (held-there (rung c.args.instrument c.args.side) ls c.in-Some.at l c.requires.ordered there c.index_mut.ensures.value), c.requires.places, l.room, l.rows.ok, length-reverse l.rows.items)
 
 pub put_last-requires-clause-ranked : goal.put_last-requires-clause-ranked
 put_last-requires-clause-ranked c =
-    let e = c.args.entry.now in
     let ls : List Ladder = c.args.ladders.now.items in
     let l : Ladder = c.index_mut.result.now in
-    let there : IsLadder (rung e.order.instrument e.order.side) ls c.in-Some.at = rw c.deref.ensures.value at c.in-Some.ensures in
-    rw (held-there (rung e.order.instrument e.order.side) ls c.in-Some.at l c.requires.ordered there c.index_mut.ensures.value) at c.requires.ranked
+    let there : IsLadder (rung c.args.instrument c.args.side) ls c.in-Some.at = rw c.deref.ensures.value at c.in-Some.ensures in
+    rw (held-there (rung c.args.instrument c.args.side) ls c.in-Some.at l c.requires.ordered there c.index_mut.ensures.value) at c.requires.ranked
 
 pub returns-in-Some-clause-ordered : goal.returns-in-Some-clause-ordered
 returns-in-Some-clause-ordered c =
-    let e = c.args.entry.now in
     let ls : List Ladder = c.args.ladders.now.items in
-    let there : IsLadder (rung e.order.instrument e.order.side) ls c.in-Some.at = rw c.deref.ensures.value at c.in-Some.ensures in
-    ordered-changed (rung e.order.instrument e.order.side) ls c.in-Some.at c.index_mut.result.now _ c.requires.ordered there c.index_mut.ensures.value refl
+    let there : IsLadder (rung c.args.instrument c.args.side) ls c.in-Some.at = rw c.deref.ensures.value at c.in-Some.ensures in
+    ordered-changed (rung c.args.instrument c.args.side) ls c.in-Some.at c.index_mut.result.now _ c.requires.ordered there c.index_mut.ensures.value refl
 
 pub returns-in-Some-clause-held : goal.returns-in-Some-clause-held
 returns-in-Some-clause-held c =
-    let e = c.args.entry.now in
     let ls : List Ladder = c.args.ladders.now.items in
-    let there : IsLadder (rung e.order.instrument e.order.side) ls c.in-Some.at = rw c.deref.ensures.value at c.in-Some.ensures in
-    let put = c.put_last.ensures.rows ∙ ap (λ row. put_last e.order.side row c.index_mut.result.now.rows.items) c.row_of.ensures in
-    λ m. held-changed (put_last e.order.side (row_of (whole_order e))) (rung e.order.instrument e.order.side) ls c.in-Some.at c.index_mut.result.now _ m c.requires.ordered there c.index_mut.ensures.value refl put
+    let there : IsLadder (rung c.args.instrument c.args.side) ls c.in-Some.at = rw c.deref.ensures.value at c.in-Some.ensures in
+    λ m. held-changed (put_last c.args.side c.args.row) (rung c.args.instrument c.args.side) ls c.in-Some.at c.index_mut.result.now _ m c.requires.ordered there c.index_mut.ensures.value refl c.put_last.ensures.rows
 
 pub put_last-requires-2-clause-room : goal.put_last-requires-2-clause-room
 put_last-requires-2-clause-room c =
-    let e = c.args.entry.now in
-    let n = rung e.order.instrument e.order.side in
+    let n = rung c.args.instrument c.args.side in
     let l : Ladder = c.index_mut-2.result.now in
     let held-is = held-there n c.open-at.new.ladders.items c.open-at.result l c.open-at.ensures.ordered c.open-at.ensures.there c.index_mut-2.ensures.value in
-    omega (arith, ap length (sym (c.open-at.ensures.held n) ∙ held-is), c.requires.places, l.room, l.rows.ok)
+    omega (arith, ap length (sym (c.open-at.ensures.held n) ∙ held-is), c.requires.places, l.room, l.rows.ok, length-reverse l.rows.items)
 
 pub put_last-requires-2-clause-ranked : goal.put_last-requires-2-clause-ranked
 put_last-requires-2-clause-ranked c =
-    let e = c.args.entry.now in
-    let n = rung e.order.instrument e.order.side in
+    let n = rung c.args.instrument c.args.side in
     let l : Ladder = c.index_mut-2.result.now in
-    let held-is : held n c.args.ladders.now.items ≡ l.rows.items = sym (c.open-at.ensures.held n) ∙ held-there n c.open-at.new.ladders.items c.open-at.result l c.open-at.ensures.ordered c.open-at.ensures.there c.index_mut-2.ensures.value in
+    let held-is : held n c.args.ladders.now.items ≡ rows_in l = sym (c.open-at.ensures.held n) ∙ held-there n c.open-at.new.ladders.items c.open-at.result l c.open-at.ensures.ordered c.open-at.ensures.there c.index_mut-2.ensures.value in
     rw held-is at c.requires.ranked
 
 pub returns-clause-ordered : goal.returns-clause-ordered
 returns-clause-ordered c =
-    let e = c.args.entry.now in
-    ordered-changed (rung e.order.instrument e.order.side) c.open-at.new.ladders.items c.open-at.result c.index_mut-2.result.now _ c.open-at.ensures.ordered c.open-at.ensures.there c.index_mut-2.ensures.value refl
+    ordered-changed (rung c.args.instrument c.args.side) c.open-at.new.ladders.items c.open-at.result c.index_mut-2.result.now _ c.open-at.ensures.ordered c.open-at.ensures.there c.index_mut-2.ensures.value refl
 
 pub returns-clause-held : goal.returns-clause-held
 returns-clause-held c =
-    let e = c.args.entry.now in
-    let n = rung e.order.instrument e.order.side in
-    let f : List Row → List Row = put_last e.order.side (row_of (whole_order e)) in
-    let put = c.put_last-2.ensures.rows ∙ ap (λ row. put_last e.order.side row c.index_mut-2.result.now.rows.items) c.row_of-2.ensures in
-    λ m. held-changed f n c.open-at.new.ladders.items c.open-at.result c.index_mut-2.result.now _ m c.open-at.ensures.ordered c.open-at.ensures.there c.index_mut-2.ensures.value refl put
+    let n = rung c.args.instrument c.args.side in
+    let f : List Row → List Row = put_last c.args.side c.args.row in
+    λ m. held-changed f n c.open-at.new.ladders.items c.open-at.result c.index_mut-2.result.now _ m c.open-at.ensures.ordered c.open-at.ensures.there c.index_mut-2.ensures.value refl c.put_last-2.ensures.rows
     ∙ ap (λ xs. if m == n then f xs else xs) (c.open-at.ensures.held m)

@@ -2,7 +2,7 @@ use Rattle.std.proofs.Common.{◌≡◌, refl, ap, List, length, arith}
 use Rattle.std.specs.List.{remove}
 use Rattle.price_book.specs.declared.ladder.Ladder.{Ladder}
 use Rattle.price_book.specs.Rows.{IsRow}
-use Rattle.price_book.specs.Rungs.{rung, held, Lacks, IsLadder}
+use Rattle.price_book.specs.Rungs.{rung, rows_in, held, Lacks, IsLadder}
 use Rattle.price_book.proofs.Rungs.{held-there, held-lacks, held-changed, ordered-changed}
 use Rattle.price_book.proofs.sides.leave_ladder.Goals as goal
 
@@ -32,7 +32,7 @@ returns-in-Some-clause-held c = λ k m is.
     let ls : List Ladder = c.args.ladders.now.items in
     let l : Ladder = c.index_mut.result.now in
     let there : IsLadder n ls c.in-Some.at = rw c.deref.ensures.value at c.in-Some.ensures in
-    let row : IsRow c.args.number c.args.price l.rows.items k = rw (held-there n ls c.in-Some.at l c.requires.ordered there c.index_mut.ensures.value) at is in
+    let row : IsRow c.args.number c.args.price (rows_in l) k = rw (held-there n ls c.in-Some.at l c.requires.ordered there c.index_mut.ensures.value) at is in
     held-changed (λ rows. remove rows k) n ls c.in-Some.at l _ m c.requires.ordered there c.index_mut.ensures.value refl (c.take_out.ensures.rows k row)
 
 pub returns-in_default-clause-held : goal.returns-in_default-clause-held

@@ -1,4 +1,4 @@
-use Rattle.std.proofs.Common.{◌≡◌, ◌∙◌, ap, refl, List, true, arith}
+use Rattle.std.proofs.Common.{◌≡◌, ◌∙◌, ap, refl, reverse, List, true, arith}
 use Rattle.std.specs.Result.{is_ok}
 use Rattle.price_book.specs.declared.ladder.Ladder.{Ladder}
 use Rattle.price_book.specs.Rungs.{rung, lower}
@@ -33,4 +33,4 @@ returns-clause-held c =
     let items : List Ladder = c.args.ladders.now.items in
     let at : c.lower-at.result ≡ lower n items = c.lower-at.ensures ∙ ap (λ m. lower m c.deref.result.now) c.rung.ensures ∙ ap (lower n) c.deref.ensures.value in
     let ok : is_ok c.insert-inserted.result ≡ true = c.insert-inserted.ensures.succeeds c.requires.room in
-    rw (c.insert-inserted.ensures.items, ok, at) (λ m. held-opened n items _ m c.requires.lacks refl c.requires.empty)
+    rw (c.insert-inserted.ensures.items, ok, at) (λ m. held-opened n items _ m c.requires.lacks refl (ap reverse c.requires.empty))

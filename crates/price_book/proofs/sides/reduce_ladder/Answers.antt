@@ -1,7 +1,7 @@
 use Rattle.std.proofs.Common.{◌≡◌, refl, ap, List, length, arith}
 use Rattle.price_book.specs.declared.ladder.Ladder.{Ladder}
 use Rattle.price_book.specs.Rows.{IsRow, cut_at}
-use Rattle.price_book.specs.Rungs.{rung, held, Lacks, IsLadder}
+use Rattle.price_book.specs.Rungs.{rung, rows_in, held, Lacks, IsLadder}
 use Rattle.price_book.proofs.Rungs.{held-there, held-lacks, held-changed, ordered-changed}
 use Rattle.price_book.proofs.sides.reduce_ladder.Goals as goal
 
@@ -31,7 +31,7 @@ returns-in-Some-clause-held c = λ k m is.
     let ls : List Ladder = c.args.ladders.now.items in
     let l : Ladder = c.index_mut.result.now in
     let there : IsLadder n ls c.in-Some.at = rw c.deref.ensures.value at c.in-Some.ensures in
-    let row : IsRow c.args.number c.args.price l.rows.items k = rw (held-there n ls c.in-Some.at l c.requires.ordered there c.index_mut.ensures.value) at is in
+    let row : IsRow c.args.number c.args.price (rows_in l) k = rw (held-there n ls c.in-Some.at l c.requires.ordered there c.index_mut.ensures.value) at is in
     held-changed (λ rows. cut_at k c.args.quantity rows) n ls c.in-Some.at l _ m c.requires.ordered there c.index_mut.ensures.value refl (c.cut.ensures.rows k row)
 
 pub returns-in_default-clause-held : goal.returns-in_default-clause-held
