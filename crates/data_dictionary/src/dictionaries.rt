@@ -9,7 +9,9 @@ ghost use Rattle.fix_tables.specs.Tables.{rows_of};
 ghost use Rattle.data_dictionary.specs.Values.{named, values_of};
 
 use crate::faults::WriteFault;
-use crate::fields::{DataType, application_tags, data_type_of, name_of, transport_tags, type_name_of};
+use crate::fields::{
+    DataType, application_tags, data_type_of, name_of, transport_tags, type_name_of,
+};
 use crate::lines::{append, append_fields_asked, append_table, required};
 use crate::message_types::{Listed, application_types, session_types};
 use fix_dictionary::MessageType;

@@ -10,4 +10,6 @@ mod message_types;
 
 pub use dictionaries::{Dictionary, write_dictionary};
 pub use faults::WriteFault;
-pub use laws::{each_row_is_said, each_table_is_told, names_tell_fields, types_are_apart, values_are_read};
+pub use laws::{
+    each_row_is_said, each_table_is_told, names_tell_fields, types_are_apart, values_are_read,
+};

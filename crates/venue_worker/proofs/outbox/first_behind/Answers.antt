@@ -14,7 +14,7 @@ returns-then-is_behind c =
     let low = c.loop-place-test.true in
     let here = subst (λ (w : ℕ). is_behind w rs q.is_cut (length q.waiting.items) ≡ true) c.of-who.ensures (sym c.is_behind.ensures ∙ c.if-is_behind.true) in
     subst (IsFirstBehind rs qs) (sym c.of-who.ensures)
-        (holds_at (λ (x : Queue). is_behind i rs x.is_cut (length x.waiting.items) ≡ true) qs i q low c.index-queues-place.is here, low, c.loop-place.invariant)
+    (holds_at (λ (x : Queue). is_behind i rs x.is_cut (length x.waiting.items) ≡ true) qs i q low c.index-queues-place.is here, low, c.loop-place.invariant)
 
 pub loop-place-preserved : goal.loop-place-preserved
 loop-place-preserved c =
