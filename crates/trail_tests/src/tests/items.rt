@@ -123,7 +123,10 @@ const TICK: Sent = Sent {
 /// The item with this number, counted from 1, and a tick after the last. Of the first, who sent them and in which era may be others.
 pub fn item(n: u64, others: &[(u32, u32)]) -> Sent {
     let place = n.saturating_sub(1) as usize;
-    let mut sent = ITEMS.get(place).copied().unwrap_or(TICK);
+    let mut sent = match ITEMS.get(place) {
+        Some(sent) => *sent,
+        None => TICK,
+    };
     if let Some((who, era)) = others.get(place) {
         sent.who = *who;
         sent.era = *era;
