@@ -144,7 +144,8 @@ pub enum Given {
     Other,
 }
 
-/// What is found after these steps over a database in memory, with these instruments, both files of so many bytes at least.
+/// What is found after these steps over a database in memory, with these instruments, both files of so many bytes at
+/// least.
 pub fn found_after(
     alloc: Global,
     instruments: &str,
