@@ -1,8 +1,8 @@
 //! A trail in a file.
 
 use super::files::{INSTRUMENTS, files_of};
-use super::keeping::{Finding, WHOLE, find};
-use super::steps::{Step, take_all};
+use super::keeping::{Finding, WHOLE};
+use super::steps::{Step, tell};
 use audit_trail::Files;
 use sqlite::Connection;
 use std::fs;
@@ -11,8 +11,7 @@ use std::test::*;
 /// Opens the file, takes these steps, and closes it: what is found before.
 fn told_of_file(rt: &HostRuntime, files: &Files, steps: &[Step]) -> Result<Finding, Fail> {
     let conn = Connection::open(rt, "audit_trail_test/t.db")?;
-    let (conn, _) = take_all(rt.alloc(), conn, files, steps);
-    let (finding, _, conn) = find(rt.alloc(), conn, None, files);
+    let ((_, finding, _), conn) = tell(rt.alloc(), conn, files, steps, None);
     conn.close()?;
     Ok(finding)
 }

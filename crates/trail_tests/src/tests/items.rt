@@ -30,8 +30,8 @@ pub struct Sent {
     pub replies: [usize; COUNT],
 }
 
-/// A request for quotes to four participants, three quotes of which the first is off tick, a response that is late, one that trades,
-/// and one too many.
+/// A request for quotes to four participants, three quotes of which the first is off tick, a response that is late, one
+/// that trades, and one too many.
 pub const ITEMS: [Sent; 7] = [
     Sent {
         who: 1,
@@ -120,10 +120,14 @@ const TICK: Sent = Sent {
     replies: [0; COUNT],
 };
 
-/// The item with this number, counted from 1, and a tick after the last. Of the first, who sent them and in which era may be others.
+/// The item with this number, counted from 1, and a tick after the last. Of the first, who sent them and in which era
+/// may be others.
 pub fn item(n: u64, others: &[(u32, u32)]) -> Sent {
     let place = n.saturating_sub(1) as usize;
-    let mut sent = ITEMS.get(place).copied().unwrap_or(TICK);
+    let mut sent = match ITEMS.get(place) {
+        Some(sent) => *sent,
+        None => TICK,
+    };
     if let Some((who, era)) = others.get(place) {
         sent.who = *who;
         sent.era = *era;

@@ -22,21 +22,24 @@ use venue_worker::{Parts, Queue, Worker};
 /// The usual delay between linked orders, in milliseconds.
 const USUAL_DELAY: u64 = 15_000;
 
-/// So many times the sessions collect what is in their seats: none is owed more replies in a day, and its mark behind them.
+/// So many times the sessions collect what is in their seats: none is owed more replies in a day, and its mark behind
+/// them.
 const COLLECTIONS: usize = 8;
 
-/// So many rounds a dismissal makes: a participant is cut once half a second has passed, and each answer of the clock is a millisecond
-/// later.
+/// So many rounds a dismissal makes: a participant is cut once half a second has passed, and each answer of the clock
+/// is a millisecond later.
 const ROUNDS: u64 = 600;
 
 /// What a day came to.
 #[derive(Clone, Copy)]
 pub struct Day {
-    /// So many items, and ticks behind the last, were in the trail as it began, if the rows were these and could be read.
+    /// So many items, and ticks behind the last, were in the trail as it began, if the rows were these and could be
+    /// read.
     pub found: Option<usize>,
     /// Whether the trades of these were told as they should be.
     pub is_told: bool,
-    /// So many items were answered at its end, with those that were found; none where an answer was not what it should be.
+    /// So many items were answered at its end, with those that were found; none where an answer was not what it should
+    /// be.
     pub answered: Option<usize>,
 }
 
@@ -73,8 +76,8 @@ fn takes<K: Keep + Drop>(
     takes_a_turn(alloc, worker, moment_of(sent)).ok()
 }
 
-// Hands the items behind the first so many over, one by one, up to the first that the trail refuses: how many there are before that.
-// The sessions collect nothing meanwhile, so that what each is owed waits in its seat and its queue.
+// Hands the items behind the first so many over, one by one, up to the first that the trail refuses: how many there are
+// before that. The sessions collect nothing meanwhile, so that what each is owed waits in its seat and its queue.
 fn take_each<K: Keep + Drop>(
     alloc: Global,
     worker: &mut Worker<'_, K>,
@@ -92,8 +95,8 @@ fn take_each<K: Keep + Drop>(
     Some(ITEMS.len())
 }
 
-// Has the worker deliver what waits, by turns, or where the trail has refused a row as the sessions are to end, and the sessions collect
-// it.
+// Has the worker deliver what waits, by turns, or where the trail has refused a row as the sessions are to end, and the
+// sessions collect it.
 fn give_all<K: Keep + Drop>(
     alloc: Global,
     worker: &mut Worker<'_, K>,
@@ -111,8 +114,8 @@ fn give_all<K: Keep + Drop>(
     }
 }
 
-// The items behind the first so many are answered, up to the first that the trail refuses: how many are answered then, if each session
-// was given what it was owed for these, and, where the trail has refused a row, its mark.
+// The items behind the first so many are answered, up to the first that the trail refuses: how many are answered then,
+// if each session was given what it was owed for these, and, where the trail has refused a row, its mark.
 fn answer_each<K: Keep + Drop>(
     alloc: Global,
     worker: &mut Worker<'_, K>,
@@ -129,8 +132,8 @@ fn answer_each<K: Keep + Drop>(
     }
 }
 
-// What a worker kept its rows in, and how many items are answered, if nothing waits for any participant, and each is cut where the trail
-// has refused a row, and else none.
+// What a worker kept its rows in, and how many items are answered, if nothing waits for any participant, and each is
+// cut where the trail has refused a row, and else none.
 fn left_of<K: Keep + Drop>(worker: Worker<'_, K>, answered: Option<usize>) -> (K, Option<usize>) {
     let Parts {
         venue,
@@ -244,7 +247,8 @@ fn go_on<S: Alter + Drop>(
     ))
 }
 
-/// Plays a day over a database, up to the first item that is not answered: a venue begins where its trail leads, or with an empty one.
+/// Plays a day over a database, up to the first item that is not answered: a venue begins where its trail leads, or
+/// with an empty one.
 pub fn play<S: Alter + Drop>(
     alloc: Global,
     conn: Connection<S>,

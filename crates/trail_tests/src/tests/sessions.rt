@@ -152,7 +152,8 @@ impl<'a> Sessions<'a> {
         }
     }
 
-    /// Whether each session collected what it was owed for the items between two places, and behind that its mark where it was to end.
+    /// Whether each session collected what it was owed for the items between two places, and behind that its mark where
+    /// it was to end.
     pub fn have_all(&self, first: usize, last: usize, are_cut: bool) -> bool {
         let mut have = true;
         for place in 0..COUNT {

@@ -99,8 +99,8 @@ pub fn take<S: Alter + Drop>(
     (conn, if is_done { Ok(0) } else { Err((9, 0)) })
 }
 
-/// Does these steps, up to the first that has a fault, and says what the last one came to.
-pub fn take_all<S: Alter + Drop>(
+// Does these steps, up to the first that has a fault, and says what the last one came to.
+fn take_all<S: Alter + Drop>(
     alloc: Global,
     mut conn: Connection<S>,
     files: &Files,
@@ -116,6 +116,26 @@ pub fn take_all<S: Alter + Drop>(
     (conn, done)
 }
 
+/// What is found after steps: the fault of the last of them, what `open` finds, and the delays.
+pub type Found = (Code, Finding, Option<[u64; 2]>);
+
+/// Takes these steps, and opens a trail with these files or with none: what is found, and the connection.
+pub fn tell<S: Alter + Drop>(
+    alloc: Global,
+    conn: Connection<S>,
+    files: &Files,
+    steps: &[Step],
+    given: Option<&Files>,
+) -> (Found, Connection<S>) {
+    let (conn, done) = take_all(alloc, conn, files, steps);
+    let (finding, delays, conn) = find(alloc, conn, given, files);
+    let code = match done {
+        Ok(_) => FINE,
+        Err(code) => code,
+    };
+    ((code, finding, delays), conn)
+}
+
 /// The files that are given where a trail is opened.
 #[derive(Clone, Copy)]
 pub enum Given {
@@ -124,10 +144,8 @@ pub enum Given {
     Other,
 }
 
-/// What is found after steps over a database in memory: the fault of the last of them, what `open` finds, and the delays.
-pub type Found = (Code, Finding, Option<[u64; 2]>);
-
-/// Takes these steps with these instruments, both files of so many bytes at least, and tells what is found.
+/// What is found after these steps over a database in memory, with these instruments, both files of so many bytes at
+/// least.
 pub fn found_after(
     alloc: Global,
     instruments: &str,
@@ -138,16 +156,11 @@ pub fn found_after(
     let files = files_of(alloc, instruments, length)?;
     let other = files_of(alloc, "", 0)?;
     let conn = Connection::open_in_memory(alloc)?;
-    let (conn, done) = take_all(alloc, conn, &files, steps);
     let given = match given {
         Given::None => None,
         Given::Same => Some(&files),
         Given::Other => Some(&other),
     };
-    let (finding, delays, _) = find(alloc, conn, given, &files);
-    let code = match done {
-        Ok(_) => FINE,
-        Err(code) => code,
-    };
-    Ok((code, finding, delays))
+    let (found, _) = tell(alloc, conn, &files, steps, given);
+    Ok(found)
 }
