@@ -20,14 +20,18 @@ pub use printing::print_day;
 use sqlite::Connection;
 use std::process::ExitCode;
 pub use trade::{print_trade, trade_number};
-use wanted::{Wanted, given_up, print_wanted};
+use wanted::{Wanted, parted, print_wanted};
 
 /// Prints what is wanted of the trail at a path. The file is looked at before, so that none is made where there is none, and none that is
 /// no database is touched.
 fn print_trail(rt: &HostRuntime, path: &str, wanted: Wanted) -> Result<(), Failure> {
     file::look_at(rt, path)?;
     match Connection::open(rt, path) {
-        Ok(conn) => given_up(print_wanted(rt.alloc(), conn, wanted, &mut rt.stdout())),
+        Ok(conn) => {
+            let (told, conn) = parted(print_wanted(rt.alloc(), conn, wanted, &mut rt.stdout()));
+            drop(conn);
+            told
+        }
         Err(error) => Err(Failure::from(error)),
     }
 }

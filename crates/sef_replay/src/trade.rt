@@ -77,7 +77,7 @@ fn print_kept<S: Alter, W: Write>(
 
 /// Writes the evidence for the trade with this number of the day that a database keeps as a trail, read back from its rows alone:
 /// these are replayed over the files and with the delays that it keeps. `Trade` where the day has no such trade. Nothing is written
-/// into the database, nor, where it or the number is refused, to the writer. The connection comes back.
+/// into the database, nor, where it or the number is refused or memory is, to the writer. The connection comes back.
 #[tactic(auto, using(crate::proofs::Trades::kept_trade, crate::proofs::Trades::refusal_kept, crate::proofs::Trades::fault_kept, crate::proofs::Trades::fault_untold, crate::proofs::Kept::survives_both))]
 pub fn print_trade<S: Alter, W: Write>(
     alloc: Global,

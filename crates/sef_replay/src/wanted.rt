@@ -1,10 +1,11 @@
 //! What is printed of a trail.
 
-ghost use Rattle.std.specs.Prelude.{◌≡◌, IfErr, Err, is_ok};
-ghost use Rattle.sqlite.specs.State.{HasCleanDisk};
+ghost use Rattle.std.specs.Prelude.{◌≡◌, IfOk, IfErr, MatchResult, Ok, Err};
+ghost use Rattle.std.specs.Io.KnownBytes.{Keeps};
+ghost use Rattle.sqlite.specs.State.{HasCleanDisk, Survives};
 ghost use Rattle.sqlite.specs.Held.{state};
 ghost use Rattle.audit_trail.specs.Reading.{IsTrailLike};
-ghost use Rattle.sef_replay.specs.Wanted.{RefusesWanted};
+ghost use Rattle.sef_replay.specs.Wanted.{IsWantedFailure, LeavesWanted, MayCommit, RefusesWanted, TellsWanted, UnlessWritten};
 ghost use Rattle.sef_replay.specs.declared.failure.Failure.TheVariants.{Trail as TrailRefused};
 
 use crate::failure::Failure;
@@ -32,8 +33,17 @@ pub fn print_wanted<S: Alter, W: Write>(
     wanted: Wanted,
     writer: &mut W,
 ) -> Result<Connection<S>, (Failure, Connection<S>)>
+    ensures told { IfOk result (λ back. HasCleanDisk (state S.Store back) → TellsWanted wanted (state S.Store conn).now (W.contents writer.old) (W.contents writer.new)) }
+    ensures fault { IfErr result (λ e. HasCleanDisk (state S.Store e.1) → IsWantedFailure wanted (state S.Store conn).now e.0) }
     ensures cause { IfErr result (λ e. HasCleanDisk (state S.Store e.1) → e.0 ≡ TrailRefused 1 → RefusesWanted wanted (state S.Store conn) (state S.Store e.1)) }
     ensures understood { IfErr result (λ e. HasCleanDisk (state S.Store e.1) → e.0 ≡ TrailRefused 4 → IsTrailLike (state S.Store conn)) }
+    ensures unwritten { IfErr result (λ e. UnlessWritten wanted e.0 (Keeps (W.contents writer.old) (W.contents writer.new))) }
+
+    // A crash leaves what it could leave before, or, where it was to be made, of an older trail the whole one of version 3; after Ok,
+    // that one alone.
+    ensures crash { IfOk result (λ back. Survives (state S.Store conn) (state S.Store back) (MayCommit wanted (state S.Store conn))) }
+    ensures durable { IfOk result (λ back. HasCleanDisk (state S.Store back) → LeavesWanted wanted (state S.Store conn) (state S.Store back)) }
+    ensures crash_err { IfErr result (λ e. Survives (state S.Store conn) (state S.Store e.1) (MayCommit wanted (state S.Store conn))) }
 {
     match wanted {
         Wanted::Day(form) => print_day(alloc, conn, form, writer),
@@ -42,21 +52,14 @@ pub fn print_wanted<S: Alter, W: Write>(
     }
 }
 
-/// Gives the database up, and keeps why nothing was printed.
-pub fn given_up<S: Alter + Drop>(
+/// How the printing ended, and beside it the connection, as it came back.
+pub fn parted<S: Alter>(
     printed: Result<Connection<S>, (Failure, Connection<S>)>,
-) -> Result<(), Failure>
-    ensures ok { is_ok result ≡ is_ok printed }
-    ensures failure { IfErr printed (λ e. result ≡ Err e.0) }
+) -> (Result<(), Failure>, Connection<S>)
+    ensures { MatchResult printed (λ conn. result ≡ (Ok tt, conn)) (λ e. result ≡ (Err e.0, e.1)) }
 {
     match printed {
-        Ok(conn) => {
-            drop(conn);
-            Ok(())
-        }
-        Err((failure, conn)) => {
-            drop(conn);
-            Err(failure)
-        }
+        Ok(conn) => (Ok(()), conn),
+        Err((failure, conn)) => (Err(failure), conn),
     }
 }

@@ -1,22 +1,59 @@
-use Rattle.std.proofs.Common.{◌≡◌, IfErr, subst, sym}
-use Rattle.sqlite.specs.Held.{state}
-use Rattle.sqlite.specs.State.{HasCleanDisk}
-use Rattle.sef_replay.specs.Wanted.{RefusesWanted}
-use Rattle.sef_replay.specs.declared.failure.Failure.TheVariants.{Trail as TrailRefused}
-use Rattle.sef_replay.specs.declared.wanted.Wanted.{Wanted}
+use Rattle.std.proofs.Common.{rules}
 use Rattle.sef_replay.proofs.wanted.print_wanted.Goals as goal
 
+pub returns-in-Day-clause-told : goal.returns-in-Day-clause-told
+returns-in-Day-clause-told g c = rw c.in-Day.is (search rules)
+
+pub returns-in-Day-clause-fault : goal.returns-in-Day-clause-fault
+returns-in-Day-clause-fault g c = rw c.in-Day.is (search rules)
+
 pub returns-in-Day-clause-cause : goal.returns-in-Day-clause-cause
-returns-in-Day-clause-cause g c =
-    subst (λ (wanted : Wanted). IfErr c.print_day.result (λ e. HasCleanDisk (state g.S.Store e.1) → e.0 ≡ TrailRefused 1 → RefusesWanted wanted (state g.S.Store c.args.conn) (state g.S.Store e.1)))
-    (sym c.in-Day.is) c.print_day.ensures.cause
+returns-in-Day-clause-cause g c = rw c.in-Day.is (search rules)
+
+pub returns-in-Day-clause-unwritten : goal.returns-in-Day-clause-unwritten
+returns-in-Day-clause-unwritten g c = rw c.in-Day.is (search rules)
+
+pub returns-in-Day-clause-crash : goal.returns-in-Day-clause-crash
+returns-in-Day-clause-crash g c = rw c.in-Day.is (search rules)
+
+pub returns-in-Day-clause-crash_err : goal.returns-in-Day-clause-crash_err
+returns-in-Day-clause-crash_err g c = rw c.in-Day.is (search rules)
+
+pub returns-in-MigratedDay-clause-told : goal.returns-in-MigratedDay-clause-told
+returns-in-MigratedDay-clause-told g c = rw c.in-MigratedDay.is (search rules)
+
+pub returns-in-MigratedDay-clause-fault : goal.returns-in-MigratedDay-clause-fault
+returns-in-MigratedDay-clause-fault g c = rw c.in-MigratedDay.is (search rules)
 
 pub returns-in-MigratedDay-clause-cause : goal.returns-in-MigratedDay-clause-cause
-returns-in-MigratedDay-clause-cause g c =
-    subst (λ (wanted : Wanted). IfErr c.print_migrated.result (λ e. HasCleanDisk (state g.S.Store e.1) → e.0 ≡ TrailRefused 1 → RefusesWanted wanted (state g.S.Store c.args.conn) (state g.S.Store e.1)))
-    (sym c.in-MigratedDay.is) c.print_migrated.ensures.cause
+returns-in-MigratedDay-clause-cause g c = rw c.in-MigratedDay.is (search rules)
+
+pub returns-in-MigratedDay-clause-unwritten : goal.returns-in-MigratedDay-clause-unwritten
+returns-in-MigratedDay-clause-unwritten g c = rw c.in-MigratedDay.is (search rules)
+
+pub returns-in-MigratedDay-clause-crash : goal.returns-in-MigratedDay-clause-crash
+returns-in-MigratedDay-clause-crash g c = rw c.in-MigratedDay.is (search rules)
+
+pub returns-in-MigratedDay-clause-durable : goal.returns-in-MigratedDay-clause-durable
+returns-in-MigratedDay-clause-durable g c = rw c.in-MigratedDay.is (search rules)
+
+pub returns-in-MigratedDay-clause-crash_err : goal.returns-in-MigratedDay-clause-crash_err
+returns-in-MigratedDay-clause-crash_err g c = rw c.in-MigratedDay.is (search rules)
+
+pub returns-in-Trade-clause-told : goal.returns-in-Trade-clause-told
+returns-in-Trade-clause-told g c = rw c.in-Trade.is (search rules)
+
+pub returns-in-Trade-clause-fault : goal.returns-in-Trade-clause-fault
+returns-in-Trade-clause-fault g c = rw c.in-Trade.is (search rules)
 
 pub returns-in-Trade-clause-cause : goal.returns-in-Trade-clause-cause
-returns-in-Trade-clause-cause g c =
-    subst (λ (wanted : Wanted). IfErr c.print_trade.result (λ e. HasCleanDisk (state g.S.Store e.1) → e.0 ≡ TrailRefused 1 → RefusesWanted wanted (state g.S.Store c.args.conn) (state g.S.Store e.1)))
-    (sym c.in-Trade.is) c.print_trade.ensures.cause
+returns-in-Trade-clause-cause g c = rw c.in-Trade.is (search rules)
+
+pub returns-in-Trade-clause-unwritten : goal.returns-in-Trade-clause-unwritten
+returns-in-Trade-clause-unwritten g c = rw c.in-Trade.is (search rules)
+
+pub returns-in-Trade-clause-crash : goal.returns-in-Trade-clause-crash
+returns-in-Trade-clause-crash g c = rw c.in-Trade.is (search rules)
+
+pub returns-in-Trade-clause-crash_err : goal.returns-in-Trade-clause-crash_err
+returns-in-Trade-clause-crash_err g c = rw c.in-Trade.is (search rules)
