@@ -1,5 +1,6 @@
 pub mod Kept
 pub mod Ends
 pub mod Causes
+pub mod Stops
 pub mod Older
 pub mod Trades

@@ -8,6 +8,7 @@ use Rattle.venue_rules.specs.declared.trail.TrailFault.{TrailFault}
 use Rattle.venue_rules.specs.declared.trail.TrailFault.TheVariants as trail
 use Rattle.sef_replay.specs.declared.failure.Failure.{Failure}
 use Rattle.sef_replay.specs.declared.failure.Failure.TheVariants.{Stopped, CommandLine, Trail as TrailRefused, Trade as TradeRefused}
+use Rattle.sef_replay.specs.declared.failure.Stop.{Stop}
 use Rattle.sef_replay.specs.declared.failure.Stop.TheVariants as stop
 
 -- the status that the program ends with
@@ -25,6 +26,11 @@ trail_failure (trail.BadRow n) = TrailRefused 3
 trail_failure trail.OtherVersion = TrailRefused 4
 trail_failure (trail.BadDelay x) = TrailRefused 5
 trail_failure trail.NoMemory = Stopped stop.Memory
+
+-- what stops the program where an opened trail does not give its rows
+abbrev pub rows_stop : TrailFault → Stop
+rows_stop trail.NoMemory = stop.Memory
+rows_stop _ = stop.Trail
 
 -- and where the file is not opened: somebody else has it, or the disk failed; else it is no database
 abbrev pub code_failure : ErrorCode → Failure

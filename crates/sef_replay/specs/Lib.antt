@@ -1,5 +1,6 @@
 pub mod Failures
 pub mod Day
+pub mod Stops
 pub mod Older
 pub mod Trade
 pub mod Wanted

@@ -1,7 +1,9 @@
 //! The market that a trail keeps.
 
-ghost use Rattle.std.specs.Prelude.{IfOk};
+ghost use Rattle.std.specs.Prelude.{◌⊎◌, IfOk, IfErr};
+ghost use Rattle.audit_trail.specs.Readings.{RefusesInstruments, RefusesParticipants};
 ghost use Rattle.sef_replay.specs.Day.{AreKept, ReadsInstruments, ReadsParticipants};
+ghost use Rattle.sef_replay.specs.Stops.{RefusesDelays, RefusesMarket, StopsReading};
 
 use crate::failure::Stop;
 use audit_trail::Files;
@@ -11,7 +13,8 @@ use std::alloc::Global;
 
 /// The participants that the kept text tells.
 fn participants_kept(alloc: Global, text: &[u8]) -> Result<Participants, Stop>
-    ensures { IfOk result (λ file. ReadsParticipants text.now file) }
+    ensures read { IfOk result (λ file. ReadsParticipants text.now file) }
+    ensures stopped { IfErr result (StopsReading (RefusesParticipants text.now)) }
 {
     match Participants::read(alloc, text) {
         Ok(participants) => Ok(participants),
@@ -23,7 +26,8 @@ fn participants_kept(alloc: Global, text: &[u8]) -> Result<Participants, Stop>
 /// The instruments that the kept text tells, each with the kept delay in the place of the one that the text tells: the delay by which
 /// the day ran.
 fn instruments_kept(alloc: Global, text: &[u8], delays: &[u64]) -> Result<Instruments, Stop>
-    ensures { IfOk result (λ rows. ReadsInstruments text.now delays.now rows) }
+    ensures read { IfOk result (λ rows. ReadsInstruments text.now delays.now rows) }
+    ensures stopped { IfErr result (StopsReading (RefusesInstruments text.now ⊎ RefusesDelays text.now delays.now)) }
 {
     match Instruments::read(alloc, text) {
         Ok(told) => match told.with_delays(alloc, delays) {
@@ -38,12 +42,14 @@ fn instruments_kept(alloc: Global, text: &[u8], delays: &[u64]) -> Result<Instru
 
 /// Who may trade, and what, as a trail keeps it. Where the trail was opened its readers took the texts and the delays, so that one that
 /// is refused here was not read back as it was.
+#[tactic(auto, using(crate::proofs::Stops::instruments_stop))]
 pub fn market_kept(
     alloc: Global,
     files: &Files,
     delays: &[u64],
 ) -> Result<(Participants, Instruments), Stop>
-    ensures { IfOk result (λ m. AreKept files.now delays.now m.0 m.1) }
+    ensures kept { IfOk result (λ m. AreKept files.now delays.now m.0 m.1) }
+    ensures stopped { IfErr result (StopsReading (RefusesMarket files.now delays.now)) }
 {
     let participants = participants_kept(alloc, files.participants.as_slice())?;
     let instruments = instruments_kept(alloc, files.instruments.as_slice(), delays)?;

@@ -1,14 +1,15 @@
 //! The trades of the day of a trail of version 3 or of an older one, printed.
 
-ghost use Rattle.std.specs.Prelude.{◌≡◌, IfOk, IfErr};
+ghost use Rattle.std.specs.Prelude.{◌≡◌, ◌⊎◌, IfOk, IfErr};
 ghost use Rattle.std.specs.Io.KnownBytes.{Keeps};
 ghost use Rattle.sqlite.specs.State.{HasCleanDisk, Survives};
 ghost use Rattle.sqlite.specs.Held.{state};
 ghost use Rattle.audit_trail.specs.Older.{MayBecomeThird};
 ghost use Rattle.audit_trail.specs.Reading.{IsTrailLike};
 ghost use Rattle.sef_replay.specs.Day.{UnlessPrinting};
-ghost use Rattle.sef_replay.specs.Older.{EitherFault, IsEitherFailure, IsThirdNow, LeavesThird, RefusesEither, RefusesToBringUp, TellsEither};
-ghost use Rattle.sef_replay.specs.declared.failure.Failure.TheVariants.{Trail as TrailRefused};
+ghost use Rattle.sef_replay.specs.Older.{BeginsEither, EitherFault, IsEitherFailure, IsThirdNow, LeavesThird, RefusesEither, RefusesToBringUp, StopsEither, TellsEither};
+ghost use Rattle.sef_replay.specs.declared.failure.Failure.TheVariants.{Stopped, Trail as TrailRefused};
+ghost use Rattle.sef_replay.specs.declared.failure.Stop.TheVariants.{Memory};
 ghost use Rattle.venue_rules.specs.declared.trail.TrailFault.TheVariants.{OtherVersion, Refused};
 
 use crate::failure::Failure;
@@ -53,7 +54,9 @@ pub fn print_migrated<S: Alter, W: Write>(
     ensures fault { IfErr result (λ e. HasCleanDisk (state S.Store e.1) → IsEitherFailure (state S.Store conn).now e.0) }
     ensures cause { IfErr result (λ e. HasCleanDisk (state S.Store e.1) → e.0 ≡ TrailRefused 1 → RefusesEither (state S.Store conn) (state S.Store e.1)) }
     ensures understood { IfErr result (λ e. HasCleanDisk (state S.Store e.1) → e.0 ≡ TrailRefused 4 → IsTrailLike (state S.Store conn)) }
+    ensures stopped { IfErr result (λ e. HasCleanDisk (state S.Store e.1) → StopsEither e.0 (state S.Store conn) (state S.Store e.1)) }
     ensures unwritten { IfErr result (λ e. UnlessPrinting e.0 (Keeps (W.contents writer.old) (W.contents writer.new))) }
+    ensures begun { IfErr result (λ e. HasCleanDisk (state S.Store e.1) → e.0 ≡ Stopped Memory → Keeps (W.contents writer.old) (W.contents writer.new) ⊎ BeginsEither form (state S.Store conn).now (W.contents writer.old) (W.contents writer.new)) }
 
     // A crash leaves what it could leave before, or of an older trail the whole one of version 3; after Ok, that one alone.
     ensures crash { IfOk result (λ back. Survives (state S.Store conn) (state S.Store back) (MayBecomeThird (state S.Store conn))) }

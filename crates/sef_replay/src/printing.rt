@@ -1,6 +1,6 @@
 //! The trades of the day that a database keeps as a trail, printed.
 
-ghost use Rattle.std.specs.Prelude.{◌≡◌, IfOk, IfErr, OnOk};
+ghost use Rattle.std.specs.Prelude.{◌≡◌, ◌⊎◌, IfOk, IfErr, OnOk};
 ghost use Rattle.std.specs.Io.KnownBytes.{Appends, Keeps};
 ghost use Rattle.venue_rules.specs.Facts.{History};
 ghost use Rattle.venue_core.specs.Standing.{IsHistory};
@@ -8,8 +8,11 @@ ghost use Rattle.sqlite.specs.State.{HasCleanDisk, Survives};
 ghost use Rattle.sqlite.specs.Held.{state};
 ghost use Rattle.audit_trail.specs.Reading.{IsTrailLike, RefusesToOpen};
 ghost use Rattle.audit_trail.specs.Trail.{kept_rows, store};
-ghost use Rattle.sef_replay.specs.declared.failure.Failure.TheVariants.{Trail as TrailRefused};
-ghost use Rattle.sef_replay.specs.Day.{IsFailureOf, TellsDay, TellsKept, UnlessPrinting, UnlessStopped, printed};
+ghost use Rattle.trade_lines.specs.declared.printing.PrintFault.TheVariants as print_fault;
+ghost use Rattle.sef_replay.specs.declared.failure.Failure.TheVariants.{Stopped, Trail as TrailRefused};
+ghost use Rattle.sef_replay.specs.declared.failure.Stop.TheVariants.{Memory};
+ghost use Rattle.sef_replay.specs.Day.{Begins, BeginsDay, BeginsKept, IsFailureOf, TellsDay, TellsKept, UnlessPrinting, UnlessStopped, printed};
+ghost use Rattle.sef_replay.specs.Stops.{RefusesDay, StopsAfter, StopsPrinting};
 
 use crate::failure::{Failure, Stop};
 use crate::form::Form;
@@ -28,7 +31,8 @@ fn print_in<W: Write>(
     form: Form,
     writer: &mut W,
 ) -> Result<(), PrintFault>
-    ensures { (h : History) → IsHistory venue.now h → OnOk result (Appends (W.contents writer.old) (W.contents writer.new) (printed form venue.now.market h)) }
+    ensures told { (h : History) → IsHistory venue.now h → OnOk result (Appends (W.contents writer.old) (W.contents writer.new) (printed form venue.now.market h)) }
+    ensures begun { (h : History) → IsHistory venue.now h → IfErr result (λ fault. fault ≡ print_fault.Memory → Begins form (W.contents writer.old) (W.contents writer.new) venue.now.market h) }
 {
     match form {
         Form::Lines => print_trades(alloc, venue, writer),
@@ -37,6 +41,7 @@ fn print_in<W: Write>(
 }
 
 /// Writes the trades of the day that a trail keeps.
+#[tactic(auto, using(crate::proofs::Kept::not_begun, crate::proofs::Stops::stops_printing))]
 fn print_kept<S: Alter, W: Write>(
     alloc: Global,
     trail: &mut Trail<S>,
@@ -45,7 +50,10 @@ fn print_kept<S: Alter, W: Write>(
 ) -> Result<(), Stop>
     ensures told { HasCleanDisk (store S.Store trail.new) → OnOk result
         (TellsKept form trail.old.files trail.old.delays (kept_rows S.Store trail.old) (W.contents writer.old) (W.contents writer.new)) }
+    ensures stopped { IfErr result (StopsPrinting (HasCleanDisk (store S.Store trail.new) → RefusesDay trail.old.files trail.old.delays (store S.Store trail.old) (store S.Store trail.new))) }
     ensures unwritten { IfErr result (λ stop. UnlessStopped stop (Keeps (W.contents writer.old) (W.contents writer.new))) }
+    ensures begun { HasCleanDisk (store S.Store trail.new) → IfErr result (λ stop. stop ≡ Memory → Keeps (W.contents writer.old) (W.contents writer.new)
+        ⊎ BeginsKept form trail.old.files trail.old.delays (kept_rows S.Store trail.old) (W.contents writer.old) (W.contents writer.new)) }
     ensures crash { Survives (store S.Store trail.old) (store S.Store trail.new) (λ _. ⊥) }
 {
     let venue = venue_kept(alloc, trail)?;
@@ -60,8 +68,8 @@ fn print_kept<S: Alter, W: Write>(
 
 /// Writes each trade of the day that a database keeps as a trail, in their order and in a form, read back from its rows alone: these are
 /// replayed over the files and with the delays that it keeps. Nothing is written into the database, nor, where it is refused, to the
-/// writer. The connection comes back.
-#[tactic(auto, using(crate::proofs::Kept::survives_both, crate::proofs::Ends::fault_told, crate::proofs::Ends::refused_unwritten))]
+/// writer; where memory is refused, nothing or a beginning of what is printed. The connection comes back.
+#[tactic(auto, using(crate::proofs::Kept::survives_both, crate::proofs::Ends::fault_told, crate::proofs::Ends::refused_unwritten, crate::proofs::Kept::not_begun, crate::proofs::Stops::fault_stops, crate::proofs::Stops::day_stopped))]
 pub fn print_day<S: Alter, W: Write>(
     alloc: Global,
     conn: Connection<S>,
@@ -72,7 +80,9 @@ pub fn print_day<S: Alter, W: Write>(
     ensures fault { IfErr result (λ e. HasCleanDisk (state S.Store e.1) → IsFailureOf (state S.Store conn).now e.0) }
     ensures cause { IfErr result (λ e. HasCleanDisk (state S.Store e.1) → e.0 ≡ TrailRefused 1 → RefusesToOpen (state S.Store conn) (state S.Store e.1)) }
     ensures understood { IfErr result (λ e. HasCleanDisk (state S.Store e.1) → e.0 ≡ TrailRefused 4 → IsTrailLike (state S.Store conn)) }
+    ensures stopped { IfErr result (λ e. HasCleanDisk (state S.Store e.1) → StopsAfter e.0 (state S.Store conn) (state S.Store e.1)) }
     ensures unwritten { IfErr result (λ e. UnlessPrinting e.0 (Keeps (W.contents writer.old) (W.contents writer.new))) }
+    ensures begun { IfErr result (λ e. HasCleanDisk (state S.Store e.1) → e.0 ≡ Stopped Memory → Keeps (W.contents writer.old) (W.contents writer.new) ⊎ BeginsDay form (state S.Store conn).now (W.contents writer.old) (W.contents writer.new)) }
 
     // Nothing is committed: a crash leaves what it could leave before.
     ensures crash { IfOk result (λ back. Survives (state S.Store conn) (state S.Store back) (λ _. ⊥)) }

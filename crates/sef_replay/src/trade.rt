@@ -7,6 +7,7 @@ ghost use Rattle.sqlite.specs.Held.{state};
 ghost use Rattle.audit_trail.specs.Reading.{IsTrailLike, RefusesToOpen};
 ghost use Rattle.audit_trail.specs.Trail.{kept_rows, store};
 ghost use Rattle.sef_replay.specs.declared.failure.Failure.TheVariants.{Trail as TrailRefused};
+ghost use Rattle.sef_replay.specs.Stops.{RefusesDay, StopsAfter, StopsTelling};
 ghost use Rattle.sef_replay.specs.Trade.{IsRefusalOf, IsTradeFailureOf, TellsTradeKept, TellsTradeOf, UnlessTold};
 
 use crate::failure::{Failure, Stop};
@@ -40,7 +41,7 @@ pub fn trade_number(word: &str) -> Option<u64>
 }
 
 /// Writes the evidence for a trade of the day that a trail keeps.
-#[tactic(auto, using(crate::proofs::Trades::told_kept, crate::proofs::Trades::none_kept, crate::proofs::Trades::stop_untold))]
+#[tactic(auto, using(crate::proofs::Trades::told_kept, crate::proofs::Trades::none_kept, crate::proofs::Trades::stop_untold, crate::proofs::Stops::stops_printing))]
 fn print_kept<S: Alter, W: Write>(
     alloc: Global,
     trail: &mut Trail<S>,
@@ -50,6 +51,7 @@ fn print_kept<S: Alter, W: Write>(
     ensures told { HasCleanDisk (store S.Store trail.new) → OnOk result
         (TellsTradeKept trail.old.files trail.old.delays (kept_rows S.Store trail.old) number (W.contents writer.old) (W.contents writer.new)) }
     ensures refused { HasCleanDisk (store S.Store trail.new) → IfErr result (IsRefusalOf trail.old.files trail.old.delays (kept_rows S.Store trail.old) number) }
+    ensures stopped { IfErr result (StopsTelling (HasCleanDisk (store S.Store trail.new) → RefusesDay trail.old.files trail.old.delays (store S.Store trail.old) (store S.Store trail.new))) }
     ensures unwritten { IfErr result (λ failure. UnlessTold failure (Keeps (W.contents writer.old) (W.contents writer.new))) }
     ensures crash { Survives (store S.Store trail.old) (store S.Store trail.new) (λ _. ⊥) }
 {
@@ -78,7 +80,7 @@ fn print_kept<S: Alter, W: Write>(
 /// Writes the evidence for the trade with this number of the day that a database keeps as a trail, read back from its rows alone:
 /// these are replayed over the files and with the delays that it keeps. `Trade` where the day has no such trade. Nothing is written
 /// into the database, nor, where it or the number is refused or memory is, to the writer. The connection comes back.
-#[tactic(auto, using(crate::proofs::Trades::kept_trade, crate::proofs::Trades::refusal_kept, crate::proofs::Trades::fault_kept, crate::proofs::Trades::fault_untold, crate::proofs::Kept::survives_both))]
+#[tactic(auto, using(crate::proofs::Trades::kept_trade, crate::proofs::Trades::refusal_kept, crate::proofs::Trades::fault_kept, crate::proofs::Trades::fault_untold, crate::proofs::Kept::survives_both, crate::proofs::Stops::fault_stops, crate::proofs::Stops::telling_stopped))]
 pub fn print_trade<S: Alter, W: Write>(
     alloc: Global,
     conn: Connection<S>,
@@ -89,6 +91,7 @@ pub fn print_trade<S: Alter, W: Write>(
     ensures fault { IfErr result (λ e. HasCleanDisk (state S.Store e.1) → IsTradeFailureOf (state S.Store conn).now number e.0) }
     ensures cause { IfErr result (λ e. HasCleanDisk (state S.Store e.1) → e.0 ≡ TrailRefused 1 → RefusesToOpen (state S.Store conn) (state S.Store e.1)) }
     ensures understood { IfErr result (λ e. HasCleanDisk (state S.Store e.1) → e.0 ≡ TrailRefused 4 → IsTrailLike (state S.Store conn)) }
+    ensures stopped { IfErr result (λ e. HasCleanDisk (state S.Store e.1) → StopsAfter e.0 (state S.Store conn) (state S.Store e.1)) }
     ensures unwritten { IfErr result (λ e. UnlessTold e.0 (Keeps (W.contents writer.old) (W.contents writer.new))) }
 
     // Nothing is committed: a crash leaves what it could leave before.

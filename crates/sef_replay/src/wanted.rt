@@ -1,12 +1,13 @@
 //! What is printed of a trail.
 
-ghost use Rattle.std.specs.Prelude.{◌≡◌, IfOk, IfErr, MatchResult, Ok, Err};
+ghost use Rattle.std.specs.Prelude.{◌≡◌, ◌⊎◌, IfOk, IfErr, MatchResult, Ok, Err};
 ghost use Rattle.std.specs.Io.KnownBytes.{Keeps};
 ghost use Rattle.sqlite.specs.State.{HasCleanDisk, Survives};
 ghost use Rattle.sqlite.specs.Held.{state};
 ghost use Rattle.audit_trail.specs.Reading.{IsTrailLike};
-ghost use Rattle.sef_replay.specs.Wanted.{IsWantedFailure, LeavesWanted, MayCommit, RefusesWanted, TellsWanted, UnlessWritten};
-ghost use Rattle.sef_replay.specs.declared.failure.Failure.TheVariants.{Trail as TrailRefused};
+ghost use Rattle.sef_replay.specs.Wanted.{BeginsWanted, IsWantedFailure, LeavesWanted, MayCommit, RefusesWanted, StopsWanted, TellsWanted, UnlessWritten};
+ghost use Rattle.sef_replay.specs.declared.failure.Failure.TheVariants.{Stopped, Trail as TrailRefused};
+ghost use Rattle.sef_replay.specs.declared.failure.Stop.TheVariants.{Memory};
 
 use crate::failure::Failure;
 use crate::form::Form;
@@ -37,7 +38,9 @@ pub fn print_wanted<S: Alter, W: Write>(
     ensures fault { IfErr result (λ e. HasCleanDisk (state S.Store e.1) → IsWantedFailure wanted (state S.Store conn).now e.0) }
     ensures cause { IfErr result (λ e. HasCleanDisk (state S.Store e.1) → e.0 ≡ TrailRefused 1 → RefusesWanted wanted (state S.Store conn) (state S.Store e.1)) }
     ensures understood { IfErr result (λ e. HasCleanDisk (state S.Store e.1) → e.0 ≡ TrailRefused 4 → IsTrailLike (state S.Store conn)) }
+    ensures stopped { IfErr result (λ e. HasCleanDisk (state S.Store e.1) → StopsWanted wanted e.0 (state S.Store conn) (state S.Store e.1)) }
     ensures unwritten { IfErr result (λ e. UnlessWritten wanted e.0 (Keeps (W.contents writer.old) (W.contents writer.new))) }
+    ensures begun { IfErr result (λ e. HasCleanDisk (state S.Store e.1) → e.0 ≡ Stopped Memory → Keeps (W.contents writer.old) (W.contents writer.new) ⊎ BeginsWanted wanted (state S.Store conn).now (W.contents writer.old) (W.contents writer.new)) }
 
     // A crash leaves what it could leave before, or, where it was to be made, of an older trail the whole one of version 3; after Ok,
     // that one alone.

@@ -3,13 +3,15 @@ use Rattle.std.proofs.Common.{inl, subst, sym, ◌∙◌}
 use Rattle.sef_replay.specs.declared.failure.Failure.{Failure}
 use Rattle.sef_replay.specs.Day.{IsFailureOf}
 use Rattle.sef_replay.proofs.Causes.{is_other, is_refused, never_other, refused_at_last}
-use Rattle.sef_replay.proofs.Older.{clean_before, either_told, failure_at_last, leaves_still, of_err, of_ok, survives_printing}
+use Rattle.sef_replay.proofs.Older.{clean_before, either_begun, either_day, failure_at_last, leaves_still, of_err, of_ok, survives_printing}
+use Rattle.sef_replay.proofs.Kept.{as_it_was}
+use Rattle.sef_replay.proofs.Stops.{fault_stops, stopped_at_last}
 use Rattle.sef_replay.proofs.migrating.print_migrated.Goals as goal
 
 pub returns-in-Ok-clause-told : goal.returns-in-Ok-clause-told
 returns-in-Ok-clause-told g c =
     of_ok c.print_day.result _ _ _ c.print_day.ensures.told c.print_day.ensures.crash
-    (λ back told s clean. either_told c.args.form (state g.S.Store c.args.conn) (state g.S.Store c.in-Ok.conn) _ _ (c.in-Ok.ensures.third (clean_before _ _ _ s clean)) (told clean))
+    (λ back told s clean. either_day _ (state g.S.Store c.args.conn) (state g.S.Store c.in-Ok.conn) (c.in-Ok.ensures.third (clean_before _ _ _ s clean)) (told clean))
 
 pub returns-in-Ok-clause-fault : goal.returns-in-Ok-clause-fault
 returns-in-Ok-clause-fault g c =
@@ -48,3 +50,20 @@ returns-in-Ok-clause-understood g c =
 
 pub returns-in-Err-clause-understood : goal.returns-in-Err-clause-understood
 returns-in-Err-clause-understood g c clean is = c.in-Err.ensures.understood clean (is_other c.in-Err.fault (sym c.from.ensures ∙ is))
+
+pub returns-in-Ok-clause-begun : goal.returns-in-Ok-clause-begun
+returns-in-Ok-clause-begun g c =
+    of_err c.print_day.result _ _ _ c.print_day.ensures.begun c.print_day.ensures.crash_err
+    (λ e begun s clean is. either_begun _ _ (state g.S.Store c.args.conn) (state g.S.Store c.in-Ok.conn) (c.in-Ok.ensures.third (clean_before _ _ _ s clean)) (begun clean is))
+
+pub returns-in-Err-clause-begun : goal.returns-in-Err-clause-begun
+returns-in-Err-clause-begun g c clean is = inl (as_it_was _)
+
+pub returns-in-Ok-clause-stopped : goal.returns-in-Ok-clause-stopped
+returns-in-Ok-clause-stopped g c =
+    let up = c.in-Ok.ensures in
+    of_err c.print_day.result _ _ _ c.print_day.ensures.stopped c.print_day.ensures.crash_err
+    (λ e why s clean. stopped_at_last (state g.S.Store c.args.conn) (state g.S.Store c.in-Ok.conn) (state g.S.Store e.1) e.0 (up.third (clean_before _ _ _ s clean)) up.crash.counts up.crash.limit (why clean))
+
+pub returns-in-Err-clause-stopped : goal.returns-in-Err-clause-stopped
+returns-in-Err-clause-stopped g c clean = rw c.from.ensures (inl (fault_stops c.in-Err.fault _ _))

@@ -1,5 +1,15 @@
+use Rattle.sqlite.specs.State.{HasCleanDisk, State}
+use Rattle.audit_trail.specs.Trail.{store}
+use Rattle.sef_replay.specs.Stops.{RefusesDay}
 use Rattle.sef_replay.proofs.Kept.{day_told}
+use Rattle.sef_replay.proofs.Stops.{stops_printer}
 use Rattle.sef_replay.proofs.printing.print_kept.Goals as goal
 
 pub returns-in-Ok-clause-told : goal.returns-in-Ok-clause-told
-returns-in-Ok-clause-told g c clean = day_told c.args.form _ _ _ _ _ _ (c.in_ok-venue.ensures.ends clean) c.in-Ok.ensures
+returns-in-Ok-clause-told g c clean = day_told _ _ _ _ _ (c.in_ok-venue.ensures.ends clean) c.in-Ok.ensures.told
+
+pub returns-in_err-venue-clause-stopped : goal.returns-in_err-venue-clause-stopped
+returns-in_err-venue-clause-stopped g c =
+    let old : State = store g.S.Store c.args.trail.now in
+    let new : State = store g.S.Store c.venue_kept.new.trail in
+    stops_printer c.from_residual.result (HasCleanDisk new → RefusesDay c.args.trail.now.files c.args.trail.now.delays old new) _ c.from_residual.ensures.1 c.in_err-venue.ensures.stopped

@@ -1,4 +1,6 @@
-use Rattle.std.proofs.Common.{rules}
+use Rattle.std.proofs.Common.{inl, rules}
+use Rattle.sef_replay.proofs.Older.{of_err}
+use Rattle.sef_replay.proofs.Trades.{memory_untold}
 use Rattle.sef_replay.proofs.wanted.print_wanted.Goals as goal
 
 pub returns-in-Day-clause-told : goal.returns-in-Day-clause-told
@@ -57,3 +59,23 @@ returns-in-Trade-clause-crash g c = rw c.in-Trade.is (search rules)
 
 pub returns-in-Trade-clause-crash_err : goal.returns-in-Trade-clause-crash_err
 returns-in-Trade-clause-crash_err g c = rw c.in-Trade.is (search rules)
+
+pub returns-in-Day-clause-stopped : goal.returns-in-Day-clause-stopped
+returns-in-Day-clause-stopped g c = rw c.in-Day.is (search rules)
+
+pub returns-in-Day-clause-begun : goal.returns-in-Day-clause-begun
+returns-in-Day-clause-begun g c = rw c.in-Day.is (search rules)
+
+pub returns-in-MigratedDay-clause-stopped : goal.returns-in-MigratedDay-clause-stopped
+returns-in-MigratedDay-clause-stopped g c = rw c.in-MigratedDay.is (search rules)
+
+pub returns-in-MigratedDay-clause-begun : goal.returns-in-MigratedDay-clause-begun
+returns-in-MigratedDay-clause-begun g c = rw c.in-MigratedDay.is (search rules)
+
+pub returns-in-Trade-clause-stopped : goal.returns-in-Trade-clause-stopped
+returns-in-Trade-clause-stopped g c = rw c.in-Trade.is (search rules)
+
+pub returns-in-Trade-clause-begun : goal.returns-in-Trade-clause-begun
+returns-in-Trade-clause-begun g c =
+    rw c.in-Trade.is (of_err c.print_trade.result _ _ _ c.print_trade.ensures.unwritten c.print_trade.ensures.unwritten
+    (λ e kept _ clean is. inl (memory_untold e.0 _ kept is)))
