@@ -16,4 +16,4 @@ pub returns : goal.returns
 returns c =
     let start = c.self.inside.start in
     let unread : drop start c.self.inside.buffer.items ≡ c.args.self.now.unread = ap (λ v. v.unread) c.self.view_is in
-    subst (λ s. IsLook s c.look_at.result) (take_rest c.deref.result.now start ∙ ap (drop start) c.deref.ensures.value ∙ unread) c.look_at.ensures
+    subst (λ s. IsLook s c.look_at.result) (take_rest c.all.result.now start ∙ ap (drop start) c.all.ensures ∙ unread) c.look_at.ensures

@@ -8,7 +8,7 @@ use Rattle.fix_frame.proofs.cutter.Cutter.skip.Goals as goal
 pub pass_garbage-count-requires : goal.pass_garbage-count-requires
 pass_garbage-count-requires c =
     let start = c.self.inside.start in
-    let rest = take_rest c.deref.result.now start ∙ ap (drop start) c.deref.ensures.value ∙ ap (λ v. v.unread) c.self.view_is in
+    let rest = take_rest c.all.result.now start ∙ ap (drop start) c.all.ensures ∙ ap (λ v. v.unread) c.self.view_is in
     subst (λ s. IsOpen s → ⊥) (sym rest) c.requires
 
 pub invariant_of-self : goal.invariant_of-self
@@ -16,7 +16,7 @@ invariant_of-self c =
     let items = c.self.inside.buffer.items in
     let start = c.self.inside.start in
     let n = c.pass_garbage-count.result.0 in
-    let rest = take_rest c.deref.result.now start ∙ ap (drop start) c.deref.ensures.value in
+    let rest = take_rest c.all.result.now start ∙ ap (drop start) c.all.ensures in
     let given = c.pass_garbage-count.ensures in
     let passes : Passes n (drop start items) = subst (Passes n) rest given.passes in
     let look : IsLook (drop n (drop start items)) c.pass_garbage-count.result.1 = subst (λ s. IsLook (drop n s) c.pass_garbage-count.result.1) rest given.look in
@@ -28,7 +28,7 @@ returns-clause-cut c =
     let start = c.self.inside.start in
     let n = c.pass_garbage-count.result.0 in
     let unread : drop start items ≡ c.args.self.now.unread = ap (λ v. v.unread) c.self.view_is in
-    let rest = take_rest c.deref.result.now start ∙ ap (drop start) c.deref.ensures.value ∙ unread in
+    let rest = take_rest c.all.result.now start ∙ ap (drop start) c.all.ensures ∙ unread in
     let given = c.pass_garbage-count.ensures in
     let passes : Passes n c.args.self.now.unread = subst (Passes n) rest given.passes in (
       n,
