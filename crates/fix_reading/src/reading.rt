@@ -14,7 +14,7 @@ ghost use Rattle.fix_fields.specs.Views.{entries};
 
 use crate::field_values::{begin_in, bytes_at};
 use crate::{cross_parts, group_parts, parts, quote_parts};
-use fix_dictionary::{Admin, App, Body, BoxedApp, Message, MessageType, OtherKind};
+use fix_dictionary::{Admin, App, Body, BoxedApp, Message, MessageType};
 use fix_fields::{Field, Fields};
 use fix_tables::{
     DictFault, Standing, first_fault, header, is_grouped, is_session, part, placed, placed_fault,
@@ -23,21 +23,16 @@ use fix_tables::{
 use std::alloc::{AllocError, Global};
 
 // What a message of the session says behind its header.
-fn admin_in(
-    alloc: Global,
-    kind: MessageType,
-    begin: u32,
-    fields: &[Field],
-) -> Result<Admin, AllocError>
-    requires holds { Holds (rows_of kind begin) (entries fields.now) }
+#[inline(never)]
+fn admin_in(alloc: Global, kind: MessageType, fields: &[Field]) -> Result<Admin, AllocError>
+    requires holds { Holds (rows_of kind (begin_in (entries fields.now))) (entries fields.now) }
     requires session { is_session kind ≡ true }
-    requires begin { begin ≡ begin_in (entries fields.now) }
     ensures { IfOk result (λ m. Body.Admin m ≡ body_in kind (entries fields.now)) }
 {
     Ok(match kind {
         MessageType::Heartbeat => Admin::Heartbeat(parts::heartbeat(fields)),
         MessageType::TestRequest => Admin::TestRequest(parts::test_request(fields)),
-        MessageType::ResendRequest => Admin::ResendRequest(parts::resend_request(begin, fields)),
+        MessageType::ResendRequest => Admin::ResendRequest(parts::resend_request(fields)),
         MessageType::Reject => Admin::Reject(parts::reject(alloc, fields)?),
         MessageType::SequenceReset => Admin::SequenceReset(parts::sequence_reset(fields)),
         MessageType::Logout => Admin::Logout(parts::logout(alloc, fields)?),
@@ -47,7 +42,7 @@ fn admin_in(
 }
 
 // What a message of the venue without groups says behind its header.
-fn flat_app(alloc: Global, kind: MessageType, fields: &[Field]) -> Result<App, AllocError>
+fn flat_app(alloc: Global, kind: MessageType, fields: &[Field]) -> Result<BoxedApp, AllocError>
     requires holds { Holds (rows_of kind 0) (entries fields.now) }
     requires flat { is_grouped kind ≡ false }
     requires venue { is_session kind ≡ false }
@@ -55,90 +50,57 @@ fn flat_app(alloc: Global, kind: MessageType, fields: &[Field]) -> Result<App, A
     requires text { IsText 64 (bytes_at 35 (entries fields.now)) }
     ensures { IfOk result (λ m. Body.App m ≡ body_in kind (entries fields.now)) }
 {
-    Ok(match kind {
-        MessageType::QuoteCancel => App::QuoteCancel(parts::quote_cancel(fields)),
-        MessageType::QuoteResponse => App::QuoteResponse(parts::quote_response(fields)),
-        MessageType::QuoteStatusReport => {
-            App::QuoteStatusReport(parts::quote_status_report(alloc, fields)?)
-        }
-        MessageType::NewOrderSingle => App::NewOrderSingle(parts::new_order_single(fields)),
-        MessageType::OrderCancelRequest => {
-            App::OrderCancelRequest(parts::order_cancel_request(fields))
-        }
+    match kind {
+        MessageType::QuoteCancel => parts::quote_cancel(alloc, fields),
+        MessageType::QuoteResponse => parts::quote_response(alloc, fields),
+        MessageType::QuoteStatusReport => parts::quote_status_report(alloc, fields),
+        MessageType::NewOrderSingle => parts::new_order_single(alloc, fields),
+        MessageType::OrderCancelRequest => parts::order_cancel_request(alloc, fields),
         MessageType::OrderCancelReplaceRequest => {
-            App::OrderCancelReplaceRequest(parts::order_cancel_replace_request(fields))
+            parts::order_cancel_replace_request(alloc, fields)
         }
-        MessageType::ExecutionReport => {
-            App::ExecutionReport(parts::execution_report(alloc, fields)?)
-        }
-        MessageType::OrderCancelReject => {
-            App::OrderCancelReject(parts::order_cancel_reject(alloc, fields)?)
-        }
-        MessageType::MarketDataRequestReject => {
-            App::MarketDataRequestReject(parts::market_data_request_reject(alloc, fields)?)
-        }
-        MessageType::BusinessMessageReject => {
-            App::BusinessMessageReject(parts::business_message_reject(alloc, fields)?)
-        }
-        MessageType::Unsupported => {
-            App::Unsupported(OtherKind::from_slice(bytes_at(fields, 35)))
-        }
+        MessageType::ExecutionReport => parts::execution_report(alloc, fields),
+        MessageType::OrderCancelReject => parts::order_cancel_reject(alloc, fields),
+        MessageType::MarketDataRequestReject => parts::market_data_request_reject(alloc, fields),
+        MessageType::BusinessMessageReject => parts::business_message_reject(alloc, fields),
+        MessageType::Unsupported => parts::unsupported(alloc, fields),
         _ => unreachable!(),
-    })
+    }
 }
 
-fn body_in(
-    alloc: Global,
-    kind: MessageType,
-    begin: u32,
-    fields: &[Field],
-) -> Result<Body, AllocError>
-    requires holds { Holds (rows_of kind begin) (entries fields.now) }
+fn body_in(alloc: Global, kind: MessageType, fields: &[Field]) -> Result<Body, AllocError>
+    requires holds { Holds (rows_of kind (begin_in (entries fields.now))) (entries fields.now) }
     requires flat { is_grouped kind ≡ false }
     requires kind { kind ≡ type_in (entries fields.now) }
-    requires begin { begin ≡ begin_in (entries fields.now) }
     requires text { IsText 64 (bytes_at 35 (entries fields.now)) }
     ensures { IfOk result (λ b. b ≡ body_in kind (entries fields.now)) }
 {
     if is_session(kind) {
-        Ok(Body::Admin(admin_in(alloc, kind, begin, fields)?))
+        Ok(Body::Admin(admin_in(alloc, kind, fields)?))
     } else {
-        let app = flat_app(alloc, kind, fields)?;
-        Ok(Body::App(BoxedApp::new(alloc, app)?))
+        Ok(Body::App(flat_app(alloc, kind, fields)?))
     }
 }
 
 // What is behind the header of a message without groups.
-fn flat_body(
-    alloc: Global,
-    kind: MessageType,
-    begin: u32,
-    fields: &[Field],
-) -> Result<Body, AllocError>
-    requires holds { Holds (header_rows ++ rows_of kind begin) (entries fields.now) }
+fn flat_body(alloc: Global, kind: MessageType, fields: &[Field]) -> Result<Body, AllocError>
+    requires holds { Holds (header_rows ++ rows_of kind (begin_in (entries fields.now))) (entries fields.now) }
     requires flat { is_grouped kind ≡ false }
     requires kind { kind ≡ type_in (entries fields.now) }
-    requires begin { begin ≡ begin_in (entries fields.now) }
     ensures { IfOk result (λ b. b ≡ body_in kind (entries fields.now)) }
 {
-    body_in(alloc, kind, begin, fields)
+    body_in(alloc, kind, fields)
 }
 
-fn message_in(
-    alloc: Global,
-    kind: MessageType,
-    begin: u32,
-    fields: &[Field],
-) -> Result<Message, AllocError>
-    requires holds { Holds (header_rows ++ rows_of kind begin) (entries fields.now) }
+fn message_in(alloc: Global, kind: MessageType, fields: &[Field]) -> Result<Message, AllocError>
+    requires holds { Holds (header_rows ++ rows_of kind (begin_in (entries fields.now))) (entries fields.now) }
     requires flat { is_grouped kind ≡ false }
     requires kind { kind ≡ type_in (entries fields.now) }
-    requires begin { begin ≡ begin_in (entries fields.now) }
     ensures { IfOk result (λ m. m ≡ message_as kind (entries fields.now)) }
 {
     Ok(Message {
         header: parts::header(fields),
-        body: flat_body(alloc, kind, begin, fields)?,
+        body: flat_body(alloc, kind, fields)?,
     })
 }
 
@@ -225,6 +187,7 @@ fn read_grouped(alloc: Global, kind: MessageType, fields: &[Field]) -> Result<Me
     }
 }
 
+#[inline(never)]
 fn read_grouped_body(alloc: Global, kind: MessageType, fields: &[Field]) -> Result<Body, DictFault>
     requires { is_grouped kind ≡ true }
     ensures { MatchResult result (λ b. (fault_as_type kind (entries fields.now) ≡ None) × (b ≡ body_in kind (entries fields.now))) (IsFault (fault_as_type kind (entries fields.now))) }
@@ -242,11 +205,13 @@ fn read_grouped_body(alloc: Global, kind: MessageType, fields: &[Field]) -> Resu
 }
 
 // The first fault, by the header's table and that of the type.
-fn fault_in(kind: MessageType, begin: u32, fields: &[Field]) -> Option<DictFault>
-    ensures { result ≡ first_fault (header_rows ++ rows_of kind begin) (entries fields.now) }
+fn fault_in(kind: MessageType, fields: &[Field]) -> Option<DictFault>
+    ensures { result ≡ first_fault (header_rows ++ rows_of kind (begin_in (entries fields.now))) (entries fields.now) }
 {
     match kind {
-        MessageType::ResendRequest => first_fault(header(), &resend_request_rows(begin), fields),
+        MessageType::ResendRequest => {
+            first_fault(header(), &resend_request_rows(begin_in(fields)), fields)
+        }
         _ => first_fault(header(), rows_of(kind), fields),
     }
 }
@@ -258,10 +223,9 @@ fn read_fields(alloc: Global, fields: &[Field]) -> Result<Message, DictFault>
     if is_grouped(kind) {
         return read_grouped(alloc, kind, fields);
     }
-    let begin = begin_in(fields);
-    match fault_in(kind, begin, fields) {
+    match fault_in(kind, fields) {
         Some(fault) => Err(fault),
-        None => match message_in(alloc, kind, begin, fields) {
+        None => match message_in(alloc, kind, fields) {
             Ok(message) => Ok(message),
             Err(_) => Err(DictFault::NoMemory),
         },
@@ -275,10 +239,9 @@ fn read_body_in(alloc: Global, fields: &[Field]) -> Result<Body, DictFault>
     if is_grouped(kind) {
         return read_grouped_body(alloc, kind, fields);
     }
-    let begin = begin_in(fields);
-    match fault_in(kind, begin, fields) {
+    match fault_in(kind, fields) {
         Some(fault) => Err(fault),
-        None => match flat_body(alloc, kind, begin, fields) {
+        None => match flat_body(alloc, kind, fields) {
             Ok(body) => Ok(body),
             Err(_) => Err(DictFault::NoMemory),
         },

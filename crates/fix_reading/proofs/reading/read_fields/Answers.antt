@@ -1,6 +1,7 @@
 use Rattle.std.proofs.Common.{◌++◌, sym, ◌∙◌}
 use Rattle.fix_fields.specs.Views.{entries}
 use Rattle.fix_tables.specs.Tables.{header_rows, rows_of}
+use Rattle.fix_reading.specs.Messages.{begin_in}
 use Rattle.fix_reading.proofs.HoldLemmas.{holds}
 use Rattle.fix_reading.proofs.TableLemmas.{own_forms}
 use Rattle.fix_reading.proofs.reading.read_fields.Goals as goal
@@ -8,5 +9,5 @@ use Rattle.fix_reading.proofs.reading.read_fields.Goals as goal
 pub message_in-requires-clause-holds : goal.message_in-requires-clause-holds
 message_in-requires-clause-holds c =
     let kind = c.type_of-kind.result in
-    let begin = c.begin_in-begin.result in
+    let begin = begin_in (entries c.args.fields.now) in
     holds (header_rows ++ rows_of kind begin) (entries c.args.fields.now) (own_forms kind begin) (sym c.fault_in.ensures ∙ c.in-None.is)
