@@ -1,2 +1,3 @@
+pub mod ByTagLemmas
 pub mod ReadLemmas
 pub mod RowLemmas

@@ -1,3 +1,4 @@
+pub mod ByTag
 pub mod Faults
 pub mod GroupFaults
 pub mod GroupHolding

@@ -3,6 +3,7 @@ ghost use Rattle.std.specs.Prelude.{◌≡◌, ◌++◌, ◌+◌, [], is_some, S
 ghost use Rattle.fix_fields.specs.Views.{entries};
 ghost use Rattle.fix_tables.specs.Faults.{form_of, has_tag, repeated, missing, fault_as, misfit, first_fault};
 
+use crate::by_tag::are_faultless;
 use crate::forms::value_fault;
 use crate::table::{Form, Row};
 use fix_fields::{Field, ValueFault};
@@ -43,8 +44,8 @@ fn form_of(tag: u32, rows: &[Row]) -> Option<Form>
     None
 }
 
-// Whether a field has the tag.
-fn has_tag(tag: u32, fields: &[Field]) -> bool
+/// Whether a field has the tag.
+pub(crate) fn has_tag(tag: u32, fields: &[Field]) -> bool
     ensures { result ≡ has_tag tag (entries fields.now) }
 {
     for field in fields {
@@ -128,9 +129,9 @@ pub(crate) fn misfit(header: &[Row], rows: &[Row], fields: &[Field]) -> Option<D
     outside
 }
 
-/// The first fault of the fields.
+// The first fault of the fields, looked for kind by kind.
 #[tactic(auto, unfolding(crate::specs::Faults::first_fault))]
-pub fn first_fault(header: &[Row], rows: &[Row], fields: &[Field]) -> Option<DictFault>
+fn fault_by_kinds(header: &[Row], rows: &[Row], fields: &[Field]) -> Option<DictFault>
     ensures { result ≡ first_fault (header.now ++ rows.now) (entries fields.now) }
 {
     if let Some(tag) = repeated(header, rows, fields) {
@@ -140,4 +141,15 @@ pub fn first_fault(header: &[Row], rows: &[Row], fields: &[Field]) -> Option<Dic
         return Some(DictFault::Missing(tag));
     }
     misfit(header, rows, fields)
+}
+
+/// The first fault of the fields. Most have none, which is quicker to see than which is the first.
+pub fn first_fault(header: &[Row], rows: &[Row], fields: &[Field]) -> Option<DictFault>
+    ensures { result ≡ first_fault (header.now ++ rows.now) (entries fields.now) }
+{
+    if are_faultless(header, rows, fields) {
+        None
+    } else {
+        fault_by_kinds(header, rows, fields)
+    }
 }

@@ -6,6 +6,7 @@ mod places;
 mod table;
 
 // faults
+mod by_tag;
 mod faults;
 mod forms;
 mod group_faults;

@@ -1,0 +1,81 @@
+//! Whether fields are without fault, by a table whose rows find theirs by the tag.
+ghost use Rattle.std.specs.Prelude.{◌≡◌, ◌++◌, [], true, false, drop, length, MatchOption, None, Some};
+ghost use Rattle.fix_fields.specs.Fields.{value_of};
+ghost use Rattle.fix_fields.specs.Views.{entries};
+ghost use Rattle.fix_tables.specs.ByTag.{any_twice, AreNoted, row_holds, rows_hold};
+ghost use Rattle.fix_tables.specs.Faults.{first_fault};
+
+use crate::faults::has_tag;
+use crate::forms::value_fault;
+use crate::table::Row;
+use fix_fields::{Field, first_value};
+
+// A place is noted for each remainder of the tags by this.
+const REMAINDERS: usize = 128;
+
+// So many fields have their places noted.
+const USUAL_FIELDS: usize = 64;
+
+// For each remainder a place before which no field has a tag of it; nothing, where a tag stands twice or there are more fields than
+// usual.
+fn noted(fields: &[Field]) -> Option<[u8; REMAINDERS]>
+    ensures { MatchOption result (Unit {0}) (λ places. (any_twice [] (entries fields.now) ≡ false) × AreNoted places (entries fields.now)) }
+{
+    if fields.len() > USUAL_FIELDS {
+        return None;
+    }
+    let mut places = [USUAL_FIELDS as u8; REMAINDERS];
+    for (place, field) in fields.iter().enumerate() {
+        let remainder = (field.tag % 128) as usize;
+        if usize::from(places[remainder]) >= place {
+            places[remainder] = place as u8;
+        } else if has_tag(field.tag, &fields[..place]) {
+            return None;
+        }
+    }
+    Some(places)
+}
+
+// The value of the first field with the tag.
+fn value_at<'a>(places: &[u8; REMAINDERS], fields: &[Field<'a>], tag: u32) -> Option<&'a [u8]>
+    requires { AreNoted places.now (entries fields.now) }
+    ensures { MatchOption result (value_of tag (entries fields.now) ≡ None) (λ value. value_of tag (entries fields.now) ≡ Some value.now) }
+{
+    let place = usize::from(places[(tag % 128) as usize]);
+    let Some(rest) = fields.get(place..) else {
+        return None;
+    };
+    first_value(rest, tag)
+}
+
+fn row_holds(row: &Row, places: &[u8; REMAINDERS], fields: &[Field]) -> bool
+    requires { AreNoted places.now (entries fields.now) }
+    ensures { result ≡ row_holds row.now (value_of row.now.tag (entries fields.now)) }
+{
+    match value_at(places, fields, row.tag) {
+        Some(value) => value_fault(row.form, value).is_none(),
+        None => !row.required,
+    }
+}
+
+fn rows_hold(rows: &[Row], places: &[u8; REMAINDERS], fields: &[Field]) -> bool
+    requires { AreNoted places.now (entries fields.now) }
+    ensures { result ≡ rows_hold rows.now (entries fields.now) }
+{
+    for row in rows {
+        if !row_holds(row, places, fields) {
+            return false;
+        }
+    }
+    true
+}
+
+/// Whether the fields are found to be without fault. Where a tag stands twice or there are many fields they are not.
+pub(crate) fn are_faultless(header: &[Row], rows: &[Row], fields: &[Field]) -> bool
+    ensures { result ≡ true → first_fault (header.now ++ rows.now) (entries fields.now) ≡ None }
+{
+    match noted(fields) {
+        Some(places) => rows_hold(header, &places, fields) && rows_hold(rows, &places, fields),
+        None => false,
+    }
+}
