@@ -105,10 +105,9 @@ pub(crate) fn logon(fields: &[Field]) -> Logon
     }
 }
 
-// The messages of the venue are made one to a function, and put into memory of their own there: a function pays for the room of all
-// its values when it is entered, and the longest of these messages have hundreds of bytes.
+// Each message of the venue is put into memory of its own where it is read: no room is held for those of the other types, and it is
+// not handed on by value.
 
-#[inline(never)]
 pub(crate) fn quote_cancel(alloc: Global, fields: &[Field]) -> Result<BoxedApp, AllocError>
     requires { Holds quote_cancel_rows (entries fields.now) }
     ensures { IfOk result (λ m. m ≡ App.QuoteCancel (quote_cancel (entries fields.now))) }
@@ -122,7 +121,6 @@ pub(crate) fn quote_cancel(alloc: Global, fields: &[Field]) -> Result<BoxedApp, 
     )
 }
 
-#[inline(never)]
 pub(crate) fn quote_response(alloc: Global, fields: &[Field]) -> Result<BoxedApp, AllocError>
     requires { Holds quote_response_rows (entries fields.now) }
     ensures { IfOk result (λ m. m ≡ App.QuoteResponse (quote_response (entries fields.now))) }
@@ -138,7 +136,6 @@ pub(crate) fn quote_response(alloc: Global, fields: &[Field]) -> Result<BoxedApp
     )
 }
 
-#[inline(never)]
 pub(crate) fn quote_status_report(alloc: Global, fields: &[Field]) -> Result<BoxedApp, AllocError>
     requires { Holds quote_status_report_rows (entries fields.now) }
     ensures { IfOk result (λ m. m ≡ App.QuoteStatusReport (quote_status_report (entries fields.now))) }
@@ -157,7 +154,6 @@ pub(crate) fn quote_status_report(alloc: Global, fields: &[Field]) -> Result<Box
     )
 }
 
-#[inline(never)]
 pub(crate) fn new_order_single(alloc: Global, fields: &[Field]) -> Result<BoxedApp, AllocError>
     requires { Holds new_order_single_rows (entries fields.now) }
     ensures { IfOk result (λ m. m ≡ App.NewOrderSingle (new_order_single (entries fields.now))) }
@@ -178,7 +174,6 @@ pub(crate) fn new_order_single(alloc: Global, fields: &[Field]) -> Result<BoxedA
     )
 }
 
-#[inline(never)]
 pub(crate) fn order_cancel_request(alloc: Global, fields: &[Field]) -> Result<BoxedApp, AllocError>
     requires { Holds order_cancel_request_rows (entries fields.now) }
     ensures { IfOk result (λ m. m ≡ App.OrderCancelRequest (order_cancel_request (entries fields.now))) }
@@ -192,7 +187,6 @@ pub(crate) fn order_cancel_request(alloc: Global, fields: &[Field]) -> Result<Bo
     )
 }
 
-#[inline(never)]
 pub(crate) fn order_cancel_replace_request(
     alloc: Global,
     fields: &[Field],
@@ -212,7 +206,6 @@ pub(crate) fn order_cancel_replace_request(
     )
 }
 
-#[inline(never)]
 pub(crate) fn execution_report(alloc: Global, fields: &[Field]) -> Result<BoxedApp, AllocError>
     requires { Holds execution_report_rows (entries fields.now) }
     ensures { IfOk result (λ m. m ≡ App.ExecutionReport (execution_report (entries fields.now))) }
@@ -240,7 +233,6 @@ pub(crate) fn execution_report(alloc: Global, fields: &[Field]) -> Result<BoxedA
     )
 }
 
-#[inline(never)]
 pub(crate) fn order_cancel_reject(alloc: Global, fields: &[Field]) -> Result<BoxedApp, AllocError>
     requires { Holds order_cancel_reject_rows (entries fields.now) }
     ensures { IfOk result (λ m. m ≡ App.OrderCancelReject (order_cancel_reject (entries fields.now))) }
@@ -259,7 +251,6 @@ pub(crate) fn order_cancel_reject(alloc: Global, fields: &[Field]) -> Result<Box
     )
 }
 
-#[inline(never)]
 pub(crate) fn market_data_request_reject(
     alloc: Global,
     fields: &[Field],
@@ -277,7 +268,6 @@ pub(crate) fn market_data_request_reject(
     )
 }
 
-#[inline(never)]
 pub(crate) fn business_message_reject(
     alloc: Global,
     fields: &[Field],
@@ -296,7 +286,6 @@ pub(crate) fn business_message_reject(
     )
 }
 
-#[inline(never)]
 pub(crate) fn unsupported(alloc: Global, fields: &[Field]) -> Result<BoxedApp, AllocError>
     requires { IsOtherKind (bytes_at 35 (entries fields.now)) }
     ensures { IfOk result (λ m. m ≡ App.Unsupported (bytes_at 35 (entries fields.now))) }

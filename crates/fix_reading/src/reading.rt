@@ -23,7 +23,6 @@ use fix_tables::{
 use std::alloc::{AllocError, Global};
 
 // What a message of the session says behind its header.
-#[inline(never)]
 fn admin_in(alloc: Global, kind: MessageType, fields: &[Field]) -> Result<Admin, AllocError>
     requires holds { Holds (rows_of kind (begin_in (entries fields.now))) (entries fields.now) }
     requires session { is_session kind ≡ true }
@@ -187,7 +186,6 @@ fn read_grouped(alloc: Global, kind: MessageType, fields: &[Field]) -> Result<Me
     }
 }
 
-#[inline(never)]
 fn read_grouped_body(alloc: Global, kind: MessageType, fields: &[Field]) -> Result<Body, DictFault>
     requires { is_grouped kind ≡ true }
     ensures { MatchResult result (λ b. (fault_as_type kind (entries fields.now) ≡ None) × (b ≡ body_in kind (entries fields.now))) (IsFault (fault_as_type kind (entries fields.now))) }

@@ -1,5 +1,5 @@
 -- Fields that are found by their tags: where each row holds, no kind of fault is among them.
-use Rattle.std.proofs.Common.{◌≡◌, ℕ, zero, suc, ◌+◌, ◌%◌, ◌≤◌, ◌<◌, true, false, Bool, List, [], ◌∷◌, ◌++◌, length, take, drop, refl, sym, ap, ◌∙◌, arith, rules, ◌==◌, ◌&&◌, ◌||◌, not, Option, Some, None, inl, inr, is_some, is_none, slice_index}
+use Rattle.std.proofs.Common.{◌≡◌, ℕ, zero, suc, ◌%◌, ◌≤◌, ◌<◌, true, false, Bool, List, [], ◌∷◌, ◌++◌, length, take, drop, refl, sym, ap, ◌∙◌, arith, rules, ◌==◌, ◌&&◌, ◌||◌, not, Option, Some, None, inl, inr, is_some, is_none, slice_index}
 use Rattle.std.proofs.Math.ListN.{set}
 use Rattle.std.specs.List.{AllByRecursion}
 use Rattle.std.proofs.lemmas.List.{append_assoc, take_all, get_or-set_same, get_or-set_other}

@@ -1,5 +1,5 @@
 //! Whether fields are without fault, by a table whose rows find theirs by the tag.
-ghost use Rattle.std.specs.Prelude.{◌≡◌, ◌++◌, [], true, false, drop, length, MatchOption, None, Some};
+ghost use Rattle.std.specs.Prelude.{◌≡◌, ◌++◌, [], true, false, MatchOption, None, Some};
 ghost use Rattle.fix_fields.specs.Fields.{value_of};
 ghost use Rattle.fix_fields.specs.Views.{entries};
 ghost use Rattle.fix_tables.specs.ByTag.{any_twice, AreNoted, row_holds, rows_hold};
@@ -10,21 +10,20 @@ use crate::forms::value_fault;
 use crate::table::Row;
 use fix_fields::{Field, first_value};
 
-// A place is noted for each remainder of the tags by this.
-const REMAINDERS: usize = 128;
+// For each remainder of a tag by 128, a place before which no field has a tag with it.
+type Noted = [u8; 128];
 
-// So many fields have their places noted.
+// Of so many fields the places are noted.
 const USUAL_FIELDS: usize = 64;
 
-// For each remainder a place before which no field has a tag of it; nothing, where a tag stands twice or there are more fields than
-// usual.
-fn noted(fields: &[Field]) -> Option<[u8; REMAINDERS]>
+// The places of the fields, where no tag stands twice and there are not more of them than usual.
+fn noted(fields: &[Field]) -> Option<Noted>
     ensures { MatchOption result (Unit {0}) (λ places. (any_twice [] (entries fields.now) ≡ false) × AreNoted places (entries fields.now)) }
 {
     if fields.len() > USUAL_FIELDS {
         return None;
     }
-    let mut places = [USUAL_FIELDS as u8; REMAINDERS];
+    let mut places = [USUAL_FIELDS as u8; 128];
     for (place, field) in fields.iter().enumerate() {
         let remainder = (field.tag % 128) as usize;
         if usize::from(places[remainder]) >= place {
@@ -37,7 +36,7 @@ fn noted(fields: &[Field]) -> Option<[u8; REMAINDERS]>
 }
 
 // The value of the first field with the tag.
-fn value_at<'a>(places: &[u8; REMAINDERS], fields: &[Field<'a>], tag: u32) -> Option<&'a [u8]>
+fn value_at<'a>(places: &Noted, fields: &[Field<'a>], tag: u32) -> Option<&'a [u8]>
     requires { AreNoted places.now (entries fields.now) }
     ensures { MatchOption result (value_of tag (entries fields.now) ≡ None) (λ value. value_of tag (entries fields.now) ≡ Some value.now) }
 {
@@ -48,7 +47,7 @@ fn value_at<'a>(places: &[u8; REMAINDERS], fields: &[Field<'a>], tag: u32) -> Op
     first_value(rest, tag)
 }
 
-fn row_holds(row: &Row, places: &[u8; REMAINDERS], fields: &[Field]) -> bool
+fn row_holds(row: &Row, places: &Noted, fields: &[Field]) -> bool
     requires { AreNoted places.now (entries fields.now) }
     ensures { result ≡ row_holds row.now (value_of row.now.tag (entries fields.now)) }
 {
@@ -58,7 +57,7 @@ fn row_holds(row: &Row, places: &[u8; REMAINDERS], fields: &[Field]) -> bool
     }
 }
 
-fn rows_hold(rows: &[Row], places: &[u8; REMAINDERS], fields: &[Field]) -> bool
+fn rows_hold(rows: &[Row], places: &Noted, fields: &[Field]) -> bool
     requires { AreNoted places.now (entries fields.now) }
     ensures { result ≡ rows_hold rows.now (entries fields.now) }
 {
