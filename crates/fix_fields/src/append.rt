@@ -1,7 +1,7 @@
 //! Fields appended to a text: whole, or not at all.
-ghost use Rattle.std.specs.Prelude.{◌≡◌, ℕ, ◌+◌, ◌-◌, ◌*◌, ◌/◌, ◌%◌, ◌^◌, ◌<◌, ◌≤◌, ◌++◌, ◌∷◌, [], length, decimal, sum_by, vec_len, vec_capacity, OnErr, unsigned_abs};
+ghost use Rattle.std.specs.Prelude.{◌≡◌, ℕ, ◌+◌, ◌-◌, ◌*◌, ◌/◌, ◌%◌, ◌^◌, ◌<◌, ◌≤◌, ◌++◌, ◌∷◌, [], length, decimal, sum_by, vec_len, vec_capacity, OnOk, OnErr, unsigned_abs};
 ghost use Rattle.fix_fields.specs.Fields.{field_text, Appends};
-ghost use Rattle.fix_fields.specs.Forms.{six_digits, without_trailing_zeros, price_text, sign_text, point_text};
+ghost use Rattle.fix_fields.specs.Forms.{four_digits, six_digits, without_trailing_zeros, price_text, sign_text, point_text};
 ghost use Rattle.fix_fields.specs.Views.{joined};
 ghost use Rattle.sef_moment.specs.Utc.{utc_text};
 
@@ -33,6 +33,123 @@ fn append_parts(bytes: &mut Vec<u8>, parts: &[&[u8]]) -> Result<(), AllocError>
     Ok(())
 }
 
+// Appends a digit, for which there is room.
+#[inline]
+fn push_digit(bytes: &mut Vec<u8>, digit: u64)
+    requires digit { digit < 10 }
+    requires room { vec_len bytes.old < vec_capacity bytes.old }
+    ensures items { bytes.new.items ≡ bytes.old.items ++ (48 + digit) ∷ [] }
+    ensures len { vec_len bytes.new ≡ vec_len bytes.old + 1 }
+    ensures capacity { vec_capacity bytes.new ≡ vec_capacity bytes.old }
+{
+    bytes.push_reserved(b'0' + digit as u8);
+}
+
+// Appends the last four digits of a number, for which there is room.
+#[inline]
+fn push_four(bytes: &mut Vec<u8>, n: u64)
+    requires { vec_len bytes.old + 4 ≤ vec_capacity bytes.old }
+    ensures items { bytes.new.items ≡ bytes.old.items ++ four_digits n }
+    ensures len { vec_len bytes.new ≡ vec_len bytes.old + 4 }
+    ensures capacity { vec_capacity bytes.new ≡ vec_capacity bytes.old }
+{
+    push_digit(bytes, n / 1000 % 10);
+    push_digit(bytes, n / 100 % 10);
+    push_digit(bytes, n / 10 % 10);
+    push_digit(bytes, n % 10);
+}
+
+// Appends the digits of a number below 10,000, for which there is room.
+#[inline]
+#[tactic(auto, using(std::proofs::lemmas::Fmt::decimal_digit, crate::proofs::DecimalLemmas::decimal_two, crate::proofs::DecimalLemmas::decimal_three, crate::proofs::DecimalLemmas::decimal_four))]
+fn push_short(bytes: &mut Vec<u8>, n: u64)
+    requires short { n < 10_000 }
+    requires room { vec_len bytes.old + length (decimal n) ≤ vec_capacity bytes.old }
+    ensures items { bytes.new.items ≡ bytes.old.items ++ decimal n }
+    ensures len { vec_len bytes.new ≡ vec_len bytes.old + length (decimal n) }
+    ensures capacity { vec_capacity bytes.new ≡ vec_capacity bytes.old }
+{
+    if n < 10 {
+        push_digit(bytes, n);
+        return;
+    }
+    if n < 100 {
+        push_digit(bytes, n / 10);
+        push_digit(bytes, n % 10);
+        return;
+    }
+    if n < 1000 {
+        push_digit(bytes, n / 100);
+        push_digit(bytes, n / 10 % 10);
+        push_digit(bytes, n % 10);
+        return;
+    }
+    push_four(bytes, n);
+}
+
+// Appends the digits of a number, for which there is room.
+#[tactic(auto, using(crate::proofs::DecimalLemmas::decimal_last_four))]
+fn push_decimal(bytes: &mut Vec<u8>, n: u64)
+    requires { vec_len bytes.old + length (decimal n) ≤ vec_capacity bytes.old }
+    ensures items { bytes.new.items ≡ bytes.old.items ++ decimal n }
+    ensures len { vec_len bytes.new ≡ vec_len bytes.old + length (decimal n) }
+    ensures capacity { vec_capacity bytes.new ≡ vec_capacity bytes.old }
+{
+    if n < 10_000 {
+        push_short(bytes, n);
+        return;
+    }
+    push_decimal(bytes, n / 10_000);
+    push_four(bytes, n);
+}
+
+// How many digits a number below 10,000 has.
+#[inline]
+#[tactic(auto, using(std::proofs::lemmas::Fmt::decimal_digit, crate::proofs::DecimalLemmas::decimal_two, crate::proofs::DecimalLemmas::decimal_three, crate::proofs::DecimalLemmas::decimal_four))]
+fn short_len(n: u64) -> usize
+    requires { n < 10_000 }
+    ensures { result ≡ length (decimal n) }
+{
+    if n < 10 {
+        return 1;
+    }
+    if n < 100 {
+        return 2;
+    }
+    if n < 1000 {
+        return 3;
+    }
+    4
+}
+
+// How many digits a number has.
+#[tactic(auto, using(crate::proofs::DecimalLemmas::decimal_last_four, crate::proofs::DecimalLemmas::decimal_short))]
+fn decimal_len(n: u64) -> usize
+    ensures exact { result ≡ length (decimal n) }
+    ensures short { result ≤ 20 }
+{
+    if n < 10_000 {
+        return short_len(n);
+    }
+    decimal_len(n / 10_000) + 4
+}
+
+// Makes room for a field whose value has so many bytes, and appends its tag.
+fn begin_field(bytes: &mut Vec<u8>, tag: u32, len: usize) -> Result<(), AllocError>
+    requires { len < 2 ^ 63 }
+    ensures tag { OnOk result (bytes.new.items ≡ bytes.old.items ++ (decimal tag ++ 61 ∷ [])) }
+    ensures left { OnOk result (vec_len bytes.new + len + 1 ≤ vec_capacity bytes.new) }
+    ensures unchanged { OnErr result (bytes.new.items ≡ bytes.old.items) }
+    ensures room { OnErr result (vec_capacity bytes.old < vec_len bytes.old + (length (decimal tag) + (len + 2))) }
+    ensures capacity { vec_capacity bytes.old ≤ vec_capacity bytes.new }
+{
+    let tag = u64::from(tag);
+    bytes.reserve(decimal_len(tag) + len + 2)?;
+    push_decimal(bytes, tag);
+    bytes.push_reserved(b'=');
+    Ok(())
+}
+
 /// Appends a field with these bytes as its value. Memory is refused only where the room that is left is too short.
 pub fn append_bytes(bytes: &mut Vec<u8>, tag: u32, value: &[u8]) -> Result<(), AllocError>
     ensures appends { Appends bytes.old.items bytes.new.items (field_text tag value.now) result }
@@ -40,8 +157,23 @@ pub fn append_bytes(bytes: &mut Vec<u8>, tag: u32, value: &[u8]) -> Result<(), A
     ensures room { OnErr result (vec_capacity bytes.old < vec_len bytes.old + length (field_text tag value.now)) }
     ensures capacity { vec_capacity bytes.old ≤ vec_capacity bytes.new }
 {
-    let mut digits = Buffer::new();
-    append_parts(bytes, &[digits.format(tag).as_bytes(), b"=", value, &[SOH]])
+    begin_field(bytes, tag, value.len())?;
+    bytes.extend_from_slice(value).unwrap();
+    bytes.push_reserved(SOH);
+    Ok(())
+}
+
+/// Appends a field with one byte as its value.
+pub fn append_byte(bytes: &mut Vec<u8>, tag: u32, value: u8) -> Result<(), AllocError>
+    ensures appends { Appends bytes.old.items bytes.new.items (field_text tag (value ∷ [])) result }
+    ensures unchanged { OnErr result (bytes.new.items ≡ bytes.old.items) }
+    ensures room { OnErr result (vec_capacity bytes.old < vec_len bytes.old + length (field_text tag (value ∷ []))) }
+    ensures capacity { vec_capacity bytes.old ≤ vec_capacity bytes.new }
+{
+    begin_field(bytes, tag, 1)?;
+    bytes.push_reserved(value);
+    bytes.push_reserved(SOH);
+    Ok(())
 }
 
 // The last six digits of a number.
@@ -122,8 +254,10 @@ pub fn append_number(bytes: &mut Vec<u8>, tag: u32, number: u64) -> Result<(), A
     ensures room { OnErr result (vec_capacity bytes.old < vec_len bytes.old + length (field_text tag (decimal number))) }
     ensures capacity { vec_capacity bytes.old ≤ vec_capacity bytes.new }
 {
-    let mut digits = Buffer::new();
-    append_bytes(bytes, tag, digits.format(number).as_bytes())
+    begin_field(bytes, tag, decimal_len(number))?;
+    push_decimal(bytes, number);
+    bytes.push_reserved(SOH);
+    Ok(())
 }
 
 /// Appends a field with a moment.

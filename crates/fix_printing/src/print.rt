@@ -19,7 +19,7 @@ use fix_dictionary::{
     QuoteResponse, QuoteStatusReport, Reject, ResendRequest, SequenceReset, Side, TestRequest,
     Text,
 };
-use fix_fields::{append_bytes, append_moment, append_number, append_price};
+use fix_fields::{append_byte, append_bytes, append_moment, append_number, append_price};
 use sef_moment::Moment;
 use std::alloc::AllocError;
 
@@ -57,7 +57,7 @@ fn append_slot(out: &mut Vec<u8>, tag: u32, value: &Printed) -> Result<(), Alloc
         Printed::Number(number) => append_number(out, tag, *number),
         Printed::Price(price) => append_price(out, tag, *price),
         Printed::Moment(moment) => append_moment(out, tag, *moment),
-        Printed::Byte(byte) => append_bytes(out, tag, &[*byte]),
+        Printed::Byte(byte) => append_byte(out, tag, *byte),
     }
 }
 
