@@ -1,11 +1,12 @@
 -- A tag read digit by digit, and a value byte by byte.
-use Rattle.std.proofs.Common.{◌≡◌, ◌≢◌, ℕ, zero, suc, ◌+◌, ◌-◌, ◌*◌, ◌<◌, ◌≤◌, true, List, [], ◌∷◌, ◌++◌, length, get_or, take, drop, refl, sym, ap, ◌∙◌, arith, decimal, add-one}
+use Rattle.std.proofs.Common.{◌≡◌, ◌≢◌, ℕ, zero, suc, ◌+◌, ◌-◌, ◌*◌, ◌<◌, ◌≤◌, true, List, [], ◌∷◌, ◌++◌, length, get_or, take, drop, refl, sym, ap, ◌∙◌, arith, decimal, add-one, false, ◌==◌, Some}
 use Rattle.std.specs.Char.{is_ascii_digit}
-use Rattle.std.specs.List.{list_all}
+use Rattle.std.specs.List.{list_all, position, position_or_len}
 use Rattle.std.specs.Str.Parse.{digits_value}
 use Rattle.std.proofs.lemmas.Bool.Decides.{nat_tests}
 use Rattle.std.proofs.lemmas.List.{take_more, length-take-le}
 use Rattle.std.proofs.lemmas.List.Folds.{list_all_more}
+use Rattle.std.proofs.lemmas.List.Sums.{fails_before_first, passes_at_first}
 use Rattle.std.proofs.lemmas.Str.Parse.{digits_value_short}
 use Rattle.fix_fields.specs.Cut.{Lacks}
 use Rattle.fix_fields.specs.Fields.{IsTag, IsTagText, IsValue}
@@ -36,14 +37,20 @@ front-tag xs i some short lt first here all =
     let text : IsTagText (take i xs) = record { some = omega (arith, length-take-le i xs (omega arith)); short = omega (arith, length-take-le i xs (omega arith)); first = rw (first-taken xs i some) first; digits = all } in
     (IsTag-value (take i xs) text, rw (decimal-tag (take i xs) text, add-one) (parted xs i 61 lt here))
 
-Lacks-more : (byte : ℕ) (xs : List ℕ) (i : ℕ) → i < length xs → get_or xs i 0 ≢ byte → Lacks byte (take i xs) → Lacks byte (take (suc i) xs)
-Lacks-more byte [] i lt ne h = absurd (omega arith)
-Lacks-more byte (x ∷ xs) zero lt ne h = (ne, tt)
-Lacks-more byte (x ∷ xs) (suc i) lt ne h = (h.0, Lacks-more byte xs i (omega arith) ne h.1)
+soh-place : (xs : List ℕ) (i : ℕ) → position (λ (c : ℕ). c == 1) xs ≡ Some i → (position_or_len (λ (c : ℕ). c == 1) xs ≡ i) × (i < length xs)
+soh-place xs i e = grind (arith, nat_tests)
 
-pub Lacks-push : (byte : ℕ) (xs : List ℕ) (i : ℕ) → i < length xs → get_or xs i 0 ≢ byte → Lacks byte (take i xs) → Lacks byte (take (i + 1) xs)
-Lacks-push byte xs i lt ne h = rw add-one (Lacks-more byte xs i lt ne h)
+soh-before : (xs : List ℕ) (i k : ℕ) → position_or_len (λ (c : ℕ). c == 1) xs ≡ i → k < i → get_or xs k 0 ≢ 1
+soh-before xs i k e lt is =
+    let not_here : (get_or xs k 0 == 1) ≡ false = fails_before_first (λ (c : ℕ). c == 1) xs k 0 (omega (arith, e, lt)) in
+    grind (arith, nat_tests)
 
-pub front-value : (xs : List ℕ) (i : ℕ) → 0 < i → i < length xs → get_or xs i 0 ≡ 1 → Lacks 1 (take i xs)
+pub front-value : (xs : List ℕ) (i : ℕ) → 0 < i → position (λ (c : ℕ). c == 1) xs ≡ Some i
     → IsValue (take i xs) × (xs ≡ take i xs ++ 1 ∷ drop (i + 1) xs)
-front-value xs i some lt here lacks = (record { some = omega (arith, length-take-le i xs (omega arith)); one_piece = lacks }, rw add-one (parted xs i 1 lt here))
+front-value xs i some e =
+    let place = soh-place xs i e in
+    let lt : i < length xs = place.1 in
+    let here : (get_or xs i 0 == 1) ≡ true = rw place.0 at (passes_at_first (λ (c : ℕ). c == 1) xs 0 (rw place.0 lt)) in
+    let one : get_or xs i 0 ≡ 1 = grind (arith, nat_tests) in
+    let lacks : Lacks 1 (take i xs) = Lacks-take 1 xs i (λ k below is. soh-before xs i k place.0 below is) in
+    (record { some = omega (arith, length-take-le i xs (omega arith)); one_piece = lacks }, rw add-one (parted xs i 1 lt one))
