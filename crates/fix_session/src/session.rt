@@ -1,11 +1,12 @@
 //! The session itself.
 
-ghost use Rattle.std.specs.Prelude.{◌≡◌, ◌↔◌, ◌≤◌, ◌+◌, ◌∷◌, [], ◌++◌, max, length, IsOk, IfOk, OnOk, OnErr, IfSome, IfNone, Some, OnSome, Err, slice_get, true};
+ghost use Rattle.std.specs.Prelude.{◌≡◌, ◌↔◌, ◌≤◌, ◌+◌, ◌∷◌, [], ◌++◌, max, length, IsOk, IfOk, OnOk, OnErr, IfErr, IfSome, IfNone, Some, OnSome, Err, slice_get, true, if◌then◌else◌};
 ghost use Rattle.fix_session.specs.Machine as machine;
+ghost use Rattle.fix_dictionary.specs.Values.{IsSequenceNumber};
 ghost use Rattle.fix_session.specs.Reader.{Reader};
+ghost use Rattle.fix_session.specs.Sent.{framed, app_message};
 ghost use Rattle.fix_session.specs.State.{fresh, resumed, broken};
 ghost use Rattle.fix_session.specs.Table.{are_numbers_spent};
-ghost use Rattle.resend_store.specs.declared.entry.Entry.TheVariants as entry;
 
 use crate::comp_ids::CompIds;
 use crate::line::{Line, TickAsk};
@@ -14,7 +15,7 @@ use crate::table::LAST_NUMBER;
 use crate::unread::{forget, next_body, no_bytes, settle};
 use crate::wire::{Wire, write_app, write_notice};
 use crate::work::{Work, add_plan, join, prepare};
-use fix_dictionary::{App, Identifier, Item};
+use fix_dictionary::{App, BoxedApp, Identifier, Item};
 use fix_frame::Cutter;
 use resend_store::Store;
 use sef_moment::{Moment, later};
@@ -32,6 +33,13 @@ pub enum SendFault {
     /// A growth was refused.
     #[error("out of memory")]
     NoMemory,
+}
+
+/// An application message that was not sent, and why.
+#[derive(Drop)]
+pub struct Unsent {
+    pub app: BoxedApp,
+    pub fault: SendFault,
 }
 
 /// A session with one counterparty.
@@ -276,56 +284,63 @@ impl Session {
         Ok(Step::Did)
     }
 
-    /// Numbers and stores an application message, and queues its frame on a logged-on line.
-    pub fn send(&mut self, app: &App, t: Moment) -> Result<(), SendFault>
-        ensures sent { OnOk result (self.new.state ≡ machine.sent self.old.state app.now (max self.old.state.line.moment t)) }
-        ensures full { (result ≡ Err SendFault.Full) ↔ (are_numbers_spent self.old.state ≡ true) }
+    /// Numbers and stores an application message, and queues its frame on a logged-on line. One that is not sent comes back.
+    pub fn send(&mut self, app: BoxedApp, t: Moment) -> Result<(), Unsent>
+        ensures sent { OnOk result (self.new.state ≡ machine.sent self.old.state app (max self.old.state.line.moment t)) }
+        ensures full { (result ≡ Err (record { app = app; fault = SendFault.Full })) ↔ (are_numbers_spent self.old.state ≡ true) }
+        ensures back { IfErr result (λ unsent. unsent.app ≡ app) }
         ensures err { OnErr result (self.new.state ≡ self.old.state) }
     {
         let number = self.store.next_number();
         if number > LAST_NUMBER {
-            return Err(SendFault::Full);
+            let fault = SendFault::Full;
+            return Err(Unsent { app, fault });
         }
         let t = later(self.line.moment, t);
-        if self.number_app(number, app, t).is_err() {
-            return Err(SendFault::NoMemory);
+        let is_written = self.line.logged_on;
+        let ready = ready_app(
+            &self.ids,
+            is_written,
+            t,
+            number,
+            app.get(),
+            &mut self.store,
+            &mut self.wire,
+        );
+        if ready.is_err() {
+            let fault = SendFault::NoMemory;
+            return Err(Unsent { app, fault });
         }
-        Ok(())
-    }
-
-    // Numbers and stores an application message, and queues its frame on a logged-on line; or changes nothing.
-    fn number_app(&mut self, number: u32, app: &App, t: Moment) -> Result<(), AllocError>
-        requires next { number ≡ length self.old.state.entries + 1 }
-        requires few { number ≤ 999999999 }
-        ensures ok { OnOk result (self.new.state ≡ machine.sent self.old.state app.now t) }
-        ensures err { OnErr result (self.new.state ≡ self.old.state) }
-    {
-        if !self.line.logged_on {
-            add_app(&mut self.store, number, app, t)?;
-            self.line.moment = t;
-            return Ok(());
-        }
-        let len = self.wire.len();
-        write_app(&self.ids, t, number, app, &mut self.wire)?;
-        if add_app(&mut self.store, number, app, t).is_err() {
-            self.wire.truncate(len);
-            return Err(AllocError);
-        }
+        self.store.add_app_reserved(app, t);
         self.line.moment = t;
-        self.line.sent_at = t;
+        if is_written {
+            self.line.sent_at = t;
+        }
         Ok(())
     }
 }
 
-// Adds a copy of an application message to the entries.
-fn add_app(store: &mut Store, number: u32, app: &App, t: Moment) -> Result<(), AllocError>
-    requires { number ≡ length store.old.entries + 1 }
-    ensures ok { OnOk result (store.new.entries ≡ store.old.entries ++ entry.Application app.now t ∷ []) }
+// Makes room for an application message among the entries, and queues its frame where it is to be written; or changes nothing.
+fn ready_app(
+    ids: &CompIds,
+    is_written: bool,
+    t: Moment,
+    number: u32,
+    app: &App,
+    store: &mut Store,
+    wire: &mut Wire,
+) -> Result<(), AllocError>
+    requires { IsSequenceNumber number }
+    ensures ok { OnOk result (wire.new ≡ (if is_written then wire.old ++ framed (app_message ids.now number t app.now) else wire.old)) }
+    ensures room { OnOk result (1 ≤ store.new.room) }
     ensures past { store.new.past ≡ store.old.past }
-    ensures err { OnErr result (store.new.entries ≡ store.old.entries) }
+    ensures entries { store.new.entries ≡ store.old.entries }
+    ensures err { OnErr result (wire.new ≡ wire.old) }
 {
-    match store.add_app(number, app, t) {
-        Ok(()) => Ok(()),
-        Err(_) => Err(AllocError),
+    store.reserve(1)?;
+    if is_written {
+        write_app(ids, t, number, app, wire)
+    } else {
+        Ok(())
     }
 }
