@@ -137,7 +137,8 @@ accept_events t (Some answer) = Accepts answer t ∷ []
 
 abbrev pub collect_events : ℕ → Collect → List Event
 collect_events t collect.Nothing = []
-collect_events t (collect.Collected owed) = Collects owed t ∷ []
+collect_events t (collect.Sent app) = Collects (Message app.value) t ∷ []
+collect_events t collect.Cut = Collects Cut t ∷ []
 collect_events t collect.Refused = []
 
 abbrev pub write_events : Wrote → List Event
@@ -278,7 +279,7 @@ is_over answer = false
 
 -- the mark was collected
 abbrev pub is_mark : Collect → Bool
-is_mark (collect.Collected Cut) = true
+is_mark collect.Cut = true
 is_mark collected = false
 
 -- a turn leaves its work out where the mark was collected, and nowhere else

@@ -11,11 +11,12 @@ use crate::line::{Accept, Gate, Line, LineFault, Read};
 use crate::looping::Ended;
 use crate::piece::{Given, PIECE, Piece};
 use crate::stepping::{StepsEnd, step_to_the_end};
-use fix_dictionary::Item;
+use fix_dictionary::{BoxedApp, Item};
 use fix_session::{Session, Step, laws};
 use intake_seats::{Board, HandSeat, TakeSeat};
 use sef_moment::Moment;
 use std::marker::Model;
+use std::snapshot::Snapshot;
 use std::sync::Wait;
 use venue_worker::{Clock, Outgoing};
 
@@ -24,7 +25,10 @@ use venue_worker::{Clock, Outgoing};
 pub enum Collect {
     /// The seat was not full.
     Nothing,
-    Collected { owed: Outgoing },
+    /// A reply was sent, which contracts alone see.
+    Sent { app: Snapshot<BoxedApp> },
+    /// The mark dropped the line.
+    Cut,
     /// The send was refused, and the reply is in its seat.
     Refused,
 }
@@ -224,19 +228,16 @@ impl<L: Line> SessionThread<L> {
             Some(Outgoing::Cut) => {
                 self.take.clear(replies);
                 self.break_line();
-                Collect::Collected {
-                    owed: Outgoing::Cut,
-                }
+                Collect::Cut
             }
             Some(Outgoing::Message(app)) => {
-                if self.session.send(app.get(), t).is_err() {
-                    drop(self.take.put_back(replies, Outgoing::Message(app)));
+                let sent = Snapshot::of(&app);
+                if let Err(unsent) = self.session.send(app, t) {
+                    drop(self.take.put_back(replies, Outgoing::Message(unsent.app)));
                     return Collect::Refused;
                 }
                 self.take.clear(replies);
-                Collect::Collected {
-                    owed: Outgoing::Message(app),
-                }
+                Collect::Sent { app: sent }
             }
         }
     }
@@ -508,7 +509,7 @@ impl<L: Line> SessionThread<L> {
 
 // A seat was emptied or filled.
 fn has_stirred(turn: &Turn) -> bool {
-    let collected = matches!(turn.collected, Some(Collect::Collected { owed: _ }));
+    let collected = matches!(turn.collected, Some(Collect::Sent { .. } | Collect::Cut));
     let given = match &turn.work {
         Some(work) => matches!(work.handed, Handed::Given),
         None => false,
@@ -547,12 +548,7 @@ fn is_over(accepted: Option<Accept>) -> bool
 fn is_mark(collected: &Collect) -> bool
     ensures { result ≡ thread.is_mark collected.now }
 {
-    matches!(
-        collected,
-        Collect::Collected {
-            owed: Outgoing::Cut
-        }
-    )
+    matches!(collected, Collect::Cut)
 }
 
 // The line may be read, and neither had a write failed nor was a kept piece refused again.

@@ -4,7 +4,8 @@ ghost use Rattle.std.specs.Prelude.{◌≡◌, ◌+◌, IfSome, length};
 
 use crate::frames::{CompIds, Frames};
 use fix_dictionary::{
-    Admin, App, BodyRef, Header, NewSequenceNumber, ResendRequest, SequenceNumber, SequenceReset,
+    Admin, App, BodyRef, BoxedApp, Header, NewSequenceNumber, ResendRequest, SequenceNumber,
+    SequenceReset,
 };
 use resend_store::{Resend, Store};
 use sef_moment::Moment;
@@ -16,6 +17,7 @@ const LAST_NUMBER: u32 = 999_999_999;
 /// What a counterparty has numbered, kept to be sent again, and the frames that wait to be written.
 #[derive(Drop)]
 pub(crate) struct Outgoing {
+    alloc: Global,
     ids: CompIds,
     store: Store,
     frames: Frames,
@@ -53,6 +55,7 @@ impl Outgoing {
     /// Nothing is numbered.
     pub(crate) fn new(alloc: Global, ids: CompIds) -> Outgoing {
         Outgoing {
+            alloc,
             ids,
             store: Store::new(alloc),
             frames: Frames::new(alloc),
@@ -97,7 +100,7 @@ impl Outgoing {
             .append(&self.ids, number, t, None, BodyRef::Admin(admin))
     }
 
-    /// Numbers and keeps an application message, where a number is left, and queues its frame where that is to be written.
+    /// Numbers an application message and keeps a copy, where a number is left, and queues its frame where that is to be written.
     pub(crate) fn send_app(
         &mut self,
         app: &App,
@@ -107,9 +110,9 @@ impl Outgoing {
         let Some(number) = self.next_number() else {
             return Ok(());
         };
-        if self.store.add_app(number.get(), app, t).is_err() {
-            return Err(AllocError);
-        }
+        let copy = BoxedApp::new(self.alloc, app.copy(self.alloc)?)?;
+        self.store.reserve(1)?;
+        self.store.add_app_reserved(copy, t);
         if !is_written {
             return Ok(());
         }

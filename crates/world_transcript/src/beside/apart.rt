@@ -17,7 +17,7 @@ pub(crate) struct Apart {
 
 fn send_all(
     sessions: &mut Sessions,
-    letters: &[Letter],
+    letters: Vec<Letter>,
     t: Moment,
     written: &mut Vec<u8>,
 ) -> Result<()> {
@@ -52,8 +52,9 @@ pub(crate) fn play(
     let start = Instant::now(rt)?;
     let letters = apart.market.answer(rt.alloc(), &taken, t)?;
     spent.add_venue(since(rt, start)?);
+    note_told(&letters, sent)?;
     let start = Instant::now(rt)?;
-    send_all(&mut apart.sessions, &letters, t, written)?;
+    send_all(&mut apart.sessions, letters, t, written)?;
     spent.add_sessions(since(rt, start)?);
-    note_told(&letters, sent)
+    Ok(())
 }

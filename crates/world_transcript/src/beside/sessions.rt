@@ -59,9 +59,11 @@ impl Sessions {
     }
 
     /// The session sends a reply, and what it wrote is appended.
-    pub(crate) fn send(&mut self, letter: &Letter, t: Moment, written: &mut Vec<u8>) -> Result<()> {
+    pub(crate) fn send(&mut self, letter: Letter, t: Moment, written: &mut Vec<u8>) -> Result<()> {
         let session = self.of(letter.to)?;
-        session.send(letter.app.get(), t)?;
+        if let Err(unsent) = session.send(letter.app, t) {
+            return Err(unsent.fault.into());
+        }
         written.extend_from_slice(&session.take_wire())?;
         Ok(())
     }
