@@ -134,6 +134,20 @@ fn decimal_len(n: u64) -> usize
     decimal_len(n / 10_000) + 4
 }
 
+// Makes room for more bytes, where there is not enough.
+#[inline]
+fn make_room(bytes: &mut Vec<u8>, more: usize) -> Result<(), AllocError>
+    ensures items { bytes.new.items ≡ bytes.old.items }
+    ensures enough { OnOk result (vec_len bytes.new + more ≤ vec_capacity bytes.new) }
+    ensures refused { OnErr result (vec_capacity bytes.old < vec_len bytes.old + more) }
+    ensures capacity { vec_capacity bytes.old ≤ vec_capacity bytes.new }
+{
+    if bytes.capacity() - bytes.len() >= more {
+        return Ok(());
+    }
+    bytes.reserve(more)
+}
+
 // Makes room for a field whose value has so many bytes, and appends its tag.
 fn begin_field(bytes: &mut Vec<u8>, tag: u32, len: usize) -> Result<(), AllocError>
     requires { len < 2 ^ 63 }
@@ -144,7 +158,7 @@ fn begin_field(bytes: &mut Vec<u8>, tag: u32, len: usize) -> Result<(), AllocErr
     ensures capacity { vec_capacity bytes.old ≤ vec_capacity bytes.new }
 {
     let tag = u64::from(tag);
-    bytes.reserve(decimal_len(tag) + len + 2)?;
+    make_room(bytes, decimal_len(tag) + len + 2)?;
     push_decimal(bytes, tag);
     bytes.push_reserved(b'=');
     Ok(())
