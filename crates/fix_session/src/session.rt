@@ -284,8 +284,26 @@ impl Session {
         Ok(Step::Did)
     }
 
-    /// Numbers and stores an application message, and queues its frame on a logged-on line. One that is not sent comes back.
-    pub fn send(&mut self, app: BoxedApp, t: Moment) -> Result<(), Unsent>
+    /// Numbers and stores a copy of an application message, and queues its frame on a logged-on line.
+    pub fn send(&mut self, app: &App, t: Moment) -> Result<(), SendFault>
+        ensures sent { OnOk result (self.new.state ≡ machine.sent self.old.state app.now (max self.old.state.line.moment t)) }
+        ensures full { (result ≡ Err SendFault.Full) ↔ (are_numbers_spent self.old.state ≡ true) }
+        ensures err { OnErr result (self.new.state ≡ self.old.state) }
+    {
+        if self.store.next_number() > LAST_NUMBER {
+            return Err(SendFault::Full);
+        }
+        let Ok(app) = copy_of(self.alloc, app) else {
+            return Err(SendFault::NoMemory);
+        };
+        match self.send_boxed(app, t) {
+            Ok(()) => Ok(()),
+            Err(unsent) => Err(unsent.fault),
+        }
+    }
+
+    /// The same of a message that is handed over in its own memory, where it is kept to be sent again. One that is not sent comes back.
+    pub fn send_boxed(&mut self, app: BoxedApp, t: Moment) -> Result<(), Unsent>
         ensures sent { OnOk result (self.new.state ≡ machine.sent self.old.state app (max self.old.state.line.moment t)) }
         ensures full { (result ≡ Err (record { app = app; fault = SendFault.Full })) ↔ (are_numbers_spent self.old.state ≡ true) }
         ensures back { IfErr result (λ unsent. unsent.app ≡ app) }
@@ -318,6 +336,13 @@ impl Session {
         }
         Ok(())
     }
+}
+
+// The same message, in memory of its own.
+fn copy_of(alloc: Global, app: &App) -> Result<BoxedApp, AllocError>
+    ensures { IfOk result (λ copy. copy ≡ app.now) }
+{
+    BoxedApp::new(alloc, app.copy(alloc)?)
 }
 
 // Makes room for an application message among the entries, and queues its frame where it is to be written; or changes nothing.

@@ -232,7 +232,7 @@ impl<L: Line> SessionThread<L> {
             }
             Some(Outgoing::Message(app)) => {
                 let sent = Snapshot::of(&app);
-                if let Err(unsent) = self.session.send(app, t) {
+                if let Err(unsent) = self.session.send_boxed(app, t) {
                     drop(self.take.put_back(replies, Outgoing::Message(unsent.app)));
                     return Collect::Refused;
                 }

@@ -4,8 +4,7 @@ ghost use Rattle.std.specs.Prelude.{◌≡◌, ◌+◌, IfSome, length};
 
 use crate::frames::{CompIds, Frames};
 use fix_dictionary::{
-    Admin, App, BodyRef, BoxedApp, Header, NewSequenceNumber, ResendRequest, SequenceNumber,
-    SequenceReset,
+    Admin, App, BodyRef, Header, NewSequenceNumber, ResendRequest, SequenceNumber, SequenceReset,
 };
 use resend_store::{Resend, Store};
 use sef_moment::Moment;
@@ -17,7 +16,6 @@ const LAST_NUMBER: u32 = 999_999_999;
 /// What a counterparty has numbered, kept to be sent again, and the frames that wait to be written.
 #[derive(Drop)]
 pub(crate) struct Outgoing {
-    alloc: Global,
     ids: CompIds,
     store: Store,
     frames: Frames,
@@ -55,7 +53,6 @@ impl Outgoing {
     /// Nothing is numbered.
     pub(crate) fn new(alloc: Global, ids: CompIds) -> Outgoing {
         Outgoing {
-            alloc,
             ids,
             store: Store::new(alloc),
             frames: Frames::new(alloc),
@@ -100,7 +97,7 @@ impl Outgoing {
             .append(&self.ids, number, t, None, BodyRef::Admin(admin))
     }
 
-    /// Numbers an application message and keeps a copy, where a number is left, and queues its frame where that is to be written.
+    /// Numbers and keeps an application message, where a number is left, and queues its frame where that is to be written.
     pub(crate) fn send_app(
         &mut self,
         app: &App,
@@ -110,9 +107,9 @@ impl Outgoing {
         let Some(number) = self.next_number() else {
             return Ok(());
         };
-        let copy = BoxedApp::new(self.alloc, app.copy(self.alloc)?)?;
-        self.store.reserve(1)?;
-        self.store.add_app_reserved(copy, t);
+        if self.store.add_app(number.get(), app, t).is_err() {
+            return Err(AllocError);
+        }
         if !is_written {
             return Ok(());
         }

@@ -92,7 +92,7 @@ fn answer_to(
         return feed_again(alloc, text, refusals);
     }
     let call = read(alloc, line, refusals)?;
-    play(alloc, session, &call, refusals)
+    play(session, &call, refusals)
 }
 
 // Plays a line, and appends it with what the session answers, of the same answers in succession one; a line that tells an answer

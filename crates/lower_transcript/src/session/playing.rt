@@ -4,7 +4,7 @@ use crate::refusals::Refusals;
 use crate::session::call::Call;
 use crate::session::feeding::Taken;
 use anyhow::{Result, bail, ensure};
-use fix_dictionary::{App, BoxedApp, Identifier, Item};
+use fix_dictionary::{App, Identifier, Item};
 use fix_session::{SendFault, Session, Step};
 use sef_moment::Moment;
 use std::alloc::{AllocError, Global};
@@ -40,15 +40,11 @@ fn look_at(session: &Session) -> Look {
     }
 }
 
-// Sends a copy of a message.
-fn send(alloc: Global, session: &mut Session, app: &App, t: Moment) -> Result<Answer, AllocError> {
-    let app = BoxedApp::new(alloc, app.copy(alloc)?)?;
+fn send(session: &mut Session, app: &App, t: Moment) -> Result<Answer, AllocError> {
     match session.send(app, t) {
         Ok(()) => Ok(Answer::Nothing),
-        Err(unsent) => match unsent.fault {
-            SendFault::Full => Ok(Answer::Full),
-            SendFault::NoMemory => Err(AllocError),
-        },
+        Err(SendFault::Full) => Ok(Answer::Full),
+        Err(SendFault::NoMemory) => Err(AllocError),
     }
 }
 
@@ -58,13 +54,13 @@ fn unpop(session: &mut Session) {
     }
 }
 
-fn call_once(alloc: Global, session: &mut Session, call: &Call) -> Result<Answer, AllocError> {
+fn call_once(session: &mut Session, call: &Call) -> Result<Answer, AllocError> {
     match call {
         Call::Resume(t) => session.resume(*t),
         Call::Push(bytes) => session.push_bytes(bytes)?,
         Call::Step(t) => return Ok(Answer::Step(session.step(*t)?)),
         Call::Tick(t) => return Ok(Answer::Step(session.tick(*t)?)),
-        Call::Send(app, t) => return send(alloc, session, app, *t),
+        Call::Send(app, t) => return send(session, app, *t),
         Call::TakeWire => return Ok(Answer::Wire(session.take_wire())),
         Call::Pop => return Ok(Answer::Popped(session.pop_ready())),
         Call::Unpop => unpop(session),
@@ -75,14 +71,9 @@ fn call_once(alloc: Global, session: &mut Session, call: &Call) -> Result<Answer
 }
 
 /// What a call gives. A call to which a growth is refused changes nothing that is seen, and is made once more.
-pub fn play(
-    alloc: Global,
-    session: &mut Session,
-    call: &Call,
-    refusals: &mut Refusals,
-) -> Result<Answer> {
+pub fn play(session: &mut Session, call: &Call, refusals: &mut Refusals) -> Result<Answer> {
     let before = look_at(session);
-    if let Ok(answer) = call_once(alloc, session, call) {
+    if let Ok(answer) = call_once(session, call) {
         return Ok(answer);
     }
     refusals.one_more()?;
@@ -90,7 +81,7 @@ pub fn play(
         look_at(session) == before,
         "a refused call changed the session"
     );
-    Ok(call_once(alloc, session, call)?)
+    Ok(call_once(session, call)?)
 }
 
 // The identifier with this text. It is an error where it is empty, too long, or has a byte that is not printed.

@@ -1,13 +1,9 @@
 //! Calls that change the store.
 
 use crate::texts::app_in;
-use fix_dictionary::BoxedApp;
 use resend_store::{Store, StoreFault};
 use sef_moment::Moment;
 use std::alloc::Global;
-
-/// The greatest sequence number (34).
-const LAST_NUMBER: u32 = 999_999_999;
 
 // The moment that a text begins with, in milliseconds, and the text behind it.
 fn moment_in(text: &str) -> Option<(Moment, &str)> {
@@ -23,12 +19,8 @@ fn add_message(alloc: Global, store: &mut Store, text: &str) -> Result<bool, Sto
     let Some(app) = app_in(alloc, message)? else {
         return Ok(false);
     };
-    if store.next_number() > LAST_NUMBER {
-        return Err(StoreFault::Full);
-    }
-    let app = BoxedApp::new(alloc, app)?;
-    store.reserve(1)?;
-    store.add_app_reserved(app, first_sent);
+    let number = store.next_number();
+    store.add_app(number, &app, first_sent)?;
     Ok(true)
 }
 

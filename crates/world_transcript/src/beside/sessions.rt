@@ -61,7 +61,7 @@ impl Sessions {
     /// The session sends a reply, and what it wrote is appended.
     pub(crate) fn send(&mut self, letter: Letter, t: Moment, written: &mut Vec<u8>) -> Result<()> {
         let session = self.of(letter.to)?;
-        if let Err(unsent) = session.send(letter.app, t) {
+        if let Err(unsent) = session.send_boxed(letter.app, t) {
             return Err(unsent.fault.into());
         }
         written.extend_from_slice(&session.take_wire())?;
