@@ -59,10 +59,14 @@ pub(crate) fn cancel(
     old: &Identifier,
     id: &Identifier,
 ) -> Result<()> {
-    if book.used(who, id) || book.order(who, old).is_none() {
-        return Err(anyhow!("unknown"));
+    if book.used(who, id) {
+        return Err(anyhow!("used"));
     }
-    let plan = book.plan_cancel(who, old, id)?;
+    let Some(order) = book.order(who, old) else {
+        return Err(anyhow!("unknown"));
+    };
+    let number = order.entry.number;
+    let plan = book.plan_cancel(who, number, id)?;
     book.apply(plan);
     Ok(())
 }
@@ -82,11 +86,12 @@ pub(crate) fn replace(
     if units.get() <= order.filled().get() {
         return Err(anyhow!("filled"));
     }
+    let number = order.entry.number;
     let Ok(plan) = book.plan_replace(
         &market.participants,
         &market.instruments,
         who,
-        old,
+        number,
         id,
         units,
         price,

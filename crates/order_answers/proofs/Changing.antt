@@ -112,17 +112,13 @@ held-again m h book delay c s d k x none found used = ap (answer_cancel_of m h s
 pub cancel-again : (m : Market) (h : History) (book delay : List Fact) (c : Counts) (s : Sender) (d : OrderCancelRequest) (r : Resting) → IsReadAlone h book delay c → find_order book s.who d.original_id ≡ Some r → is_used book delay s.who d.order_id ≡ true → answer_cancel m h s d ≡ cancel_refused s d (Some (standing r)) DuplicateClOrdId
 cancel-again m h book delay c s d r x found used = ap (answer_cancel_of m h s d) (named-resting h s.who d.original_id r (x.order s.who d.original_id ∙ found)) ∙ resting-duplicate m h s d r (x.used s.who d.order_id ∙ used)
 
-one_plan : (p q : Plan) → Some p ≡ Some q → q ≡ p
-one_plan p q h = cc
-
 pub cancel-planned : (m : Market) (h : History) (book delay : List Fact) (c : Counts) (s : Sender) (d : OrderCancelRequest) (r : Resting) (plan : Plan) (replies : List Reply) (a : Parts)
     → IsReadAlone h book delay c → find_order book s.who d.original_id ≡ Some r → is_used book delay s.who d.order_id ≡ false
-    → option_map (λ (q : Resting). cancel_plan q s.who d.order_id) (find_order book s.who d.original_id) ≡ Some plan
+    → plan ≡ cancel_plan r s.who d.order_id
     → replies ≡ (cancelled m h s d r).replies
     → a ≡ record { delay_first = false; delay = []; book = plan.facts; replies = replies }
     → answer_of a ≡ answer_cancel m h s d
-cancel-planned m h book delay c s d r plan replies a x found used planned said is =
-    let made : plan ≡ cancel_plan r s.who d.order_id = one_plan (cancel_plan r s.who d.order_id) plan (sym (ap (option_map (λ (q : Resting). cancel_plan q s.who d.order_id)) found) ∙ planned) in
+cancel-planned m h book delay c s d r plan replies a x found used made said is =
     ap answer_of is
     ∙ ap (λ (p : Plan). let y : Answer = record { facts = p.facts ++ []; replies = replies } in y) made
     ∙ ap (λ (rs : List Reply). let y : Answer = record { facts = (cancel_plan r s.who d.order_id).facts; replies = rs } in y) said

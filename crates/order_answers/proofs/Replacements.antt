@@ -148,27 +148,15 @@ of-too_soon m h book delay s d t r may new soon = rw new (rw may.limit (rw may.p
 pub replace-turned : (m : Market) (h : History) (book delay : List Fact) (c : Counts) (s : Sender) (d : OrderCancelReplaceRequest) (t : ℕ) (r : Resting) (cause : ChangeCause) → IsReadAlone h book delay c → find_order book s.who d.original_id ≡ Some r → IsNotReplaced m book delay s.who d r cause → answer_replace m h s d t ≡ change_turned_away s d (standing r) cause
 replace-turned m h book delay c s d t r cause x found away = away.answers h s.number s.kind t (x.order s.who d.original_id ∙ found) (x.used s.who d.order_id)
 
-book_too_soon : (m : Market) (h : History) (book delay : List Fact) (c : Counts) (s : Sender) (d : OrderCancelReplaceRequest) (t : ℕ) (r : Resting) (price : ℤ) (n : ℕ) → IsReadAlone h book delay c → find_order book s.who d.original_id ≡ Some r → MayReplace m book delay s.who d r → d.price ≡ Some price → MatchOption (find_order book s.who d.original_id) ⊥ (λ q. IsReplaceRefused m book (replacing q d.order_id d.quantity price) t (TooSoon n)) → answer_replace m h s d t ≡ replace_refused s d (Some (standing r)) change.LinkedOrderTooRecent
+book_too_soon : (m : Market) (h : History) (book delay : List Fact) (c : Counts) (s : Sender) (d : OrderCancelReplaceRequest) (t : ℕ) (r : Resting) (price : ℤ) (n : ℕ) → IsReadAlone h book delay c → find_order book s.who d.original_id ≡ Some r → MayReplace m book delay s.who d r → d.price ≡ Some price → IsReplaceRefused m book (replacing r d.order_id d.quantity price) t (TooSoon n) → answer_replace m h s d t ≡ replace_refused s d (Some (standing r)) change.LinkedOrderTooRecent
 book_too_soon m h book delay c s d t r price n x found may priced refused =
-    let P : Option Resting → Type 0 = λ y. MatchOption y ⊥ (λ q. IsReplaceRefused m book (replacing q d.order_id d.quantity price) t (TooSoon n)) in
-    let k : option_map number_of (too_soon m book (replacing r d.order_id d.quantity price) t) ≡ Some n = subst P found refused in
-    replace-of m h s d t r (x.order s.who d.original_id ∙ found) ∙ of-too_soon m h book delay s d t r may (x.used s.who d.order_id ∙ may.new) (has_fill (too_soon m h.facts (replacement d r) t) n (ap (option_map number_of) (x.soon m (replacement d r) t) ∙ ap (λ o. option_map number_of (too_soon m book o t)) (sym (replacing-is d r price priced)) ∙ k))
-
-never_full : (m : Market) (facts : List Fact) (who : ℕ) (d : OrderCancelReplaceRequest) (t : ℕ) (r : Resting) (price : ℤ) → find_order facts who d.original_id ≡ Some r → MatchOption (find_order facts who d.original_id) ⊥ (λ q. IsReplaceRefused m facts (replacing q d.order_id d.quantity price) t Full) → ⊥
-never_full m facts who d t r price found refused =
-    let P : Option Resting → Type 0 = λ x. MatchOption x ⊥ (λ q. IsReplaceRefused m facts (replacing q d.order_id d.quantity price) t Full) in
-    subst P found refused
+    replace-of m h s d t r (x.order s.who d.original_id ∙ found) ∙ of-too_soon m h book delay s d t r may (x.used s.who d.order_id ∙ may.new) (has_fill (too_soon m h.facts (replacement d r) t) n (ap (option_map number_of) (x.soon m (replacement d r) t) ∙ ap (λ o. option_map number_of (too_soon m book o t)) (sym (replacing-is d r price priced)) ∙ refused))
 
 -- the order that enters
 
-planned-of : (m : Market) (facts : List Fact) (who : ℕ) (d : OrderCancelReplaceRequest) (t : ℕ) (r : Resting) (price : ℤ) (plan : Plan) → find_order facts who d.original_id ≡ Some r → MatchOption (find_order facts who d.original_id) ⊥ (IsReplacePlanned m facts who d.order_id d.quantity price t plan) → IsReplacePlanned m facts who d.order_id d.quantity price t plan r
-planned-of m facts who d t r price plan found planned =
-    let P : Option Resting → Type 0 = λ x. MatchOption x ⊥ (IsReplacePlanned m facts who d.order_id d.quantity price t plan) in
-    subst P found planned
-
 -- the book's plan is of the order that is found, which may be replaced
-pub replacing-by : (m : Market) (facts delay : List Fact) (who : ℕ) (d : OrderCancelReplaceRequest) (t : ℕ) (r : Resting) (price : ℤ) (plan : Plan) → find_order facts who d.original_id ≡ Some r → MayReplace m facts delay who d r → d.price ≡ Some price → MatchOption (find_order facts who d.original_id) ⊥ (IsReplacePlanned m facts who d.order_id d.quantity price t plan) → IsReplacing m facts delay who d t plan
-replacing-by m facts delay who d t r price plan found may priced planned = record { named = r; price = price; found = found; may = may; priced = priced; planned = planned-of m facts who d t r price plan found planned }
+pub replacing-by : (m : Market) (facts delay : List Fact) (who : ℕ) (d : OrderCancelReplaceRequest) (t : ℕ) (r : Resting) (price : ℤ) (plan : Plan) → find_order facts who d.original_id ≡ Some r → MayReplace m facts delay who d r → d.price ≡ Some price → IsReplacePlanned m facts who d.order_id d.quantity price t plan r → IsReplacing m facts delay who d t plan
+replacing-by m facts delay who d t r price plan found may priced planned = record { named = r; price = price; found = found; may = may; priced = priced; planned = planned }
 
 replace_plan-is : (m : Market) (facts delay : List Fact) (who : ℕ) (d : OrderCancelReplaceRequest) (t : ℕ) (plan : Plan) (x : IsReplacing m facts delay who d t plan) → plan ≡ replace_plan facts x.named who (replacement d x.named) t
 replace_plan-is m facts delay who d t plan x = x.planned.plan ∙ ap (λ o. replace_plan facts x.named who o t) (replacing-is d x.named x.price x.priced)
@@ -262,12 +250,12 @@ replace-trades m facts delay who d t plan x =
 
 -- what the book refuses
 
-pub room-left : (m : Market) (facts : List Fact) (who : ℕ) (d : OrderCancelReplaceRequest) (t : ℕ) (r : Resting) (price : ℤ) (refusal : BookRefusal) → find_order facts who d.original_id ≡ Some r → MatchOption (find_order facts who d.original_id) ⊥ (λ q. IsReplaceRefused m facts (replacing q d.order_id d.quantity price) t refusal) → IsRoomLeft refusal
-room-left m facts who d t r price (TooSoon n) found refused = tt
-room-left m facts who d t r price Full found refused = absurd (never_full m facts who d t r price found refused)
-room-left m facts who d t r price NoMemory found refused = tt
+pub room-left : (m : Market) (facts : List Fact) (d : OrderCancelReplaceRequest) (t : ℕ) (r : Resting) (price : ℤ) (refusal : BookRefusal) → IsReplaceRefused m facts (replacing r d.order_id d.quantity price) t refusal → IsRoomLeft refusal
+room-left m facts d t r price (TooSoon n) refused = tt
+room-left m facts d t r price Full refused = absurd refused
+room-left m facts d t r price NoMemory refused = tt
 
-pub book-refused : (m : Market) (h : History) (book delay : List Fact) (c : Counts) (s : Sender) (d : OrderCancelReplaceRequest) (t : ℕ) (r : Resting) (price : ℤ) (refusal : BookRefusal) (a : Answer) → IsReadAlone h book delay c → find_order book s.who d.original_id ≡ Some r → MayReplace m book delay s.who d r → d.price ≡ Some price → MatchOption (find_order book s.who d.original_id) ⊥ (λ q. IsReplaceRefused m book (replacing q d.order_id d.quantity price) t refusal) → IsBookRefusal s d (standing r) refusal a → a ≡ answer_replace m h s d t
+pub book-refused : (m : Market) (h : History) (book delay : List Fact) (c : Counts) (s : Sender) (d : OrderCancelReplaceRequest) (t : ℕ) (r : Resting) (price : ℤ) (refusal : BookRefusal) (a : Answer) → IsReadAlone h book delay c → find_order book s.who d.original_id ≡ Some r → MayReplace m book delay s.who d r → d.price ≡ Some price → IsReplaceRefused m book (replacing r d.order_id d.quantity price) t refusal → IsBookRefusal s d (standing r) refusal a → a ≡ answer_replace m h s d t
 book-refused m h book delay c s d t r price (TooSoon n) a x found may priced refused is = is ∙ sym (book_too_soon m h book delay c s d t r price n x found may priced refused)
 book-refused m h book delay c s d t r price Full a x found may priced refused is = absurd is
 book-refused m h book delay c s d t r price NoMemory a x found may priced refused is = absurd is

@@ -188,7 +188,8 @@ pub fn plan_cancel(
     let report = counts.reports + 1;
     let reply = cancel_reply(instruments, taken, request, order, report);
     let replies = vec![in alloc; reply]?;
-    let plan = book.plan_cancel(who, original, id)?;
+    let number = order.entry.number;
+    let plan = book.plan_cancel(who, number, id)?;
     let nothing = HoldPlan::nothing(alloc);
     Ok(OrderAnswer::of(false, nothing, plan, replies))
 }

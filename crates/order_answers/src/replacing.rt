@@ -202,6 +202,7 @@ pub fn plan_replace(
         return none_replaced(alloc, book, held, taken, request);
     };
     let named = standing(order);
+    let number = order.entry.number;
     let price = match new_price(participants, instruments, book, held, who, request, order) {
         Ok(price) => price,
         Err(cause) => return turned_away(alloc, taken, request, named, cause),
@@ -210,7 +211,7 @@ pub fn plan_replace(
         participants,
         instruments,
         who,
-        original,
+        number,
         id,
         request.quantity,
         price,

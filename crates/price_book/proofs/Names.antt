@@ -1,8 +1,9 @@
-use Rattle.std.proofs.Common.{◌≡◌, refl, sym, ap, ◌∙◌, ℕ, zero, suc, ◌+◌, ◌-◌, ◌≤◌, ◌<◌, ◌^◌, Bool, true, false, List, [], ◌∷◌, ◌++◌, map, length, get_or, nat_lt, Option, Some, None, option_map, inl, inr, arith, if◌then◌else◌}
+use Rattle.std.proofs.Common.{◌≡◌, refl, sym, ap, ◌∙◌, ℕ, zero, suc, ◌+◌, ◌-◌, ◌≤◌, ◌<◌, ◌^◌, Bool, true, false, List, [], ◌∷◌, ◌++◌, map, length, get_or, nat_lt, cond, ◌==◌, Option, Some, None, option_map, inl, inr, arith, if◌then◌else◌}
 use Rattle.std.specs.List.{remove, insert}
+use Rattle.std.specs.List.Sorted.{IsPartitionedBy}
 use Rattle.std.specs.Option.{unwrap_or}
 use Rattle.std.specs.declared.cmp.Ordering.{Ordering}
-use Rattle.std.specs.declared.cmp.Ordering.TheVariants.{Less, Equal}
+use Rattle.std.specs.declared.cmp.Ordering.TheVariants.{Less, Equal, Greater}
 use Rattle.std.specs.Ordering.{nat_cmp, ordering_then, ordering_index}
 use Rattle.std.proofs.lemmas.Bool.{cases_lt}
 use Rattle.std.proofs.lemmas.Bool.Decides.{nat_tests}
@@ -13,7 +14,7 @@ use Rattle.std.proofs.Math.Seq.{get_or-append_seam}
 use Rattle.venue_rules.specs.Book.{Resting}
 use Rattle.sorted_names.specs.declared.names.Name.{Name}
 use Rattle.sorted_names.specs.Search.{AreRising, IsPlace}
-use Rattle.sorted_names.specs.Names.{mark_of, name_at, name_cmp, name_order, marked_order, spelled_order, lowered, closed, IsIndex, IsFirst}
+use Rattle.sorted_names.specs.Names.{mark_of, name_at, name_cmp, place_cmp, name_order, marked_order, spelled_order, lowered, closed, IsIndex, IsFirst}
 use Rattle.sorted_names.specs.Names.{answer_at as name_answer, answer_behind as name_behind}
 use Rattle.sorted_names.proofs.Ordered.{name_total, then-less, nat-less, rising-at, rising-behind, first-found, none-found}
 use Rattle.sorted_names.proofs.Inserted.{added}
@@ -22,7 +23,7 @@ use Rattle.venue_rules.specs.declared.facts.Entry.{Entry}
 use Rattle.price_book.specs.declared.name_key.NameKey.{NameKey}
 use Rattle.price_book.specs.declared.slot.Slot.{Slot}
 use Rattle.price_book.specs.Live.{seen_slot, reduced, entry_name, names_of, find_live, Ledger, IsPlaceOf}
-use Rattle.price_book.specs.Numbered.{numbered, slot_at, slot_order, IsNamed, IsListed, IsAt, number_at, key_of, no_key, keys_of, key_at, key_order, answer_at, answer_behind}
+use Rattle.price_book.specs.Numbered.{numbered, slot_at, slot_order, IsNamed, IsListed, IsKeyAt, AreRisingMarks, number_at, key_of, no_key, keys_of, key_at, key_order, answer_at, answer_behind}
 use Rattle.price_book.proofs.SlotSteps.{map-remove}
 use Rattle.price_book.proofs.Current.{AreLive, first-current, none-current}
 use Rattle.price_book.proofs.Numbers.{number-one, number-read, numbered-at, mapped-reduced}
@@ -225,18 +226,72 @@ named-removed rs ks k at l n below there same =
       keys = ap (λ xs. remove xs at) n.keys ∙ map-remove (key_at rs) index at ∙ map-within (key_at rs) (λ j. key_at (remove rs k) (closed k j)) (remove index at) stays ∙ sym (map-twice (key_at (remove rs k)) (closed k) (remove index at));
     }
 
--- where the key of an order stands
-pub named-there : (rs : List Resting) (es : List (ℕ × Slot)) (ks : List NameKey) (n : Name) (from k : ℕ) (found : Bool) → IsListed rs es ks → IsPlace (answer_at es ks (mark_of n.who n.id) n.who n.id) (length ks) from found → k < length rs → name_at (names_of rs) k ≡ n → (i : ℕ) × (from ≤ i) × (i < length ks) × ((get_or ks i no_key).number ≡ number_at rs k)
-named-there rs es ks n from k found l p h name =
-    let c = l.named.is.covers k (omega (arith, h, names-count rs)) in
-    let in-ks : c.0 < length ks = omega (arith, c.1, index-count rs ks l.named) in
-    let equal : ordering_index (answer_at es ks (mark_of n.who n.id) n.who n.id c.0) ≡ 1 = ap ordering_index (answer-same rs es ks l n.who n.id c.0 in-ks ∙ ap (λ j. name_order (name_at (names_of rs) j) n.who n.id) c.2 ∙ ap (λ m. name_order m n.who n.id) name ∙ tied_itself name_total n) in
-    let behind : from ≤ c.0 = elim (cases_lt c.0 from) [ inl y ↦ absurd (omega (arith, equal, p.below c.0 y)) | inr z ↦ z ] in
-    (c.0, behind, in-ks, ap (λ (key : NameKey). key.number) (key-there rs ks l.named c.0 c.1) ∙ key-number rs (get_or l.named.index c.0 0) (within rs ks l.named c.0 c.1) ∙ ap (number_at rs) c.2)
+-- the marks of keys rise
 
--- the place of an order has its name and its number
-pub place-at : (n : ℕ) (rs : List Resting) (k : ℕ) (r : Resting) → IsPlaceOf n rs k → r ≡ get_or rs k r → IsAt rs (entry_name r.entry) n k
-place-at n rs k r p e = (p.0, sym (name-read rs k r p.0) ∙ ap (λ (t : Resting). entry_name t.entry) (sym e), number-read rs k r p.0 ∙ p.1 r)
+no-more : (a b : ℕ) (o : Ordering) → ordering_index (ordering_then (nat_cmp a b) o) ≤ 1 → a ≤ b
+no-more a b o h = by (nat_lt a b) (a == b) refl refl h
+  where
+    by : (s t : Bool) → nat_lt a b ≡ s → (a == b) ≡ t → ordering_index (ordering_then (cond s Less (cond t Equal Greater)) o) ≤ 1 → a ≤ b
+    by true t e f h = grind (arith, nat_tests)
+    by false true e f h = grind (arith, nat_tests)
+    by false false e f h = absurd (omega (arith, h))
+
+no-greater : (names : List Name) (a b : ℕ) → place_cmp names a b ≡ Less → ordering_index (name_cmp (name_at names a) (name_at names b)) ≤ 1
+no-greater names a b h = elim (then-less (name_cmp (name_at names a) (name_at names b)) (nat_cmp a b) h).which [
+  | inl less ↦ omega (arith, ap ordering_index less)
+  | inr e ↦ omega (arith, ap ordering_index e.0)
+]
+
+key-mark : (rs : List Resting) (k : ℕ) → k < length rs → (key_at rs k).mark ≡ mark_of (name_at (names_of rs) k).who (name_at (names_of rs) k).id
+key-mark [] k h = absurd (omega (arith, h))
+key-mark (r ∷ rs) zero h = refl
+key-mark (r ∷ rs) (suc k) h = key-mark rs k (omega (arith, h))
+
+key-any : (ks : List NameKey) (i : ℕ) (d : NameKey) → i < length ks → get_or ks i d ≡ get_or ks i no_key
+key-any [] i d h = absurd (omega (arith, h))
+key-any (k ∷ ks) zero d h = refl
+key-any (k ∷ ks) (suc i) d h = key-any ks i d (omega (arith, h))
+
+mark-there : (rs : List Resting) (ks : List NameKey) (n : IsNamed rs ks) (i : ℕ) (d : NameKey) → i < length ks → (get_or ks i d).mark ≡ mark_of (name_at (names_of rs) (get_or n.index i 0)).who (name_at (names_of rs) (get_or n.index i 0)).id
+mark-there rs ks n i d h =
+    let inside : i < length n.index = omega (arith, h, index-count rs ks n) in
+    ap (λ (key : NameKey). key.mark) (key-any ks i d h ∙ key-there rs ks n i inside) ∙ key-mark rs (get_or n.index i 0) (within rs ks n i inside)
+
+pub marks-rise : (rs : List Resting) (ks : List NameKey) → IsNamed rs ks → AreRisingMarks ks
+marks-rise rs ks n i j d h l =
+    let a = name_at (names_of rs) (get_or n.index i 0) in
+    let b = name_at (names_of rs) (get_or n.index j 0) in
+    let rises : mark_of a.who a.id ≤ mark_of b.who b.id = no-more (mark_of a.who a.id) (mark_of b.who b.id) (spelled_order a b.who b.id) (no-greater (names_of rs) (get_or n.index i 0) (get_or n.index j 0) (n.is.rising i j h (omega (arith, l, index-count rs ks n)))) in
+    omega (arith, rises, mark-there rs ks n i d (omega (arith, h, l)), mark-there rs ks n j d l)
+
+pub parted-marks : (m : ℕ) (ks : List NameKey) → AreRisingMarks ks → IsPartitionedBy (λ (key : NameKey). nat_lt key.mark m) ks
+parted-marks m ks rising i j d h l up = elim (cases_lt i j) [
+  | inl less ↦ let rises = rising i j d less l in grind (arith, nat_tests)
+  | inr no_less ↦ let same : i ≡ j = omega (arith, h, no_less) in ap (λ k. nat_lt (get_or ks k d).mark m) same ∙ up
+]
+
+abbrev the_key : ℕ → ℕ → NameKey
+the_key m n = record { mark = m; number = n }
+
+-- where the key of an order stands: not among those of lesser marks
+pub key-there-from : (rs : List Resting) (ks : List NameKey) (mark number from k : ℕ) → IsNamed rs ks → IsKeyAt rs mark number k → ((i : ℕ) → i < from → (get_or ks i no_key).mark < mark) → (i : ℕ) × (from ≤ i) × (i < length ks) × ((get_or ks i no_key).number ≡ number)
+key-there-from rs ks mark number from k n is lesser =
+    let c = n.is.covers k (omega (arith, is.0, names-count rs)) in
+    let in-ks : c.0 < length ks = omega (arith, c.1, index-count rs ks n) in
+    let key : get_or ks c.0 no_key ≡ record { mark = mark; number = number } = key-there rs ks n c.0 c.1 ∙ ap (key_at rs) c.2 ∙ is.1 in
+    let behind : from ≤ c.0 = elim (cases_lt c.0 from) [ inl y ↦ absurd (omega (arith, lesser c.0 y, ap (λ (key : NameKey). key.mark) key)) | inr z ↦ z ] in
+    (c.0, behind, in-ks, ap (λ (key : NameKey). key.number) key)
+
+-- and its number is that of the order
+pub key-numbered : (rs : List Resting) (mark number k : ℕ) → IsKeyAt rs mark number k → number ≡ number_at rs k
+key-numbered rs mark number k is = sym (ap (λ (key : NameKey). key.number) is.1) ∙ key-number rs k is.0
+
+-- the place of an order has its key
+pub place-key : (n : ℕ) (rs : List Resting) (k : ℕ) (s : Slot) → IsPlaceOf n rs k → seen_slot s ≡ get_or rs k (seen_slot s) → IsKeyAt rs s.mark n k
+place-key n rs k s p e = (p.0, key-read rs k (seen_slot s) p.0 ∙ ap (λ (t : Resting). key_of t.entry) (sym e) ∙ by (mark_of s.entry.order.who s.entry.order.id) s.entry.number (sym s.marked) (ap (λ (t : Resting). t.entry.number) e ∙ p.1 (seen_slot s)))
+  where
+    by : (m number : ℕ) → m ≡ s.mark → number ≡ n → the_key m number ≡ the_key s.mark n
+    by m number e f = ap (λ a. the_key a number) e ∙ ap (λ b. the_key s.mark b) f
 
 -- some of an order is left
 pub named-reduced : (n q : ℕ) (rs : List Resting) (r : Resting) (ks : List NameKey) → numbered n rs ≡ Some r → q < r.left → IsNamed rs ks → IsNamed (reduced n q rs) ks

@@ -8,9 +8,10 @@ use Rattle.venue_rules.specs.declared.facts.Entry.{Entry}
 use Rattle.venue_rules.specs.Book.{Resting}
 use Rattle.venue_rules.specs.declared.facts.Fact.{Fact}
 use Rattle.price_book.specs.declared.slot.Slot.{Slot}
-use Rattle.price_book.specs.Live.{seen_slot, is_live, joined_by, reduced, without, changes, Ledger, AreLedgers, Absent, IsPlaceOf}
+use Rattle.price_book.specs.Live.{seen_slot, is_live, find_live, joined_by, reduced, without, changes, Ledger, AreLedgers, Absent, IsPlaceOf}
 use Rattle.price_book.specs.declared.orders_kept.OrdersKept.{OrdersKept}
 use Rattle.price_book.specs.Rungs.{IsInStep}
+use Rattle.price_book.specs.Views.{is_current}
 use Rattle.price_book.specs.Numbered.{numbered, slot_at, IsNumbered, number_at}
 use Rattle.price_book.proofs.Living.{same-number, other-number, ledger-lower}
 use Rattle.price_book.proofs.Ladders.{ledger-absent}
@@ -231,6 +232,29 @@ ledger-without n low (r ∷ rs) l = by (n == r.entry.number) (ledger-without n r
 pub ledger-head : (rs : List Resting) (fs : List Fact) → AreLedgers rs fs → Ledger 0 rs
 ledger-head rs [] l = l
 ledger-head rs (f ∷ fs) l = l.0
+
+-- the order of a participant's identifier is the one of its number
+
+found-above : (low who : ℕ) (id : List ℕ) (rs : List Resting) (r : Resting) → Ledger low rs → find_live who id rs ≡ Some r → low < r.entry.number
+found-above low who id [] r l h = cc
+found-above low who id (s ∷ rs) r l h = by (is_current who id s) h (found-above s.entry.number who id rs r l.2)
+  where
+    by : (b : Bool) → cond b (Some s) (find_live who id rs) ≡ Some r → (find_live who id rs ≡ Some r → s.entry.number < r.entry.number) → low < r.entry.number
+    by true h later = omega (arith, l.0, ap (λ (o : Option Resting). (unwrap_or o s).entry.number) h)
+    by false h later = omega (arith, l.0, later h)
+
+pub found-numbered : (low who : ℕ) (id : List ℕ) (rs : List Resting) (r : Resting) → Ledger low rs → find_live who id rs ≡ Some r → numbered r.entry.number rs ≡ Some r
+found-numbered low who id [] r l h = cc
+found-numbered low who id (s ∷ rs) r l h = by (is_current who id s) h (found-numbered s.entry.number who id rs r l.2)
+  where
+    by : (b : Bool) → cond b (Some s) (find_live who id rs) ≡ Some r → (find_live who id rs ≡ Some r → numbered r.entry.number rs ≡ Some r) → numbered r.entry.number (s ∷ rs) ≡ Some r
+    by true h ih =
+        let same : s ≡ r = ap (λ o. unwrap_or o s) h in
+        ap (λ (t : Resting). numbered t.entry.number (s ∷ rs)) (sym same) ∙ ap (λ b. cond b (Some s) (numbered s.entry.number rs)) (eq-eqb s.entry.number s.entry.number refl) ∙ h
+    by false h ih =
+        let later : s.entry.number < r.entry.number = found-above s.entry.number who id rs r l.2 h in
+        let other : (r.entry.number == s.entry.number) ≡ false = eq_sym r.entry.number s.entry.number ∙ other-number s.entry.number r.entry.number later in
+        ap (λ b. cond b (Some s) (numbered r.entry.number rs)) other ∙ ih h
 
 -- what holds of an Ok
 pub given-ok : {X E : Type 0} (P : Type 0) (r : Result X E) → is_ok r ≡ true → OnOk r P → P

@@ -1,10 +1,9 @@
-use Rattle.std.specs.Prelude.{◌≡◌, ℕ, ◌<◌, ◌==◌, nat_eq, List, map, length, get_or, slice_index_or, find, All, Option, Some, None, option_map, MatchOption}
+use Rattle.std.specs.Prelude.{◌≡◌, ℕ, ◌≤◌, ◌<◌, ◌==◌, nat_eq, List, map, length, get_or, slice_index_or, find, All, Option, Some, None, option_map, MatchOption}
 use Rattle.std.specs.Map.{lookup}
 use Rattle.std.specs.declared.cmp.Ordering.{Ordering}
 use Rattle.std.specs.declared.cmp.Ordering.TheVariants.{Less}
-use Rattle.sorted_names.specs.declared.names.Name.{Name}
 use Rattle.std.specs.Ordering.{nat_cmp, ordering_then}
-use Rattle.sorted_names.specs.Names.{mark_of, spelled_order, name_at, lowered, IsIndex}
+use Rattle.sorted_names.specs.Names.{mark_of, spelled_order, lowered, IsIndex}
 use Rattle.venue_rules.specs.declared.facts.Entry.{Entry}
 use Rattle.venue_rules.specs.Book.{Resting}
 use Rattle.price_book.specs.declared.name_key.NameKey.{NameKey}
@@ -78,9 +77,13 @@ pub record IsListed (rs : List Resting) (es : List (ℕ × Slot)) (ks : List Nam
   pub slots : IsNumbered rs es
   pub named : IsNamed rs ks
 
--- an order of this name and number stands at a place
-abbrev pub IsAt : List Resting → Name → ℕ → ℕ → Type 0
-IsAt rs name number k = (k < length rs) × (name_at (names_of rs) k ≡ name) × (number_at rs k ≡ number)
+-- the order of this key stands at a place
+abbrev pub IsKeyAt : List Resting → ℕ → ℕ → ℕ → Type 0
+IsKeyAt rs mark number k = (k < length rs) × (key_at rs k ≡ record { mark = mark; number = number })
+
+-- the marks of keys rise
+abbrev pub AreRisingMarks : List NameKey → Type 0
+AreRisingMarks ks = (i j : ℕ) (d : NameKey) → i < j → j < length ks → (get_or ks i d).mark ≤ (get_or ks j d).mark
 
 -- of the order of a number, if there is one, more than this is left
 abbrev pub IsLeft : ℕ → List (ℕ × Slot) → ℕ → Type 0

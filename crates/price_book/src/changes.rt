@@ -1,26 +1,24 @@
 //! What each fact does to the orders that rest.
-ghost use Rattle.std.specs.Prelude.{◌≡◌, ℕ, ◌≤◌, length, true, List, [], IfOk, Some};
+ghost use Rattle.std.specs.Prelude.{◌≡◌, ℕ, ◌≤◌, length, true, List, [], IfOk};
 ghost use Rattle.venue_rules.specs.Book.{Resting, side_room};
 ghost use Rattle.venue_rules.specs.Facts.{entries};
 ghost use Rattle.price_book.specs.Kept.{are_whole};
-ghost use Rattle.price_book.specs.Live.{joined_by, reduced, traded_of, without, change, steps, terms_of, Ledger, AreLedgers};
-ghost use Rattle.price_book.specs.Numbered.{slot_at};
+ghost use Rattle.price_book.specs.Live.{joined_by, reduced, traded_of, without, change, steps, Ledger, AreLedgers};
 ghost use Rattle.price_book.specs.Rungs.{rung, held, IsInStep, HasRoom};
 ghost use Rattle.price_book.specs.Views.{seen};
-ghost use Rattle.price_book.specs.declared.slot.Slot.{Slot};
 ghost use Rattle.fix_dictionary.specs.declared.values.Side.{Side};
 
 use crate::entering::SIDE_ROOM;
 use crate::filling::entering;
 use crate::named::{add_name, remove_name};
-use crate::numbered::{forget, put, reduce_slot, reserve_slots};
+use crate::numbered::{put, reduce_slot, reserve_slots, take};
 use crate::orders::is_day;
 use crate::orders_kept::OrdersKept;
 use crate::resting::Resting as Lent;
 use crate::rows::row_of;
 use crate::sides::{enter_ladder, leave_ladder, reduce_ladder};
-use crate::slots::{Terms, name_of, terms_of};
 use fix_dictionary::Identifier;
+use sorted_names::mark;
 use std::alloc::{AllocError, Global};
 use std::collections::HashMap;
 use venue_rules::{Fact, Place, Trade};
@@ -70,9 +68,9 @@ fn enter(orders: &mut OrdersKept, order: Lent<'_>)
     let entry = order.entry;
     let _link: Option<Identifier> = entry.order.link;
     if is_day(entry.order.life) && 0 < order.left {
-        let name = name_of(entry);
-        add_name(&orders.slots, &mut orders.names, &name, entry.number);
-        put(&mut orders.slots, order);
+        let mark = mark(entry.order.who, &entry.order.id);
+        add_name(&orders.slots, &mut orders.names, entry, mark);
+        put(&mut orders.slots, order, mark);
         enter_ladder(
             orders.alloc,
             &mut orders.ladders,
@@ -84,30 +82,22 @@ fn enter(orders: &mut OrdersKept, order: Lent<'_>)
     }
 }
 
-// The order of this number and these terms is gone.
-fn take_off(orders: &mut OrdersKept, number: u64, terms: &Terms)
-    requires step { (rs : List Resting) × IsInStep rs orders.old }
-    requires here { (s : Slot) × (slot_at orders.old.slots.entries number ≡ Some s) × (terms_of s.entry ≡ terms.now) }
-    ensures step { (rs : List Resting) → IsInStep rs orders.old → IsInStep (without number rs) orders.new }
-    ensures room { (n : ℕ) → HasRoom n orders.old → HasRoom n orders.new }
-{
-    let (instrument, side, price) = (terms.instrument, terms.side, terms.price);
-    leave_ladder(&mut orders.ladders, instrument, side, price, number);
-    remove_name(&orders.slots, &mut orders.names, &terms.name, number);
-    forget(&mut orders.slots, number);
-}
-
 // The order of this number is gone.
 fn leave(orders: &mut OrdersKept, number: u64)
     requires { (rs : List Resting) × IsInStep rs orders.old }
     ensures step { (rs : List Resting) → IsInStep rs orders.old → IsInStep (without number rs) orders.new }
     ensures room { (n : ℕ) → HasRoom n orders.old → HasRoom n orders.new }
 {
-    let Some(slot) = orders.slots.get(&number) else {
+    let Some(slot) = take(&mut orders.slots, number) else {
         return;
     };
-    let terms = terms_of(&slot.entry);
-    take_off(orders, number, &terms);
+    let (instrument, side, price) = (
+        slot.entry.order.instrument,
+        slot.entry.order.side,
+        slot.entry.order.price,
+    );
+    leave_ladder(&mut orders.ladders, instrument, side, price, number);
+    remove_name(&mut orders.names, slot.mark, number);
 }
 
 // So much less is left of the order of this number; it is gone where nothing is.
@@ -120,8 +110,7 @@ fn reduce(orders: &mut OrdersKept, number: u64, quantity: u64)
         return;
     };
     if slot.left <= quantity {
-        let terms = terms_of(&slot.entry);
-        take_off(orders, number, &terms);
+        leave(orders, number);
         return;
     }
     let instrument = slot.entry.order.instrument;

@@ -5,15 +5,16 @@ ghost use Rattle.std.specs.Vec.{vec_capacity, vec_len};
 ghost use Rattle.venue_rules.specs.Book.{Resting};
 ghost use Rattle.sorted_names.specs.Names.{mark_of};
 ghost use Rattle.sorted_names.specs.Search.{IsPlace};
-ghost use Rattle.price_book.specs.Live.{entry_name};
-ghost use Rattle.price_book.specs.Numbered.{IsListed, IsNamed, IsAt, no_key, answer_at, answer_behind};
+ghost use Rattle.price_book.specs.Live.{Ledger};
+ghost use Rattle.price_book.specs.Numbered.{IsListed, IsNamed, IsKeyAt, AreRisingMarks, no_key, answer_at, answer_behind};
 
 use crate::name_key::NameKey;
 use crate::numbered::Numbered;
 use crate::probing::{FirstProbe, LastProbe};
 use fix_dictionary::Identifier;
 use participants::Who;
-use sorted_names::{Name, mark, search};
+use sorted_names::{mark, search};
+use venue_rules::Entry;
 
 /// Where the keys of a name begin, whether there is one, and how many were looked at.
 pub(crate) fn place(
@@ -37,10 +38,10 @@ pub(crate) fn place(
 }
 
 // The place behind the keys whose names are no greater ones.
-fn behind(slots: &Numbered, keys: &[NameKey], mark: u64, name: &Name) -> usize
+fn behind(slots: &Numbered, keys: &[NameKey], mark: u64, who: Who, id: &Identifier) -> usize
     requires listed { (rs : List Resting) × IsListed rs slots.now.entries keys.now }
-    requires mark { mark ≡ mark_of name.now.who name.now.id }
-    ensures { (found : Bool) × IsPlace (answer_behind slots.now.entries keys.now mark name.now.who name.now.id) (length keys.now) result found }
+    requires mark { mark ≡ mark_of who id.now }
+    ensures { (found : Bool) × IsPlace (answer_behind slots.now.entries keys.now mark who id.now) (length keys.now) result found }
 {
     let mut probe = LastProbe {
         slots,
@@ -48,7 +49,7 @@ fn behind(slots: &Numbered, keys: &[NameKey], mark: u64, name: &Name) -> usize
         mark,
         count: 0,
     };
-    let (at, _) = search(&mut probe, name.who, &name.id);
+    let (at, _) = search(&mut probe, who, id);
     at
 }
 
@@ -66,28 +67,38 @@ fn spot(keys: &[NameKey], from: usize, number: u64) -> usize
     0
 }
 
-/// The key of an order more, for which there is room.
-pub(crate) fn add_name(slots: &Numbered, keys: &mut Vec<NameKey>, name: &Name, number: u64)
+/// The key of an order more, of which the name has this mark, and for which there is room.
+pub(crate) fn add_name(slots: &Numbered, keys: &mut Vec<NameKey>, entry: &Entry, mark: u64)
     requires room { vec_len keys.old < vec_capacity keys.old }
     requires few { vec_len keys.old < 2 ^ 32 }
     requires listed { (rs : List Resting) × IsListed rs slots.now.entries keys.old.items }
-    ensures named { (rs : List Resting) (r : Resting) → entry_name r.entry ≡ name.now → r.entry.number ≡ number → IsListed rs slots.now.entries keys.old.items → IsNamed (rs ++ r ∷ []) keys.new.items }
+    requires mark { mark ≡ mark_of entry.now.order.who entry.now.order.id }
+    ensures named { (rs : List Resting) (r : Resting) → r.entry ≡ entry.now → IsListed rs slots.now.entries keys.old.items → IsNamed (rs ++ r ∷ []) keys.new.items }
     ensures len { vec_len keys.new ≡ vec_len keys.old + 1 }
     ensures capacity { vec_capacity keys.new ≡ vec_capacity keys.old }
 {
-    let mark = mark(name.who, &name.id);
-    let at = behind(slots, keys, mark, name);
+    let number = entry.number;
+    let at = behind(slots, keys, mark, entry.order.who, &entry.order.id);
     let _inserted = keys.insert(at, NameKey { mark, number });
 }
 
-/// The key of an order is gone.
-pub(crate) fn remove_name(slots: &Numbered, keys: &mut Vec<NameKey>, name: &Name, number: u64)
-    requires { (rs : List Resting) × IsListed rs slots.now.entries keys.old.items × (k : ℕ) × IsAt rs name.now number k }
-    ensures named { (rs : List Resting) (k : ℕ) → IsAt rs name.now number k → IsListed rs slots.now.entries keys.old.items → IsNamed (remove rs k) keys.new.items }
+// How many keys have a lesser mark.
+fn lesser(keys: &[NameKey], mark: u64) -> usize
+    requires { AreRisingMarks keys.now }
+    ensures within { result ≤ length keys.now }
+    ensures lesser { (k : ℕ) → k < result → (slice_index_or keys.now k no_key).mark < mark }
+{
+    keys.partition_point(|key| key.mark < mark)
+}
+
+/// The key of this mark and number is gone.
+pub(crate) fn remove_name(keys: &mut Vec<NameKey>, mark: u64, number: u64)
+    requires { (rs : List Resting) × Ledger 0 rs × IsNamed rs keys.old.items × (k : ℕ) × IsKeyAt rs mark number k }
+    ensures named { (rs : List Resting) (k : ℕ) → Ledger 0 rs → IsKeyAt rs mark number k → IsNamed rs keys.old.items → IsNamed (remove rs k) keys.new.items }
     ensures len { vec_len keys.new ≤ vec_len keys.old }
     ensures capacity { vec_capacity keys.new ≡ vec_capacity keys.old }
 {
-    let (from, _, _) = place(slots, keys, name.who, &name.id);
+    let from = lesser(keys, mark);
     let at = spot(keys, from, number);
     let _key = keys.remove(at);
 }

@@ -33,6 +33,6 @@ returns-clause-planned c = λ h x.
     let found : find_order c.args.book.now.facts c.args.taken.now.from c.args.request.now.original_id ≡ Some order = sym c.order.ensures.found ∙ ap (option_map seen) c.in-Some.is in
     let alone = c.parts_are_read_alone.ensures h c.args.book.now.facts c.args.held.now.facts c.args.counts x in
     cancel-planned (market c.args.participants.now c.args.instruments.now) h c.args.book.now.facts c.args.held.now.facts c.args.counts (sender c.args.taken.now) c.args.request.now order c.in_ok-plan.plan c.in_ok-replies.replies.items c.of.result
-    alone found (sym c.if-is_used.ensures) c.in_ok-plan.ensures.planned
+    alone found (sym c.if-is_used.ensures) (c.in_ok-plan.ensures.planned order (record { own = record { id = c.args.request.now.original_id; found = found }; number = refl }))
     (c.in_ok-replies.ensures.items ∙ c.cancel_reply-reply.ensures (market c.args.participants.now c.args.instruments.now) h refl (ap (λ n. n + 1) (sym alone.reports)))
     (c.of.ensures ∙ ap (λ (q : DelayPlan). let y : Parts = record { delay_first = false; delay = q.facts; book = c.in_ok-plan.plan.facts; replies = c.in_ok-replies.replies.items } in y) c.nothing-nothing.ensures)

@@ -1,4 +1,4 @@
-use Rattle.std.proofs.Common.{◌≡◌, ◌∙◌, ap, sym, length, Some, option_map, arith}
+use Rattle.std.proofs.Common.{◌≡◌, ◌∙◌, ap, sym, length, Some, option_map, refl, arith}
 use Rattle.std.proofs.lemmas.Result.{IfOk-weaker}
 use Rattle.venue_rules.specs.Book.{Resting, find_order}
 use Rattle.venue_rules.specs.Market.{Market}
@@ -32,7 +32,7 @@ replaced-requires-clause-trades c =
     let order : Resting = seen c.in-Some.order in
     let found : find_order c.args.book.now.facts c.args.taken.now.from c.args.request.now.original_id ≡ Some order = sym c.order.ensures.found ∙ ap (option_map seen) c.in-Some.is in
     let m : Market = market c.args.participants.now c.args.instruments.now in
-    let x : IsReplacing m c.args.book.now.facts c.args.held.now.facts c.args.taken.now.from c.args.request.now c.args.moment c.in-Ok-plan_replace.plan = replacing-by m c.args.book.now.facts c.args.held.now.facts c.args.taken.now.from c.args.request.now c.args.moment order c.in-Ok.price c.in-Ok-plan_replace.plan found c.in-Ok.ensures.may c.in-Ok.ensures.price c.in-Ok-plan_replace.ensures.planned in
+    let x : IsReplacing m c.args.book.now.facts c.args.held.now.facts c.args.taken.now.from c.args.request.now c.args.moment c.in-Ok-plan_replace.plan = replacing-by m c.args.book.now.facts c.args.held.now.facts c.args.taken.now.from c.args.request.now c.args.moment order c.in-Ok.price c.in-Ok-plan_replace.plan found c.in-Ok.ensures.may c.in-Ok.ensures.price (c.in-Ok-plan_replace.ensures.planned order (record { own = record { id = c.args.request.now.original_id; found = found }; number = refl })) in
     omega (arith, replace-trades m c.args.book.now.facts c.args.held.now.facts c.args.taken.now.from c.args.request.now c.args.moment c.in-Ok-plan_replace.plan x, c.in-Ok-plan_replace.ensures.few)
 
 pub replaced-requires-clause-enters : goal.replaced-requires-clause-enters
@@ -40,7 +40,7 @@ replaced-requires-clause-enters c =
     let order : Resting = seen c.in-Some.order in
     let found : find_order c.args.book.now.facts c.args.taken.now.from c.args.request.now.original_id ≡ Some order = sym c.order.ensures.found ∙ ap (option_map seen) c.in-Some.is in
     let m : Market = market c.args.participants.now c.args.instruments.now in
-    let x : IsReplacing m c.args.book.now.facts c.args.held.now.facts c.args.taken.now.from c.args.request.now c.args.moment c.in-Ok-plan_replace.plan = replacing-by m c.args.book.now.facts c.args.held.now.facts c.args.taken.now.from c.args.request.now c.args.moment order c.in-Ok.price c.in-Ok-plan_replace.plan found c.in-Ok.ensures.may c.in-Ok.ensures.price c.in-Ok-plan_replace.ensures.planned in
+    let x : IsReplacing m c.args.book.now.facts c.args.held.now.facts c.args.taken.now.from c.args.request.now c.args.moment c.in-Ok-plan_replace.plan = replacing-by m c.args.book.now.facts c.args.held.now.facts c.args.taken.now.from c.args.request.now c.args.moment order c.in-Ok.price c.in-Ok-plan_replace.plan found c.in-Ok.ensures.may c.in-Ok.ensures.price (c.in-Ok-plan_replace.ensures.planned order (record { own = record { id = c.args.request.now.original_id; found = found }; number = refl })) in
     taking-place m c.args.book.now.facts c.args.held.now.facts c.args.taken.now.from c.args.request.now c.args.moment c.in-Ok-plan_replace.plan x c.requires.listed c.in-Ok.ensures.most
 
 pub returns-in-Ok-plan_replace-clause-planned : goal.returns-in-Ok-plan_replace-clause-planned
@@ -48,7 +48,7 @@ returns-in-Ok-plan_replace-clause-planned c =
     let order : Resting = seen c.in-Some.order in
     let found : find_order c.args.book.now.facts c.args.taken.now.from c.args.request.now.original_id ≡ Some order = sym c.order.ensures.found ∙ ap (option_map seen) c.in-Some.is in
     let m : Market = market c.args.participants.now c.args.instruments.now in
-    let x : IsReplacing m c.args.book.now.facts c.args.held.now.facts c.args.taken.now.from c.args.request.now c.args.moment c.in-Ok-plan_replace.plan = replacing-by m c.args.book.now.facts c.args.held.now.facts c.args.taken.now.from c.args.request.now c.args.moment order c.in-Ok.price c.in-Ok-plan_replace.plan found c.in-Ok.ensures.may c.in-Ok.ensures.price c.in-Ok-plan_replace.ensures.planned in
+    let x : IsReplacing m c.args.book.now.facts c.args.held.now.facts c.args.taken.now.from c.args.request.now c.args.moment c.in-Ok-plan_replace.plan = replacing-by m c.args.book.now.facts c.args.held.now.facts c.args.taken.now.from c.args.request.now c.args.moment order c.in-Ok.price c.in-Ok-plan_replace.plan found c.in-Ok.ensures.may c.in-Ok.ensures.price (c.in-Ok-plan_replace.ensures.planned order (record { own = record { id = c.args.request.now.original_id; found = found }; number = refl })) in
     IfOk-weaker c.replaced.result _ _ (λ a e. λ h y. replaced-told m h c.args.book.now.facts c.args.held.now.facts c.args.counts (sender c.args.taken.now) c.args.request.now c.args.moment c.in-Ok-plan_replace.plan x a (c.parts_are_read_alone.ensures h c.args.book.now.facts c.args.held.now.facts c.args.counts y) e) c.replaced.ensures
 
 pub returns-in-Ok-plan_replace-clause-made : goal.returns-in-Ok-plan_replace-clause-made
@@ -56,17 +56,17 @@ returns-in-Ok-plan_replace-clause-made c =
     let order : Resting = seen c.in-Some.order in
     let found : find_order c.args.book.now.facts c.args.taken.now.from c.args.request.now.original_id ≡ Some order = sym c.order.ensures.found ∙ ap (option_map seen) c.in-Some.is in
     let m : Market = market c.args.participants.now c.args.instruments.now in
-    let x : IsReplacing m c.args.book.now.facts c.args.held.now.facts c.args.taken.now.from c.args.request.now c.args.moment c.in-Ok-plan_replace.plan = replacing-by m c.args.book.now.facts c.args.held.now.facts c.args.taken.now.from c.args.request.now c.args.moment order c.in-Ok.price c.in-Ok-plan_replace.plan found c.in-Ok.ensures.may c.in-Ok.ensures.price c.in-Ok-plan_replace.ensures.planned in
+    let x : IsReplacing m c.args.book.now.facts c.args.held.now.facts c.args.taken.now.from c.args.request.now c.args.moment c.in-Ok-plan_replace.plan = replacing-by m c.args.book.now.facts c.args.held.now.facts c.args.taken.now.from c.args.request.now c.args.moment order c.in-Ok.price c.in-Ok-plan_replace.plan found c.in-Ok.ensures.may c.in-Ok.ensures.price (c.in-Ok-plan_replace.ensures.planned order (record { own = record { id = c.args.request.now.original_id; found = found }; number = refl })) in
     IfOk-weaker c.replaced.result _ _ (λ a e. told-made m c.args.book.now.facts c.args.held.now.facts c.args.counts c.args.taken.now.from c.args.request.now c.args.moment c.in-Ok-plan_replace.plan x c.plan_replace.new.self c.args.held.now a c.requires.listed c.in-Ok-plan_replace.ensures.made e) c.replaced.ensures
 
 pub refused_by_book-requires : goal.refused_by_book-requires
 refused_by_book-requires c =
     let order : Resting = seen c.in-Some.order in
     let found : find_order c.args.book.now.facts c.args.taken.now.from c.args.request.now.original_id ≡ Some order = sym c.order.ensures.found ∙ ap (option_map seen) c.in-Some.is in
-    room-left (market c.args.participants.now c.args.instruments.now) c.args.book.now.facts c.args.taken.now.from c.args.request.now c.args.moment order c.in-Ok.price c.in-Err-plan_replace.refusal found c.in-Err-plan_replace.ensures.refused
+    room-left (market c.args.participants.now c.args.instruments.now) c.args.book.now.facts c.args.request.now c.args.moment order c.in-Ok.price c.in-Err-plan_replace.refusal (c.in-Err-plan_replace.ensures.refused order (record { own = record { id = c.args.request.now.original_id; found = found }; number = refl }))
 
 pub returns-in-Err-plan_replace-clause-planned : goal.returns-in-Err-plan_replace-clause-planned
 returns-in-Err-plan_replace-clause-planned c =
     let order : Resting = seen c.in-Some.order in
     let found : find_order c.args.book.now.facts c.args.taken.now.from c.args.request.now.original_id ≡ Some order = sym c.order.ensures.found ∙ ap (option_map seen) c.in-Some.is in
-    let told = IfOk-weaker c.refused_by_book.result _ _ (λ a e. λ h x. book-refused (market c.args.participants.now c.args.instruments.now) h c.args.book.now.facts c.args.held.now.facts c.args.counts (sender c.args.taken.now) c.args.request.now c.args.moment order c.in-Ok.price c.in-Err-plan_replace.refusal (answer_of a) (c.parts_are_read_alone.ensures h c.args.book.now.facts c.args.held.now.facts c.args.counts x) found c.in-Ok.ensures.may c.in-Ok.ensures.price c.in-Err-plan_replace.ensures.refused (rw (sym c.standing-named.ensures) e)) c.refused_by_book.ensures.answer in told
+    let told = IfOk-weaker c.refused_by_book.result _ _ (λ a e. λ h x. book-refused (market c.args.participants.now c.args.instruments.now) h c.args.book.now.facts c.args.held.now.facts c.args.counts (sender c.args.taken.now) c.args.request.now c.args.moment order c.in-Ok.price c.in-Err-plan_replace.refusal (answer_of a) (c.parts_are_read_alone.ensures h c.args.book.now.facts c.args.held.now.facts c.args.counts x) found c.in-Ok.ensures.may c.in-Ok.ensures.price (c.in-Err-plan_replace.ensures.refused order (record { own = record { id = c.args.request.now.original_id; found = found }; number = refl })) (rw (sym c.standing-named.ensures) e)) c.refused_by_book.ensures.answer in told

@@ -15,7 +15,7 @@ returns-then-order-gt0-clause-step c = λ rs ledger h.
       listed = record {
         ledger = ledger;
         slots = c.put.ensures rs live ledger h.listed.slots;
-        named = rw grown (c.add_name.ensures.named rs r (sym c.name_of-name.ensures) refl h.listed);
+        named = rw grown (c.add_name.ensures.named rs r refl h.listed);
       };
       ordered = c.enter_ladder.ensures.ordered;
       ladders = ladders-joined rs r c.args.orders.now.ladders.items c.enter_ladder.new.ladders.items live h.ladders (rw c.row_of.ensures at c.enter_ladder.ensures.held);

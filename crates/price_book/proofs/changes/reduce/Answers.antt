@@ -22,13 +22,7 @@ returns-then-slot-quantity-clause-step c = λ rs h.
     let n = c.args.number in
     let s : Slot = c.in-Some.slot.now in
     let some : slot_at c.args.orders.now.slots.entries n ≡ Some s = sym c.get.ensures.value ∙ ap option_copied c.in-Some.is in
-    rw (sym (reduced-all n c.args.quantity rs (seen_slot s) (kept-some n s rs c.args.orders.now.slots.entries some h.listed.slots) (omega (arith, c.if-slot-quantity.true)))) (c.take_off.ensures.step rs h)
-
-pub take_off-requires-clause-here : goal.take_off-requires-clause-here
-take_off-requires-clause-here c =
-    let s : Slot = c.in-Some.slot.now in
-    let some : slot_at c.args.orders.now.slots.entries c.args.number ≡ Some s = sym c.get.ensures.value ∙ ap option_copied c.in-Some.is in
-    (s, some, sym c.terms_of-terms.ensures)
+    rw (sym (reduced-all n c.args.quantity rs (seen_slot s) (kept-some n s rs c.args.orders.now.slots.entries some h.listed.slots) (omega (arith, c.if-slot-quantity.true)))) (c.leave.ensures.step rs h)
 
 pub reduce_ladder-requires-clause-ranked : goal.reduce_ladder-requires-clause-ranked
 reduce_ladder-requires-clause-ranked c =
