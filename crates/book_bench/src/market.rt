@@ -80,6 +80,9 @@ pub(crate) fn replace(
     price: Price,
 ) -> Result<()> {
     let units = quantity(49);
+    if book.used(who, id) {
+        return Err(anyhow!("used"));
+    }
     let Some(order) = book.order(who, old) else {
         return Err(anyhow!("unknown"));
     };

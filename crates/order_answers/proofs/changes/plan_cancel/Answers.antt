@@ -1,6 +1,7 @@
-use Rattle.std.proofs.Common.{◌≡◌, ◌∙◌, ap, sym, length, Some, option_map, refl, ◌+◌, false}
+use Rattle.std.proofs.Common.{◌≡◌, ◌∙◌, ap, sym, length, Some, option_map, refl, ◌+◌, false, arith}
 use Rattle.std.proofs.lemmas.Result.{IfOk-weaker}
 use Rattle.venue_rules.specs.Book.{Resting, find_order}
+use Rattle.price_book.specs.Plans.{cancel_plan}
 use Rattle.price_book.specs.Views.{seen}
 use Rattle.venue_rules.specs.declared.refusals.ChangeRefusal.TheVariants.{DuplicateClOrdId}
 use Rattle.venue_rules.specs.declared.replies.Standing.{Standing}
@@ -9,6 +10,7 @@ use Rattle.cross_delay.specs.Plan.{Plan as DelayPlan}
 use Rattle.order_answers.specs.Parts.{Parts}
 use Rattle.order_answers.specs.Market.{market, sender}
 use Rattle.order_answers.proofs.Changing.{cancel-again, cancel-planned, order-listed}
+use Rattle.order_answers.proofs.Turning.{book-made}
 use Rattle.order_answers.proofs.changes.plan_cancel.Goals as goal
 
 pub returns-in_default-clause-planned : goal.returns-in_default-clause-planned
@@ -36,3 +38,26 @@ returns-clause-planned c = λ h x.
     alone found (sym c.if-is_used.ensures) (c.in_ok-plan.ensures.planned order (record { own = record { id = c.args.request.now.original_id; found = found }; number = refl }))
     (c.in_ok-replies.ensures.items ∙ c.cancel_reply-reply.ensures (market c.args.participants.now c.args.instruments.now) h refl (ap (λ n. n + 1) (sym alone.reports)))
     (c.of.ensures ∙ ap (λ (q : DelayPlan). let y : Parts = record { delay_first = false; delay = q.facts; book = c.in_ok-plan.plan.facts; replies = c.in_ok-replies.replies.items } in y) c.nothing-nothing.ensures)
+
+pub plan_cancel-requires : goal.plan_cancel-requires
+plan_cancel-requires c =
+    let order : Resting = seen c.in-Some.order in
+    let found : find_order c.args.book.now.facts c.args.taken.now.from c.args.request.now.original_id ≡ Some order = sym c.order.ensures.found ∙ ap (option_map seen) c.in-Some.is in
+    (order, record { own = record { id = c.args.request.now.original_id; found = found }; number = refl })
+
+pub of-requires-clause-trades : goal.of-requires-clause-trades
+of-requires-clause-trades c =
+    let order : Resting = seen c.in-Some.order in
+    let found : find_order c.args.book.now.facts c.args.taken.now.from c.args.request.now.original_id ≡ Some order = sym c.order.ensures.found ∙ ap (option_map seen) c.in-Some.is in
+    let made : c.in_ok-plan.plan ≡ cancel_plan order c.args.taken.now.from c.args.request.now.order_id = c.in_ok-plan.ensures.planned order (record { own = record { id = c.args.request.now.original_id; found = found }; number = refl }) in
+    rw made (omega arith)
+
+pub returns-clause-made : goal.returns-clause-made
+returns-clause-made c =
+    let order : Resting = seen c.in-Some.order in
+    let found : find_order c.args.book.now.facts c.args.taken.now.from c.args.request.now.original_id ≡ Some order = sym c.order.ensures.found ∙ ap (option_map seen) c.in-Some.is in
+    let made : c.in_ok-plan.plan ≡ cancel_plan order c.args.taken.now.from c.args.request.now.order_id = c.in_ok-plan.ensures.planned order (record { own = record { id = c.args.request.now.original_id; found = found }; number = refl }) in
+    book-made (length c.args.instruments.now) c.plan_cancel.new.self c.args.held.now c.of.result
+    (rw c.of.ensures c.in_ok-plan.ensures.made)
+    (rw (c.of.ensures, made) refl)
+    (ap (λ p. p.delay) c.of.ensures ∙ ap (λ q. q.facts) c.nothing-nothing.ensures)

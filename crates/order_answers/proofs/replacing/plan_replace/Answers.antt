@@ -1,6 +1,7 @@
-use Rattle.std.proofs.Common.{◌≡◌, ◌∙◌, ap, sym, length, Some, option_map, refl, arith}
+use Rattle.std.proofs.Common.{ℕ, ◌<◌, nat_le, false, ◌≡◌, ◌∙◌, ap, sym, length, Some, option_map, refl, arith}
+use Rattle.std.proofs.lemmas.Bool.Decides.{nat_tests}
 use Rattle.std.proofs.lemmas.Result.{IfOk-weaker}
-use Rattle.venue_rules.specs.Book.{Resting, find_order}
+use Rattle.venue_rules.specs.Book.{Resting, filled, find_order}
 use Rattle.venue_rules.specs.Market.{Market}
 use Rattle.venue_rules.specs.declared.replies.Standing.{Standing}
 use Rattle.price_book.specs.Views.{seen}
@@ -70,3 +71,12 @@ returns-in-Err-plan_replace-clause-planned c =
     let order : Resting = seen c.in-Some.order in
     let found : find_order c.args.book.now.facts c.args.taken.now.from c.args.request.now.original_id ≡ Some order = sym c.order.ensures.found ∙ ap (option_map seen) c.in-Some.is in
     let told = IfOk-weaker c.refused_by_book.result _ _ (λ a e. λ h x. book-refused (market c.args.participants.now c.args.instruments.now) h c.args.book.now.facts c.args.held.now.facts c.args.counts (sender c.args.taken.now) c.args.request.now c.args.moment order c.in-Ok.price c.in-Err-plan_replace.refusal (answer_of a) (c.parts_are_read_alone.ensures h c.args.book.now.facts c.args.held.now.facts c.args.counts x) found c.in-Ok.ensures.may c.in-Ok.ensures.price (c.in-Err-plan_replace.ensures.refused order (record { own = record { id = c.args.request.now.original_id; found = found }; number = refl })) (rw (sym c.standing-named.ensures) e)) c.refused_by_book.ensures.answer in told
+
+pub plan_replace-requires : goal.plan_replace-requires
+plan_replace-requires c =
+    let order : Resting = seen c.in-Some.order in
+    let found : find_order c.args.book.now.facts c.args.taken.now.from c.args.request.now.original_id ≡ Some order = sym c.order.ensures.found ∙ ap (option_map seen) c.in-Some.is in
+    (order, record { own = record { id = c.args.request.now.original_id; found = found }; number = refl }, more c.args.request.now.quantity (filled order) c.in-Ok.ensures.may.more)
+  where
+    more : (a b : ℕ) → nat_le a b ≡ false → b < a
+    more a b h = grind (arith, nat_tests)
