@@ -33,18 +33,6 @@ fn compare_number(slots: &Numbered, number: u64, who: Who, id: &Identifier) -> O
     }
 }
 
-// How the name of a key's order compares with a participant's identifier of this mark. The order is looked up only where the marks
-// do not decide.
-fn compare(slots: &Numbered, key: NameKey, mark: u64, who: Who, id: &Identifier) -> Ordering
-    ensures { result ≡ key_order slots.now.entries key mark who id.now }
-{
-    match key.mark.cmp(&mark) {
-        Ordering::Less => Ordering::Less,
-        Ordering::Equal => compare_number(slots, key.number, who, id),
-        Ordering::Greater => Ordering::Greater,
-    }
-}
-
 fn lowered(order: Ordering) -> Ordering
     ensures { result ≡ lowered order }
 {
@@ -55,7 +43,7 @@ fn lowered(order: Ordering) -> Ordering
 }
 
 #[derive(Drop)]
-/// Keys, to find the first place of a name of this mark.
+/// Keys, to find the first place of a name of this mark. An order is looked up only where the marks do not decide.
 pub(crate) struct FirstProbe<'a> {
     pub(crate) slots: &'a Numbered,
     pub(crate) keys: &'a [NameKey],
@@ -76,12 +64,17 @@ impl<'a> Probe for FirstProbe<'a> {
 
     fn compare(&mut self, k: usize, who: Who, id: &Identifier) -> Ordering {
         self.count += 1;
-        compare(self.slots, self.keys[k], self.mark, who, id)
+        let key = self.keys[k];
+        match key.mark.cmp(&self.mark) {
+            Ordering::Less => Ordering::Less,
+            Ordering::Equal => compare_number(self.slots, key.number, who, id),
+            Ordering::Greater => Ordering::Greater,
+        }
     }
 }
 
 #[derive(Drop)]
-/// Keys, to find the place behind a name of this mark.
+/// Keys, to find the place behind a name of this mark. An order is looked up only where the marks do not decide.
 pub(crate) struct LastProbe<'a> {
     pub(crate) slots: &'a Numbered,
     pub(crate) keys: &'a [NameKey],
@@ -102,6 +95,11 @@ impl<'a> Probe for LastProbe<'a> {
 
     fn compare(&mut self, k: usize, who: Who, id: &Identifier) -> Ordering {
         self.count += 1;
-        lowered(compare(self.slots, self.keys[k], self.mark, who, id))
+        let key = self.keys[k];
+        match key.mark.cmp(&self.mark) {
+            Ordering::Less => Ordering::Less,
+            Ordering::Equal => lowered(compare_number(self.slots, key.number, who, id)),
+            Ordering::Greater => Ordering::Greater,
+        }
     }
 }
