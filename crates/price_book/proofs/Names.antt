@@ -14,7 +14,7 @@ use Rattle.std.proofs.Math.Seq.{get_or-append_seam}
 use Rattle.venue_rules.specs.Book.{Resting}
 use Rattle.sorted_names.specs.declared.names.Name.{Name}
 use Rattle.sorted_names.specs.Search.{AreRising, IsPlace}
-use Rattle.sorted_names.specs.Names.{mark_of, name_at, name_cmp, place_cmp, name_order, marked_order, spelled_order, lowered, closed, IsIndex, IsFirst}
+use Rattle.sorted_names.specs.Names.{mark_of, name_at, name_cmp, place_cmp, marked_order, spelled_order, lowered, closed, IsIndex, IsFirst}
 use Rattle.sorted_names.specs.Names.{answer_at as name_answer, answer_behind as name_behind}
 use Rattle.sorted_names.proofs.Ordered.{name_total, then-less, nat-less, rising-at, rising-behind, first-found, none-found}
 use Rattle.sorted_names.proofs.Inserted.{added}

@@ -1,4 +1,4 @@
-use Rattle.std.proofs.Common.{◌≡◌, ◌∙◌, ap, sym, ℕ, List, Some, None, length, ◌==◌, arith}
+use Rattle.std.proofs.Common.{◌≡◌, ◌∙◌, ap, sym, List, Some, None, length, ◌==◌, arith}
 use Rattle.venue_rules.specs.Book.{Resting}
 use Rattle.price_book.specs.declared.row.Row.{Row}
 use Rattle.price_book.specs.declared.slot.Slot.{Slot}
