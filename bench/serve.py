@@ -1,19 +1,24 @@
 """Times what a counterparty hears of a venue that is served over TCP, beside a venue of stock parts, in turn."""
 
+import multiprocessing
 import os
 import statistics
 import subprocess
 import sys
 import time
 
+sys.path.insert(0, "examples/hostile")
+from bytes import Attack  # noqa: E402
+
 PROGRAM = "crates/venue_main/out/venue_main"
 FILES = ("--participants", "examples/participants.toml", "--instruments", "examples/instruments.toml")
 NAMES = ("ALPHA", "BETA", "GAMMA", "DELTA", "EPSILON")
 ENDLESS = "1000000000"  # turns
-TURNS = 5
+TURNS = 9
 ROUND_TRIPS = 2_000
 RECORDED = 10  # of so many messages one is sent where each is a row of a trail
 IDLE = 10.0  # seconds
+ATTACKED = 0.3  # seconds, before round trips are timed beside hostile bytes
 CONFINED = 2  # processors
 TICKS = os.sysconf("SC_CLK_TCK")
 # messages that are refused without a look at the book, and orders that rest and are cancelled
@@ -50,10 +55,10 @@ class Venue:
             fields = file.read().rsplit(")", 1)[1].split()
         return (int(fields[11]) + int(fields[12])) / TICKS
 
-    def load(self, place, symbol, messages, how):
-        """What the load client tells, by its words."""
+    def load(self, place, symbol, messages, how, who=0):
+        """What the load client tells, by its words, as the participant of this place."""
         self.runs += 1
-        words = [f"{place}/load", str(self.port), NAMES[0], symbol, str(messages), how, str(self.runs)]
+        words = [f"{place}/load", str(self.port + who), NAMES[who], symbol, str(messages), how, str(self.runs)]
         said = subprocess.run(words, check=True, capture_output=True, text=True).stdout.split()
         return dict(zip(said[::2], map(int, said[1::2])))
 
@@ -90,14 +95,19 @@ def measure(venue, place, messages):
     return figures
 
 
+def spread(figures, digits=0):
+    """The middle of the turns, and the least and the greatest."""
+    least, middle, most = (f"{each:.{digits}f}" for each in (min(figures), statistics.median(figures), max(figures)))
+    return f"{middle} ({least} to {most})"
+
+
 def compare(turns):
-    """The middle of the turns, and the ratio of ours to the peer's."""
+    """Ours beside the peer's, each the middle of its turns, and the ratio of the two in a turn."""
     for kind, _ in KINDS:
-        told = []
-        for at, what in enumerate(("a second", "us of the processor", "p50 us", "p99 us")):
-            mine, theirs = (statistics.median(figures[kind][at] for figures in each) for each in turns)
-            told.append(f"{what} {mine:.0f} beside {theirs:.0f} ({mine / theirs:.2f})")
-        print(f"{kind}: " + ", ".join(told), flush=True)
+        for at, what in enumerate(("messages a second", "us of the processor each", "us of a round trip, p50", "us of a round trip, p99")):
+            mine, theirs = ([figures[kind][at] for figures in each] for each in turns)
+            ratios = [one / other for one, other in zip(mine, theirs)]
+            print(f"{kind}: {what}: {statistics.median(mine):.0f} beside {statistics.median(theirs):.0f}, ratio {spread(ratios, 2)}", flush=True)
 
 
 def idle(venue, place):
@@ -114,6 +124,45 @@ def idle(venue, place):
     print(f"{venue.name}: five idle participants take {(venue.spent() - before) / IDLE * 100:.1f} % of a processor", flush=True)
     for holder in holders:
         holder.terminate()
+
+
+def attack(port):
+    """Sends hostile bytes to ALPHA's port without an end."""
+    Attack(port, "bench").run(float("inf"))
+
+
+def beside_attack(venue, place, port):
+    """A turn of BETA's round trips, while hostile bytes come to a port, where one is given: the middle, and the 99th of 100."""
+    sender = multiprocessing.Process(target=attack, args=(port,), daemon=True)
+    if port:
+        sender.start()
+        time.sleep(ATTACKED)
+    told = venue.load(place, KINDS[1][1], ROUND_TRIPS, "in-turn", 1)
+    if port:
+        if not sender.is_alive():
+            raise SystemExit("bench/serve: the hostile sender has ended")
+        sender.kill()
+        sender.join()
+    return told["p50_us"], told["p99_us"]
+
+
+def hostile(port, place):
+    """What hostile bytes on one participant's port do to the round trips of another: beside none, and beside as many that come to
+    another venue on this machine, which take as much of the processors."""
+    venue, other = ours(port), ours(port + 100)
+    states = {"alone": 0, "beside hostile bytes to another venue": other.port, "beside hostile bytes on another port": venue.port}
+    found = {state: [] for state in states}
+    try:
+        for _ in range(TURNS):
+            for state, attacked in states.items():
+                found[state].append(beside_attack(venue, place, attacked))
+    finally:
+        for each in (venue, other):
+            each.process.terminate()
+            each.process.wait()
+    for state, turns in found.items():
+        middle, last = zip(*turns)
+        print(f"{state}: p50 {spread(middle)} us, p99 {spread(last)} us", flush=True)
 
 
 def fresh(path):
@@ -157,6 +206,8 @@ def main():
         os.sched_setaffinity(0, processors[:CONFINED])
         in_turn(started(port, place, peers), place, messages, False)
         os.sched_setaffinity(0, processors)
+    print("a participant's round trips:", flush=True)
+    hostile(port, place)
     print("each message a row of a trail in a file, a transaction each:", flush=True)
     venues = [ours(port, "--trail", fresh(f"{place}/serve.trail"))]
     if peers == "recorded":
