@@ -25,7 +25,7 @@ use venue_worker::{Clock, Outgoing};
 pub enum Collect {
     /// The seat was not full.
     Nothing,
-    /// A reply was sent, which contracts alone see.
+    /// A reply was sent; which one, contracts alone see.
     Sent { app: Snapshot<BoxedApp> },
     /// The mark dropped the line.
     Cut,
