@@ -1,6 +1,6 @@
--- What a connection has promised after one write and another.
-use Rattle.std.proofs.Common.{◌≡◌, ℕ, List, [], ◌++◌, refl, sym, ap, ◌∙◌, append_assoc, append-nil, Option, None, Some, Result, Ok, Err, MatchResult}
-use Rattle.std.specs.Io.KnownBytes.{Appends, append_known}
+-- What a connection has promised after one write and another, and what is to come once some that was read ahead is given.
+use Rattle.std.proofs.Common.{◌≡◌, ℕ, Bool, true, false, cond, List, [], ◌++◌, sym, ap, ◌∙◌, append_assoc, append-nil, Option, None, Some, Result, Ok, Err, MatchResult}
+use Rattle.std.specs.Io.KnownBytes.{Appends, Consumes, append_known, prepend_known}
 use Rattle.std.proofs.KnownBytes.{Appends-trans}
 use Rattle.gateway.specs.declared.line.LineFault.{LineFault}
 use Rattle.tcp_line.specs.Link.{Link, TookPart, promised, due}
@@ -25,3 +25,10 @@ pub given_after : (old mid new : Link) (bytes : List ℕ) (r : Result Unit LineF
     → MatchResult r (λ _. Appends (promised old) (promised new) bytes) (λ _. TookPart old.taken new.taken (due old bytes))
 given_after old mid new bytes (Ok x) first none same next = rw (same, none) (passed old.taken mid.taken new.taken old.waiting bytes first next)
 given_after old mid new bytes (Err e) first none same next = part_after old.taken mid.taken new.taken old.waiting bytes first next
+
+-- what leaves the front of what was read ahead leaves what is to come; and where that is known to nobody it stays so
+pub given_ahead : (unknown : Bool) (behind : Option (List ℕ)) (old new bytes : List ℕ) → old ≡ bytes ++ new
+    → Consumes (cond unknown None (prepend_known old behind)) (cond unknown None (prepend_known new behind)) bytes
+given_ahead true behind old new bytes split = tt
+given_ahead false None old new bytes split = tt
+given_ahead false (Some xs) old new bytes split = ap (λ l. l ++ xs) split ∙ append_assoc bytes new xs

@@ -1,12 +1,14 @@
 -- What contracts see of a connection, and what reading and writing do to it.
-use Rattle.std.specs.Prelude.{◌≡◌, ℕ, Bool, true, false, List, [], ◌++◌, take, Option}
+use Rattle.std.specs.Prelude.{◌≡◌, ◌≢◌, ℕ, Bool, true, false, List, [], ◌++◌, length, min, take, Option}
 use Rattle.std.specs.Io.KnownBytes.{Appends, Consumes, Keeps, IsAtEnd, append_known}
 use Rattle.gateway.specs.declared.line.Read.{Read}
 use Rattle.gateway.specs.declared.line.Read.TheVariants as read
 
--- what is to come, where that is known; what the system took, where that is known; and what waits to be given to it
+-- what is to come, where that is known; what of it was read ahead; what the system took, where that is known; and what waits to be given
+-- to it
 pub record Link : Type 0 where
   pub coming : Option (List ℕ)
+  pub ahead : List ℕ
   pub taken : Option (List ℕ)
   pub waiting : List ℕ
 
@@ -34,9 +36,21 @@ HasRead old new read.Quiet buffer = Keeps old new
 HasRead old new read.Ended buffer = Keeps old new × IsAtEnd new
 HasRead old new read.Fault buffer = Keeps old new
 
--- before a read that told no fault, all that waited was given to the system
+-- where bytes were read ahead the first of them are given, and the others stay ahead; nothing else is told before they are given
+abbrev pub GivesAhead : Read → List ℕ → List ℕ → List ℕ → Type 0
+GivesAhead (read.Got count) old new buffer = old ≢ [] → (count ≡ min (length old) 256) × (old ≡ take count buffer ++ new)
+GivesAhead read.Quiet old new buffer = old ≡ []
+GivesAhead read.Ended old new buffer = old ≡ []
+GivesAhead read.Fault old new buffer = old ≡ []
+
+-- all that waited was given to the system
+abbrev pub GivesAll : Link → Link → Type 0
+GivesAll old new = Appends old.taken new.taken old.waiting × (new.waiting ≡ [])
+
+-- all that waited was given to the system before it was asked for more, unless a fault was told; and nothing before what was read ahead was
+-- given
 abbrev pub HasFlushed : Read → Link → Link → Type 0
-HasFlushed (read.Got count) old new = Appends old.taken new.taken old.waiting × (new.waiting ≡ [])
-HasFlushed read.Quiet old new = Appends old.taken new.taken old.waiting × (new.waiting ≡ [])
-HasFlushed read.Ended old new = Appends old.taken new.taken old.waiting × (new.waiting ≡ [])
+HasFlushed (read.Got count) old new = (old.ahead ≡ [] → GivesAll old new) × (old.ahead ≢ [] → (new.taken ≡ old.taken) × (new.waiting ≡ old.waiting))
+HasFlushed read.Quiet old new = GivesAll old new
+HasFlushed read.Ended old new = GivesAll old new
 HasFlushed read.Fault old new = Unit {0}

@@ -1,57 +1,81 @@
-//! One connection: bytes from a peer, and bytes to it, which may wait a little.
-ghost use Rattle.std.specs.Prelude.{◌≡◌, [], MatchResult};
-ghost use Rattle.std.specs.Io.KnownBytes.{Appends};
-ghost use Rattle.tcp_line.specs.Link.{HasRead, TookPart, promised, due, kept};
+//! One connection: bytes from a peer, which may be read ahead, and bytes to it, which may wait a little.
+ghost use Rattle.std.specs.Prelude.{◌≡◌, [], ◌++◌, length, min, take, IfOk, MatchResult, false};
+ghost use Rattle.std.specs.Io.Buffered.{reader_buffer, reader_remaining};
+ghost use Rattle.std.specs.Io.KnownBytes.{Appends, Consumes};
+ghost use Rattle.tcp_line.specs.Link.{GivesAhead, HasRead, TookPart, promised, due, kept};
 ghost use Rattle.gateway.specs.Said.{IsWithin};
 
 use crate::giving::give;
 use gateway::line::{LineFault, Read as Answer};
 use gateway::piece::PIECE;
 use std::alloc::Global;
-use std::io::{ErrorKind, Read, Write};
+use std::io;
+use std::io::{BufRead, BufReader, ErrorKind, Read, Write};
 use std::marker::Model;
 use std::time::Clock;
 
 /// No more bytes wait than these.
 const MOST_WAITING: usize = 65_536;
 
-/// A connection between what is read and what is written. What was written may wait, so that one call of the system takes it
-/// with what is written after it.
+/// No more bytes are given at once than these: a message or two. Whoever reads goes through all that it was given before it hands a
+/// message on, and the worker has nothing to do until then.
+const MOST_GIVEN: usize = 256;
+
+/// A connection between what is read and what is written. One call of the system reads what many turns are given. What was written
+/// may wait, so that one call takes it with what is written after it.
 #[derive(Drop)]
 pub struct Connection<I: Read, O: Write> {
-    input: I,
+    input: BufReader<I>,
     output: O,
     waiting: Vec<u8>,
 }
 
 impl<I: Read, O: Write> Model for Connection<I, O> {
+    ghost use Rattle.std.specs.Io.Buffered.{reader_buffer, reader_remaining};
     ghost use Rattle.tcp_line.specs.Link.{Link};
 
     ghost Value = { Link };
 
-    ghost view = { λ c. record { coming = I.remaining c.input; taken = O.contents c.output; waiting = c.waiting.items } };
+    ghost view = { λ c. record { coming = reader_remaining I.remaining c.input; ahead = reader_buffer c.input; taken = O.contents c.output; waiting = c.waiting.items } };
 }
 
 impl<I: Read, O: Write> Connection<I, O> {
-    /// Between these two; nothing waits.
-    pub fn new(alloc: Global, input: I, output: O) -> Connection<I, O>
-        ensures { result ≡ record { coming = I.remaining input; taken = O.contents output; waiting = [] } }
+    /// Between these two; nothing was read ahead, and nothing waits. An error where there is no memory for what is read ahead.
+    pub fn new(alloc: Global, input: I, output: O) -> io::Result<Connection<I, O>>
+    where
+        I: Drop,
+        O: Drop,
+        ensures { IfOk result (λ connection. connection ≡ record { coming = I.remaining input; ahead = []; taken = O.contents output; waiting = [] }) }
     {
-        Connection {
+        let input = BufReader::new(alloc, input)?;
+        Ok(Connection {
             input,
             output,
             waiting: Vec::new(alloc),
-        }
+        })
     }
 
-    /// Reads once. The peer has ended where the system says so and nothing is to come; a fault is any other refusal than that
-    /// there is nothing yet.
+    /// Whether bytes are held that were read ahead.
+    pub fn is_ahead(&self) -> bool
+        ensures ahead { self.now.ahead ≡ [] → result ≡ false }
+        ensures not_ahead { result ≡ false → self.now.ahead ≡ [] }
+    {
+        !self.input.buffer().is_empty()
+    }
+
+    /// Gives what was read ahead, and asks the system only where nothing was. The peer has ended where the system says so and nothing
+    /// is to come; a fault is any other refusal than that there is nothing yet.
     pub fn read(&mut self, buffer: &mut [u8; PIECE]) -> Answer
         ensures within { IsWithin result }
         ensures bytes { HasRead self.old.coming self.new.coming result buffer.new }
+        ensures ahead { GivesAhead result self.old.ahead self.new.ahead buffer.new }
         ensures written { (self.new.taken ≡ self.old.taken) × (self.new.waiting ≡ self.old.waiting) }
     {
-        match self.input.read(&mut buffer[..]) {
+        if self.is_ahead() {
+            let count = self.give_ahead(buffer);
+            return Answer::Got { count };
+        }
+        match self.input.read(&mut buffer[..MOST_GIVEN]) {
             Ok(0) => Answer::Ended,
             Ok(count) => Answer::Got { count },
             Err(error) => match error.kind() {
@@ -60,6 +84,20 @@ impl<I: Read, O: Write> Connection<I, O> {
                 _ => Answer::Fault,
             },
         }
+    }
+
+    // Gives the first of what was read ahead, and how many they are.
+    fn give_ahead(&mut self, buffer: &mut [u8; PIECE]) -> usize
+        ensures count { result ≡ min (length self.old.ahead) 256 }
+        ensures ahead { self.old.ahead ≡ take result buffer.new ++ self.new.ahead }
+        ensures coming { Consumes self.old.coming self.new.coming (take result buffer.new) }
+        ensures written { (self.new.taken ≡ self.old.taken) × (self.new.waiting ≡ self.old.waiting) }
+    {
+        let ahead = self.input.buffer();
+        let count = ahead.len().min(MOST_GIVEN);
+        buffer[..count].copy_from_slice(&ahead[..count]);
+        self.input.consume(count);
+        count
     }
 
     /// Takes all bytes, which may wait, or a first part of them and of those that waited, and then a fault.

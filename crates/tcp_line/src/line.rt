@@ -1,7 +1,7 @@
 //! A line over one listener and at most one connection.
 ghost use Rattle.std.specs.Prelude.{◌≡◌, ◌≢◌, ◌^◌, ◌-◌, [], ◌∷◌, ◌++◌, IfOk, MatchResult, min};
 ghost use Rattle.gateway.specs.Said.{IsWithin, Accepted, faults_in};
-ghost use Rattle.tcp_line.specs.Link.{HasFlushed, HasRead};
+ghost use Rattle.tcp_line.specs.Link.{GivesAhead, HasFlushed, HasRead};
 
 use crate::account::{Account, past_of};
 use crate::activity::Activity;
@@ -101,7 +101,7 @@ impl<T: Clock + Drop> TcpLine<T> {
         self.registry
             .register(&mut SourceFd(&descriptor), STREAM, Interest::READABLE)?;
         let output = stream.try_clone()?;
-        Ok(Connection::new(self.alloc, stream, output))
+        Connection::new(self.alloc, stream, output)
     }
 
     // Ends the connection that there is, and takes the next.
@@ -115,7 +115,7 @@ impl<T: Clock + Drop> TcpLine<T> {
         self.next_connection()
     }
 
-    // Gives the system what waits, and reads once. A connection that told a fault is let go.
+    // Reads once. A connection that told a fault is let go.
     fn hear(&mut self, buffer: &mut [u8; PIECE]) -> Read
         ensures within { IsWithin result }
         ensures same { self.new.account ≡ self.old.account }
@@ -146,7 +146,9 @@ impl<T: Clock + Drop> TcpLine<T> {
     }
 }
 
-// Gives the system what waits, and reads once.
+// Reads once. The system is given what waits before it is asked, and not before what was read ahead is given, so that one call of the
+// system carries the replies to all that another one read. A read that heard nothing has asked the system: so nothing waits any more
+// after the turns that found nothing, after which a thread goes to sleep.
 fn hear_out<I: io::Read, O: io::Write, T: Clock>(
     connection: &mut Connection<I, O>,
     clock: &T,
@@ -154,8 +156,12 @@ fn hear_out<I: io::Read, O: io::Write, T: Clock>(
 ) -> Read
     ensures within { IsWithin result }
     ensures bytes { HasRead connection.old.coming connection.new.coming result buffer.new }
+    ensures ahead { GivesAhead result connection.old.ahead connection.new.ahead buffer.new }
     ensures written { HasFlushed result connection.old connection.new }
 {
+    if connection.is_ahead() {
+        return connection.read(buffer);
+    }
     match connection.flush(clock) {
         Err(_) => Read::Fault,
         Ok(()) => connection.read(buffer),
@@ -188,6 +194,7 @@ impl<T: Clock + Drop> Line for TcpLine<T> {
             Read::Ended => Given::Ended,
             Read::Fault => Given::Fault,
         };
+        // (Of what was read ahead as well: a gate does not rest while bytes are held.)
         match given {
             Given::Quiet => {}
             _ => self.activity.note(),
