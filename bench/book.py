@@ -1,4 +1,4 @@
-"""Times book_bench and its peer in C++ in turn, at several sizes, and prints the nanoseconds of each request and their ratio."""
+"""Times book_bench and its peers in C++ in turn, at several sizes, and prints the nanoseconds of each request and their ratio."""
 
 import os
 import subprocess
@@ -18,6 +18,9 @@ SIZES = (
     (100, 1_000, 256, 0),
 )
 KINDS = ("rest", "replace", "cancel", "fill", "picture", "plain")
+# how many rooms came and went
+ROOMS_GONE = (1_000, 10_000, 100_000, 1_000_000)
+ROOM_KINDS = ("request", "quote", "hit")
 TURNS = 4
 
 
@@ -29,6 +32,27 @@ def times(words):
 def best(words, turns):
     told = [times(words) for _ in range(turns)]
     return {kind: min(it[kind] for it in told) for kind in told[0]}
+
+
+# All turns of a program and its peer, in turn.
+def in_turn(words, peer, turns):
+    told = [(times(words), times(peer)) for _ in range(turns)]
+    return [one for one, _ in told], [other for _, other in told]
+
+
+# A row for each count of rooms gone: the best of the turns, the ratio, and in brackets the ratio of each turn.
+def time_rooms(timed, place):
+    print("| rooms gone | " + " | ".join(f"{kind}: ns | C++ | ratio (of each turn)" for kind in ROOM_KINDS) + " |")
+    print("|---" * (1 + 3 * len(ROOM_KINDS)) + "|")
+    for gone in ROOMS_GONE:
+        size = [str(gone), str(timed)]
+        ours, theirs = in_turn([PROGRAM, "rooms", *size], [os.path.join(place, "rooms_peer"), *size], TURNS)
+        cells = [f"{gone:,}"]
+        for kind in ROOM_KINDS:
+            one, other = min(it[kind] for it in ours), min(it[kind] for it in theirs)
+            each = ", ".join(f"{a[kind] / max(b[kind], 1):.2f}" for a, b in zip(ours, theirs))
+            cells += [str(one), str(other), f"{one / max(other, 1):.2f} ({each})"]
+        print("| " + " | ".join(cells) + " |", flush=True)
 
 
 def main():
@@ -47,6 +71,7 @@ def main():
                 print(f"  {kind}: {book[kind]} ns, C++ {peer[kind]} ns, ratio {book[kind] / max(peer[kind], 1):.1f}")
             elif kind in book and book[kind]:
                 print(f"  {kind}: {book[kind]} ns an order", flush=True)
+    time_rooms(timed, place)
 
 
 if __name__ == "__main__":
