@@ -51,7 +51,7 @@ impl<'a, N: Net<Listener = TcpListener, Stream = TcpStream> + Clock + Drop> Conn
         stream.set_nodelay(true)?;
         stream.set_nonblocking(true)?;
         let output = stream.try_clone()?;
-        Ok(Connection::new(self.alloc, stream, output))
+        Connection::new(self.alloc, stream, output)
     }
 
     // Gives up the connection, if there is one, and tells of it.
