@@ -18,6 +18,7 @@ TURNS = 9
 ROUND_TRIPS = 2_000
 RECORDED = 10  # of so many messages one is sent where each is a row of a trail
 IDLE = 10.0  # seconds
+BESIDE = 20_000  # round trips beside hostile bytes
 ATTACKED = 0.3  # seconds, before round trips are timed beside hostile bytes
 CONFINED = 2  # processors
 TICKS = os.sysconf("SC_CLK_TCK")
@@ -126,29 +127,49 @@ def idle(venue, place):
         holder.terminate()
 
 
-def attack(port):
+class Sender(Attack):
+    """A sender of hostile bytes, which are counted where another process reads them."""
+
+    def __init__(self, port, total):
+        self.total = total
+        super().__init__(port, "bench")
+
+    @property
+    def sent(self):
+        return self.total.value
+
+    @sent.setter
+    def sent(self, count):
+        self.total.value = count
+
+
+def attack(port, total):
     """Sends hostile bytes to ALPHA's port without an end."""
-    Attack(port, "bench").run(float("inf"))
+    Sender(port, total).run(float("inf"))
 
 
 def beside_attack(venue, place, port):
-    """A turn of BETA's round trips, while hostile bytes come to a port, where one is given: the middle, and the 99th of 100."""
-    sender = multiprocessing.Process(target=attack, args=(port,), daemon=True)
+    """A turn of BETA's round trips, of orders that meet no other, while hostile bytes come to a port, where one is given: the middle, the
+    99th of 100, and the hostile bytes a second."""
+    total = multiprocessing.Value("q", 0)
+    sender = multiprocessing.Process(target=attack, args=(port, total), daemon=True)
     if port:
         sender.start()
         time.sleep(ATTACKED)
-    told = venue.load(place, KINDS[1][1], ROUND_TRIPS, "in-turn", 1)
+    before, since = total.value, time.monotonic()
+    told = venue.load(place, KINDS[0][1], BESIDE, "in-turn", 1)
+    sent = (total.value - before) / (time.monotonic() - since)
     if port:
-        if not sender.is_alive():
-            raise SystemExit("bench/serve: the hostile sender has ended")
+        if not sent:
+            raise SystemExit("bench/serve: the hostile sender sends nothing")
         sender.kill()
         sender.join()
-    return told["p50_us"], told["p99_us"]
+    return told["p50_us"], told["p99_us"], sent
 
 
 def hostile(port, place):
-    """What hostile bytes on one participant's port do to the round trips of another: beside none, and beside as many that come to
-    another venue on this machine, which take as much of the processors."""
+    """What hostile bytes on one participant's port do to the round trips of another: beside none, and beside those of the same sender to
+    another venue on this machine."""
     venue, other = ours(port), ours(port + 100)
     states = {"alone": 0, "beside hostile bytes to another venue": other.port, "beside hostile bytes on another port": venue.port}
     found = {state: [] for state in states}
@@ -161,8 +182,8 @@ def hostile(port, place):
             each.process.terminate()
             each.process.wait()
     for state, turns in found.items():
-        middle, last = zip(*turns)
-        print(f"{state}: p50 {spread(middle)} us, p99 {spread(last)} us", flush=True)
+        middle, last, sent = zip(*turns)
+        print(f"{state}: p50 {spread(middle)} us, p99 {spread(last)} us, {spread(sent)} hostile bytes a second", flush=True)
 
 
 def fresh(path):
