@@ -148,7 +148,8 @@ impl<T: Clock + Drop> TcpLine<T> {
 
 // Reads once. The system is given what waits before it is asked, and not before what was read ahead is given, so that one call of the
 // system carries the replies to all that another one read. A read that heard nothing has asked the system: so nothing waits any more
-// after the turns that found nothing, after which a thread goes to sleep.
+// after turns that read and heard nothing, after which a thread goes to sleep. (One that may not read, since many messages are ready,
+// sleeps until the bell or 100 ms.)
 fn hear_out<I: io::Read, O: io::Write, T: Clock>(
     connection: &mut Connection<I, O>,
     clock: &T,
@@ -194,7 +195,7 @@ impl<T: Clock + Drop> Line for TcpLine<T> {
             Read::Ended => Given::Ended,
             Read::Fault => Given::Fault,
         };
-        // (Of what was read ahead as well: a gate does not rest while bytes are held.)
+        // (Of what was read ahead as well: a gate does not rest behind a read that gave bytes.)
         match given {
             Given::Quiet => {}
             _ => self.activity.note(),
