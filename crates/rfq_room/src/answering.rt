@@ -188,7 +188,7 @@ pub(crate) fn draft_answer(
     let Some(quote) = kept.find_quote(&response.quote_id) else {
         return Err(response_refusal(ResponseCause::UnknownQuote));
     };
-    let Some(room) = kept.quote_room(&response.quote_id) else {
+    let Some(room) = kept.room(quote.room) else {
         return Err(response_refusal(ResponseCause::UnknownQuote));
     };
     let decision = decide_room(kept, who, room, quote, response, moment);
