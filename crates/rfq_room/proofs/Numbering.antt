@@ -1,8 +1,10 @@
-use Rattle.std.proofs.Common.{◌≡◌, refl, sym, ap, ◌∙◌, ℕ, zero, suc, ◌+◌, ◌-◌, ◌≤◌, ◌<◌, ◌^◌, Bool, true, false, cond, ◌==◌, List, [], ◌∷◌, length, map, find, Option, Some, None, Result, Ok, Err, Bor, option_map, eq-eqb, bytes_eq, decimal, arith}
-use Rattle.std.specs.List.{IsFirstAndRest, slice_get}
+use Rattle.std.proofs.Common.{◌≡◌, refl, sym, ap, ◌∙◌, ℕ, zero, suc, ◌+◌, ◌-◌, ◌*◌, ◌≤◌, ◌<◌, ◌^◌, Bool, true, false, cond, ◌==◌, List, [], ◌∷◌, length, get_or, take, map, find, Option, Some, None, Bor, option_map, eq-eqb, bytes_eq, decimal, arith}
+use Rattle.std.specs.Char.{digit_value}
+use Rattle.std.specs.Str.Parse.{AllDigits, digits_value_after}
+use Rattle.std.specs.List.{slice_get}
 use Rattle.std.proofs.lemmas.Bool.{eqb-true}
 use Rattle.std.specs.Slice.{IsItemAt}
-use Rattle.std.proofs.lemmas.Fmt.{decimal_injective}
+use Rattle.std.proofs.lemmas.Fmt.{decimal_digit, decimal_injective, decimal_nonempty, first_decimal}
 use Rattle.std.proofs.lemmas.Option.{slice_get_past, slice_get_read}
 use Rattle.std.proofs.lemmas.Slice.Eq.{bytes_eq-Decides}
 use Rattle.venue_rules.specs.Rooms.{printed}
@@ -68,42 +70,27 @@ printed-none num letter id (x ∷ xs) k none from few =
     let first : num x ≡ k = from.0 in
     rw (none (num x) (omega (arith, first, few))) (printed-none num letter id xs (suc k) none from.1 (omega (arith, few)))
 
--- an identifier that is printed
-
-pub digits-of : (letter n : ℕ) (id : List ℕ) → bytes_eq (printed letter n) id ≡ true → printed letter n ≡ id
-digits-of letter n id e = (bytes_eq-Decides (printed letter n) id).0 e
-
-pub not-true : (b : Bool) → (b ≡ true → ⊥) → b ≡ false
-not-true true h = absurd (h refl)
-not-true false h = refl
-
 -- what is lent of a list at a place
 
 pub got : {X : Type 0} (xs : List X) (i : ℕ) (r : Option (Bor X)) → IsItemAt xs i r → option_map (λ (x : Bor X). x.now) r ≡ slice_get xs i
 got xs i None h = sym (slice_get_past xs i h.3)
 got xs i (Some x) h = sym (slice_get_read xs (length xs) i x.now refl h.3.0 h.1)
 
--- what is the same, and what is not
+-- the digits of a number begin with 0 where they are 0 alone
+zero-alone : (n : ℕ) → n < 2 ^ 64 → get_or (decimal n) 0 0 ≡ 48 → length (decimal n) ≡ 1
+zero-alone zero h e = ap length (decimal_digit 0 (omega arith))
+zero-alone (suc n) h e = absurd (omega (arith, e, first_decimal (suc n) (omega arith) h))
 
-pub some-same : (m n : ℕ) → Some m ≡ Some n → m ≡ n
-some-same m n h = cc
+pub plain-decimal : (n : ℕ) → n < 2 ^ 64 → (0 < length (decimal n)) × (get_or (decimal n) 0 0 ≡ 48 → length (decimal n) ≡ 1)
+plain-decimal n h = (decimal_nonempty n h, zero-alone n h)
 
-pub true-false : true ≡ false → ⊥
-true-false h = cc
+-- digits behind others make the number no less
+value-more : (n : ℕ) (ds : List ℕ) → n ≤ digits_value_after 10 n ds
+value-more n [] = omega arith
+value-more n (d ∷ ds) = let more = value-more (n * 10 + digit_value d) ds in omega (arith, more)
 
-pub ok-err : {X E : Type 0} (r : Result X E) (x : X) (e : E) → r ≡ Ok x → r ≡ Err e → ⊥
-ok-err (Ok y) x e h k = cc
-ok-err (Err y) x e h k = cc
-
-pub ok-same : {E : Type 0} (r : Result ℕ E) (m n : ℕ) → r ≡ Ok m → r ≡ Ok n → m ≡ n
-ok-same (Ok y) m n h k = cc
-ok-same (Err y) m n h k = cc
-
-pub no-length : (id : List ℕ) (letter : ℕ) (ds : List ℕ) → id ≡ letter ∷ ds → length id ≡ 0 → ⊥
-no-length id letter ds e h = let more : length id ≡ suc (length ds) = ap length e in absurd (omega (arith, more, h))
-
-pub first-rest : (xs : List ℕ) (x : ℕ) (rest : List ℕ) (letter : ℕ) (ds : List ℕ) → IsFirstAndRest xs x rest → xs ≡ letter ∷ ds → rest ≡ ds
-first-rest xs x rest letter ds h e = tail-same-of x letter rest ds (sym h.0 ∙ e)
-  where
-    tail-same-of : (x letter : ℕ) (rest ds : List ℕ) → x ∷ rest ≡ letter ∷ ds → rest ≡ ds
-    tail-same-of x letter rest ds h = cc
+-- a place of digits has a digit, and with those before it it makes no more than all do
+pub digit-of : (ds : List ℕ) (n m i : ℕ) → i < length ds → AllDigits 10 ds → digits_value_after 10 m ds ≡ n → (digit_value (get_or ds i 0) < 10) × (digits_value_after 10 m (take i ds) * 10 + digit_value (get_or ds i 0) ≤ n)
+digit-of [] n m i less digits e = absurd (omega (arith, less))
+digit-of (d ∷ ds) n m zero less digits e = (digits.0, omega (arith, e, value-more (m * 10 + digit_value d) ds))
+digit-of (d ∷ ds) n m (suc i) less digits e = digit-of ds n (m * 10 + digit_value d) i (omega (arith, less)) digits.1 e

@@ -1,61 +1,55 @@
 //! Rooms and quotes by their numbers, which are their places from 1, and by the identifiers that the venue prints for them.
-ghost use Rattle.std.specs.Prelude.{◌≡◌, ℕ, ◌<◌, ◌≤◌, ◌+◌, ◌^◌, ◌==◌, ◌∷◌, List, find, length, map, option_map, MatchOption, Some, bytes_eq, decimal, true, false};
+ghost use Rattle.std.specs.Prelude.{◌≡◌, ◌≢◌, ◌↔◌, IsTrue, ℕ, ◌<◌, ◌≤◌, ◌+◌, ◌*◌, ◌^◌, ◌==◌, find, length, slice_index, map, option_map, MatchOption, bytes_eq, decimal, true, false};
+ghost use Rattle.std.specs.Char.{digit_value};
 ghost use Rattle.venue_rules.specs.Rooms.{printed};
 ghost use Rattle.rfq_room.specs.Numbered.{AreFrom};
 
 use fix_dictionary::Identifier;
-use itoa::Buffer;
-use std::str;
 use venue_rules::{Room, RoomQuote};
 
-// Whether an identifier is the one that the venue prints for a number.
-fn is_printed(letter: u8, number: u64, id: &Identifier) -> bool
-    ensures value { result ≡ bytes_eq (printed letter number) id.now }
-    ensures bound { number < 2 ^ 64 }
+// The number so far with a digit behind it, where it is a digit and the number stays below 2 ^ 64.
+fn with_digit(number: u64, byte: u8) -> Option<u64>
+    ensures { MatchOption result (digit_value byte < 10 → 2 ^ 64 ≤ number * 10 + digit_value byte) (λ more. (digit_value byte < 10) × (more ≡ number * 10 + digit_value byte) × (more < 2 ^ 64)) }
 {
-    let mut buffer = Buffer::new();
-    let digits = buffer.format(number);
-    match id.as_slice().split_first() {
-        Some((first, rest)) => *first == letter && digits.as_bytes() == rest,
-        None => false,
+    if !byte.is_ascii_digit() {
+        return None;
     }
+    number.checked_mul(10)?.checked_add(u64::from(byte - b'0'))
 }
 
-// The number that is spelled by bytes.
+// Whether there are digits, and no 0 before others.
+fn is_plain(digits: &[u8]) -> bool
+    ensures { IsTrue result ↔ ((0 < length digits.now) × (slice_index digits.now 0 ≡ 48 → length digits.now ≡ 1)) }
+{
+    !digits.is_empty() && (digits[0] != b'0' || digits.len() == 1)
+}
+
+// The number of which these are the digits.
 fn spelled(digits: &[u8]) -> Option<u64>
-    ensures { (n : ℕ) → n < 2 ^ 64 → digits.now ≡ decimal n → result ≡ Some n }
+    ensures { MatchOption result ((n : ℕ) → n < 2 ^ 64 → digits.now ≢ decimal n) (λ n. (digits.now ≡ decimal n) × (n < 2 ^ 64)) }
 {
-    let Ok(text) = str::from_utf8(digits) else {
+    if !is_plain(digits) {
         return None;
-    };
-    let Ok(number) = text.parse::<u64>() else {
-        return None;
-    };
+    }
+    let mut number = 0;
+    for digit in digits {
+        let Some(more) = with_digit(number, *digit) else {
+            return None;
+        };
+        number = more;
+    }
     Some(number)
-}
-
-// What follows the first byte of an identifier.
-fn digits_of(id: &Identifier) -> &[u8]
-    ensures { (letter : ℕ) (ds : List ℕ) → id.now ≡ letter ∷ ds → result.now ≡ ds }
-{
-    let Some((_, digits)) = id.as_slice().split_first() else {
-        return id.as_slice();
-    };
-    digits
 }
 
 // The number for which the venue prints an identifier, if there is one.
 fn number_of(letter: u8, id: &Identifier) -> Option<u64>
     ensures { MatchOption result ((n : ℕ) → n < 2 ^ 64 → bytes_eq (printed letter n) id.now ≡ false) (λ n. (bytes_eq (printed letter n) id.now ≡ true) × (n < 2 ^ 64)) }
 {
-    let Some(number) = spelled(digits_of(id)) else {
+    let (first, digits) = id.as_slice().split_first()?;
+    if *first != letter {
         return None;
-    };
-    if is_printed(letter, number, id) {
-        Some(number)
-    } else {
-        None
     }
+    spelled(digits)
 }
 
 // How many rooms there are.

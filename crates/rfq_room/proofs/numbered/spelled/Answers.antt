@@ -1,23 +1,39 @@
-use Rattle.std.proofs.Common.{◌∙◌, ap, sym, subst, ℕ, List, Some, decimal}
-use Rattle.std.specs.Str.{IsUtf8}
-use Rattle.std.proofs.lemmas.Fmt.{IsAscii-decimal, parse-decimal}
-use Rattle.std.proofs.lemmas.Str.{IsUtf8-from_ascii}
-use Rattle.rfq_room.proofs.Numbering.{ok-err, ok-same}
+use Rattle.std.proofs.Common.{◌≡◌, ◌∙◌, ◌+◌, ◌*◌, ap, sym, subst, take, take_all, get_or, arith, decimal, true, false}
+use Rattle.std.specs.Char.{digit_value}
+use Rattle.std.specs.Str.Parse.{AllDigits, digits_value}
+use Rattle.std.proofs.lemmas.Fmt.{decimal_is_IsNumeral, decimal-digits_value}
+use Rattle.std.proofs.lemmas.Int.Digits.{digits_more, digits_value_more}
+use Rattle.std.proofs.lemmas.Str.Parse.{numerals_by_value, tells_digits}
+use Rattle.rfq_room.proofs.Numbering.{plain-decimal, digit-of}
 use Rattle.rfq_room.proofs.numbered.spelled.Goals as goal
+
+pub returns-then-not-is_plain : goal.returns-then-not-is_plain
+returns-then-not-is_plain c = λ n h e.
+    let never : true ≡ false = sym (c.is_plain.ensures.1 (rw e (plain-decimal n h))) ∙ c.if-not-is_plain.true in
+    cc
 
 pub returns-in_default : goal.returns-in_default
 returns-in_default c = λ n h e.
-    let bad = rw c.in_default.is at c.from_utf8.ensures.cases in
-    absurd (bad.0 (subst (λ (bs : List ℕ). IsUtf8 bs) (sym e) (IsUtf8-from_ascii (decimal n) (IsAscii-decimal n h))))
+    let is = decimal_is_IsNumeral n h in
+    let fits = digit-of c.args.digits.now n 0 c.loop-digit.digit-index (omega arith) (subst (AllDigits 10) (sym e) is.0.1) (ap (digits_value 10) e ∙ is.1) in
+    let over = rw c.in_default.is at c.with_digit.ensures in
+    absurd (omega (arith, h, fits.1, over fits.0, c.loop-digit.invariant.value))
 
-pub returns-in_default-parse : goal.returns-in_default-parse
-returns-in_default-parse c = λ n h e.
-    let same = rw c.in-Ok.is at c.from_utf8.ensures.cases in
-    let read = parse-decimal 64 n c.in-Ok.text.now c.parse.result h h (same.0 ∙ e) c.parse.ensures.value.0 in
-    absurd (ok-err c.parse.result _ _ read c.in_default-parse.is)
+pub loop-digit-preserved : goal.loop-digit-preserved
+loop-digit-preserved c =
+    let more = rw c.in-Some.is at c.with_digit.ensures in
+    record {
+      digits = digits_more 10 c.args.digits.now c.loop-digit.digit-index (omega arith) c.loop-digit.invariant.digits more.0;
+      value = more.1 ∙ ap (λ n. n * 10 + digit_value (get_or c.args.digits.now c.loop-digit.digit-index 0)) c.loop-digit.invariant.value ∙ sym (digits_value_more 10 c.args.digits.now c.loop-digit.digit-index (omega arith));
+      bound = more.2;
+    }
 
 pub returns : goal.returns
-returns c = λ n h e.
-    let same = rw c.in-Ok.is at c.from_utf8.ensures.cases in
-    let read = parse-decimal 64 n c.in-Ok.text.now c.parse.result h h (same.0 ∙ e) c.parse.ensures.value.0 in
-    ap (λ m. Some m) (ok-same c.parse.result _ _ c.in-Ok-parse.is read)
+returns c =
+    let ds = c.args.digits.now in
+    let plain = c.is_plain.ensures.0 c.if-not-is_plain.false in
+    let all : take c.loop-digit.digit-index ds ≡ ds = take_all c.loop-digit.digit-index ds (omega arith) in
+    let is : c.loop-digit.number ≡ digits_value 10 ds = c.loop-digit.invariant.value ∙ ap (digits_value 10) all in
+    let digits = subst (AllDigits 10) all c.loop-digit.invariant.digits in
+    let fits = c.loop-digit.invariant.bound in
+    (sym (ap decimal is ∙ decimal-digits_value (numerals_by_value (AllDigits 10) tells_digits) ds digits plain.0 plain.1 (omega (arith, is, fits))), fits)
