@@ -7,7 +7,7 @@ use Rattle.venue_rules.specs.declared.facts.RoomQuote.{RoomQuote}
 use Rattle.venue_rules.specs.declared.replies.Reply.{Reply}
 use Rattle.venue_rules.specs.Market.{Market}
 use Rattle.venue_rules.specs.Facts.{History, next_trade, trades}
-use Rattle.venue_rules.specs.Rooms.{find_quote}
+use Rattle.venue_rules.specs.Rooms.{find_quote, room_by_number}
 use Rattle.venue_rules.specs.Answer.{Answer, Sender}
 use Rattle.venue_rules.specs.Responses.{answer_response, passed, room_traded}
 use Rattle.rfq_room.specs.declared.decision.Decision.{Decision}
@@ -52,6 +52,10 @@ response-holds decision refusal c h k =
     found (Refuse x) c e = cc
     found Pass c e = cc
     found (Trade hit) c e = cc
+
+-- the room that a quote names by its number is the room of the quote
+pub room-of : (facts : List Fact) (id : List ℕ) (q : RoomQuote) → find_quote facts id ≡ Some q → room_by_number facts q.room ≡ quote_room facts id
+room-of facts id q e = sym (ap (room_with facts) e)
 
 -- a room that a quote is in is in a listed instrument
 pub room-listed : (count : ℕ) (facts : List Fact) (id : List ℕ) (r : Room) → are_listed count facts ≡ true → quote_room facts id ≡ Some r → r.instrument < count

@@ -346,7 +346,7 @@ fn accepted(
     ensures told { IfOk result (λ a. IsResponseTold instruments.now rooms.now.facts reports traded (sent_by sender (codes "AJ")) response.now plan.hit a.replies) }
 {
     let quote = rooms.find_quote(&response.quote_id).unwrap();
-    let room = rooms.quote_room(&response.quote_id).unwrap();
+    let room = rooms.room(quote.room).unwrap();
     accepted_in(
         alloc,
         instruments,
