@@ -29,15 +29,15 @@ def times(words):
     return {line.split()[0]: int(line.split()[1]) for line in said.splitlines()}
 
 
-def best(words, turns):
-    told = [times(words) for _ in range(turns)]
-    return {kind: min(it[kind] for it in told) for kind in told[0]}
-
-
 # All turns of a program and its peer, in turn.
 def in_turn(words, peer, turns):
     told = [(times(words), times(peer)) for _ in range(turns)]
     return [one for one, _ in told], [other for _, other in told]
+
+
+# The best of all turns.
+def best(told):
+    return {kind: min(it[kind] for it in told) for kind in told[0]}
 
 
 # A row for each count of rooms gone: the best of the turns, the ratio, and in brackets the ratio of each turn.
@@ -47,11 +47,11 @@ def time_rooms(timed, place):
     for gone in ROOMS_GONE:
         size = [str(gone), str(timed)]
         ours, theirs = in_turn([PROGRAM, "rooms", *size], [os.path.join(place, "rooms_peer"), *size], TURNS)
+        rooms, peer = best(ours), best(theirs)
         cells = [f"{gone:,}"]
         for kind in ROOM_KINDS:
-            one, other = min(it[kind] for it in ours), min(it[kind] for it in theirs)
             each = ", ".join(f"{a[kind] / max(b[kind], 1):.2f}" for a, b in zip(ours, theirs))
-            cells += [str(one), str(other), f"{one / max(other, 1):.2f} ({each})"]
+            cells += [str(rooms[kind]), str(peer[kind]), f"{rooms[kind] / max(peer[kind], 1):.2f} ({each})"]
         print("| " + " | ".join(cells) + " |", flush=True)
 
 
@@ -63,8 +63,8 @@ def main():
         # (where many rest, one request is timed in each instrument)
         timed_here = min(timed, instruments) if resting * instruments > 10_000 else timed
         size = [str(resting), str(gone), str(instruments), str(timed_here)]
-        book = best([PROGRAM, *size, str(plain)], TURNS)
-        peer = best([os.path.join(place, "book_peer"), *size], TURNS)
+        ours, theirs = in_turn([PROGRAM, *size, str(plain)], [os.path.join(place, "book_peer"), *size], TURNS)
+        book, peer = best(ours), best(theirs)
         print(f"{resting} rest on each side, {gone} gone, {instruments} instruments:")
         for kind in KINDS:
             if kind in peer:

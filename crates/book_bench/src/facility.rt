@@ -81,7 +81,7 @@ impl Facility {
         let Some(quote) = self.rooms.find_quote(&response.quote_id) else {
             return Err(anyhow!("no quote"));
         };
-        let Some(_room) = self.rooms.quote_room(&response.quote_id) else {
+        let Some(_room) = self.rooms.room(quote.room) else {
             return Err(anyhow!("no room"));
         };
         let maker = quote.maker;

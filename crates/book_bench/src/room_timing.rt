@@ -3,7 +3,7 @@
 use crate::facility::Facility;
 use crate::messages::{hit_of, quote_of, request_of};
 use crate::timing::{median, since};
-use anyhow::Result;
+use anyhow::{Result, anyhow};
 use participants::Who;
 use std::alloc::Global;
 use std::time::Instant;
@@ -55,15 +55,23 @@ fn time_request(rt: &HostRuntime, facility: &mut Facility, n: u64) -> Result<u64
 fn time_quote(rt: &HostRuntime, facility: &mut Facility, n: u64) -> Result<u64> {
     let quote = quote_of(rt.alloc(), n)?;
     let start = Instant::now(rt)?;
-    let _first = facility.quote(Who::of(3), &quote)?;
-    since(rt, start)
+    let first = facility.quote(Who::of(3), &quote)?;
+    let spent = since(rt, start)?;
+    if !first {
+        return Err(anyhow!("not the first"));
+    }
+    Ok(spent)
 }
 
 fn time_hit(rt: &HostRuntime, facility: &mut Facility, n: u64) -> Result<u64> {
     let hit = hit_of(n);
     let start = Instant::now(rt)?;
-    let _maker = facility.hit(Who::of(0), &hit)?;
-    since(rt, start)
+    let maker = facility.hit(Who::of(0), &hit)?;
+    let spent = since(rt, start)?;
+    if maker.place() != 3 {
+        return Err(anyhow!("another maker"));
+    }
+    Ok(spent)
 }
 
 // The n-th request, the quote in the room of the second before it, and the hit that ends the room of the fourth before it.
