@@ -140,11 +140,9 @@ fn draft_hit(
 ) -> Result<RoomPlan, AllocError>
     ensures { IfOk result (λ p. p ≡ hit_plan who moment quote.now room.now hit) }
 {
-    let mut facts = Vec::new(alloc);
     let trade = hit_trade(who, room, quote, hit.side, hit.price, moment);
-    facts.push(Fact::Traded(trade))?;
     let closing = Closing { room: room.number };
-    facts.push(Fact::Closed(closing))?;
+    let facts = vec![in alloc; Fact::Traded(trade), Fact::Closed(closing)]?;
     Ok(RoomPlan::of(facts, Vec::new(alloc), Some(hit)))
 }
 

@@ -21,6 +21,9 @@ use std::alloc::{AllocError, Global};
 use std::marker::Model;
 use venue_rules::{Fact, RoomQuote};
 
+// Room is made for no fewer facts at once.
+const AT_ONCE: usize = 64;
+
 // What a number is kept for: a room that has traded, a quote that was withdrawn or passed, a room in which there was a quote.
 #[derive(Clone, Copy)]
 enum Mark {
@@ -75,7 +78,8 @@ fn number_in(mark: Mark, fact: &Fact) -> Option<u64>
 // The numbers that facts more mark, for which there is room.
 fn add_numbers(numbers: &mut Numbers, mark: Mark, facts: &[Fact])
     requires { length facts.now ≤ numbers.old.room }
-    ensures { (n : ℕ) → has numbers.new.numbers n ≡ (has (numbers_in mark facts.now) n || has numbers.old.numbers n) }
+    ensures numbers { (n : ℕ) → has numbers.new.numbers n ≡ (has (numbers_in mark facts.now) n || has numbers.old.numbers n) }
+    ensures room { numbers.old.room ≤ numbers.new.room + length facts.now }
 {
     for fact in facts {
         if let Some(number) = number_in(mark, fact) {
@@ -104,7 +108,8 @@ fn name_in(named: Named, fact: &Fact) -> Option<Name>
 // The identifiers that facts more use, for which there is room.
 fn add_names(used: &mut UsedNames, named: Named, facts: &[Fact])
     requires { length facts.now ≤ used.old.room }
-    ensures { (who : ℕ) (id : List ℕ) → list_any (is_of who id) used.new.names ≡ (list_any (is_of who id) (names_in named facts.now) || list_any (is_of who id) used.old.names) }
+    ensures names { (who : ℕ) (id : List ℕ) → list_any (is_of who id) used.new.names ≡ (list_any (is_of who id) (names_in named facts.now) || list_any (is_of who id) used.old.names) }
+    ensures room { used.old.room ≤ used.new.room + length facts.now }
 {
     for fact in facts {
         if let Some(name) = name_in(named, fact) {
@@ -116,7 +121,8 @@ fn add_names(used: &mut UsedNames, named: Named, facts: &[Fact])
 // The last quotes after facts more, for which there is room.
 fn add_lasts(lasts: &mut Lasts, facts: &[Fact])
     requires { length facts.now ≤ lasts.old.room }
-    ensures { (room maker : ℕ) → last_in lasts.new.entries room maker ≡ option_or (last_number facts.now room maker) (last_in lasts.old.entries room maker) }
+    ensures entries { (room maker : ℕ) → last_in lasts.new.entries room maker ≡ option_or (last_number facts.now room maker) (last_in lasts.old.entries room maker) }
+    ensures room { lasts.old.room ≤ lasts.new.room + length facts.now }
 {
     for fact in facts {
         if let Some(quote) = quote_in(fact) {
@@ -142,12 +148,16 @@ impl Marks {
         }
     }
 
-    /// Makes room for so many facts.
+    /// Makes room for so many facts, where there is less.
     pub(crate) fn reserve(&mut self, count: usize) -> Result<(), AllocError>
         ensures kept { self.new.facts ≡ self.old.facts }
-        ensures room { IfOk result (λ _. self.new.spare.room ≡ count) }
+        ensures room { IfOk result (λ _. count ≤ self.new.spare.room) }
         ensures refused { OnErr result (self.new.spare.room ≡ self.old.spare.room) }
     {
+        if count <= self.room {
+            return Ok(());
+        }
+        let count = count.max(AT_ONCE);
         self.traded.reserve(count)?;
         self.withdrawn.reserve(count)?;
         self.quoted.reserve(count)?;
@@ -223,7 +233,7 @@ impl Marks {
     pub(crate) fn add(&mut self, facts: &Vec<Fact>)
         requires { length facts.now.items ≤ self.old.spare.room }
         ensures facts { self.new.facts ≡ self.old.facts ++ facts.now.items }
-        ensures room { self.new.spare.room ≡ 0 }
+        ensures room { self.old.spare.room ≡ self.new.spare.room + length facts.now.items }
     {
         add_numbers(&mut self.traded, Mark::Traded, facts);
         add_numbers(&mut self.withdrawn, Mark::Withdrawn, facts);
@@ -231,7 +241,7 @@ impl Marks {
         add_lasts(&mut self.lasts, facts);
         add_names(&mut self.requests, Named::Requests, facts);
         add_names(&mut self.quotes, Named::Quotes, facts);
-        self.room = 0;
+        self.room -= facts.len();
         self.past.add(facts);
     }
 }

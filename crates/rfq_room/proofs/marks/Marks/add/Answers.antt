@@ -1,4 +1,4 @@
-use Rattle.std.proofs.Common.{◌≡◌, ◌∙◌, ap, sym, ◌||◌, ◌++◌, List, nat_eq, arith}
+use Rattle.std.proofs.Common.{◌≡◌, ◌∙◌, ap, sym, ◌||◌, ◌++◌, List, length, nat_eq, arith}
 use Rattle.std.specs.List.{list_any}
 use Rattle.std.specs.Option.{option_or}
 use Rattle.sorted_names.specs.Names.{is_of}
@@ -18,16 +18,16 @@ invariant_of-self c =
     let added : List Fact = c.args.facts.now.items in
     let facts : facts_in c.add.new.self ≡ old ++ added = c.add.ensures in
     record {
-      traded = λ n. c.add_numbers.ensures n ∙ ap (λ fs. has (numbers_in mark.Traded fs) n || has c.self.inside.traded.numbers n) c.deref.ensures.value ∙ ap (λ b. has (numbers_in mark.Traded added) n || b) (c.self.invariant.traded n) ∙ any-added (nat_eq n) (number_in mark.Traded) old added ∙ ap (λ fs. has (numbers_in mark.Traded fs) n) (sym facts);
-      withdrawn = λ n. c.add_numbers-2.ensures n ∙ ap (λ fs. has (numbers_in mark.Withdrawn fs) n || has c.self.inside.withdrawn.numbers n) c.deref-2.ensures.value ∙ ap (λ b. has (numbers_in mark.Withdrawn added) n || b) (c.self.invariant.withdrawn n) ∙ any-added (nat_eq n) (number_in mark.Withdrawn) old added ∙ ap (λ fs. has (numbers_in mark.Withdrawn fs) n) (sym facts);
-      quoted = λ n. c.add_numbers-3.ensures n ∙ ap (λ fs. has (numbers_in mark.Quoted fs) n || has c.self.inside.quoted.numbers n) c.deref-3.ensures.value ∙ ap (λ b. has (numbers_in mark.Quoted added) n || b) (c.self.invariant.quoted n) ∙ any-added (nat_eq n) (number_in mark.Quoted) old added ∙ ap (λ fs. has (numbers_in mark.Quoted fs) n) (sym facts);
-      lasts = λ room maker. c.add_lasts.ensures room maker ∙ ap (λ fs. option_or (last_number fs room maker) (last_in c.self.inside.lasts.entries room maker)) c.deref-4.ensures.value ∙ ap (option_or (last_number added room maker)) (c.self.invariant.lasts room maker) ∙ last-added old added room maker ∙ ap (λ fs. last_number fs room maker) (sym facts);
-      requests = λ who id. c.add_names.ensures who id ∙ ap (λ fs. list_any (is_of who id) (names_in named.Requests fs) || list_any (is_of who id) c.self.inside.requests.names) c.deref-5.ensures.value ∙ ap (λ b. list_any (is_of who id) (names_in named.Requests added) || b) (c.self.invariant.requests who id) ∙ any-added (is_of who id) (name_in named.Requests) old added ∙ ap (λ fs. list_any (is_of who id) (names_in named.Requests fs)) (sym facts);
-      quotes = λ who id. c.add_names-2.ensures who id ∙ ap (λ fs. list_any (is_of who id) (names_in named.Quotes fs) || list_any (is_of who id) c.self.inside.quotes.names) c.deref-6.ensures.value ∙ ap (λ b. list_any (is_of who id) (names_in named.Quotes added) || b) (c.self.invariant.quotes who id) ∙ any-added (is_of who id) (name_in named.Quotes) old added ∙ ap (λ fs. list_any (is_of who id) (names_in named.Quotes fs)) (sym facts);
-      traded_room = omega arith;
-      withdrawn_room = omega arith;
-      quoted_room = omega arith;
-      lasts_room = omega arith;
-      requests_room = omega arith;
-      quotes_room = omega arith;
+      traded = λ n. c.add_numbers.ensures.numbers n ∙ ap (λ fs. has (numbers_in mark.Traded fs) n || has c.self.inside.traded.numbers n) c.deref.ensures.value ∙ ap (λ b. has (numbers_in mark.Traded added) n || b) (c.self.invariant.traded n) ∙ any-added (nat_eq n) (number_in mark.Traded) old added ∙ ap (λ fs. has (numbers_in mark.Traded fs) n) (sym facts);
+      withdrawn = λ n. c.add_numbers-2.ensures.numbers n ∙ ap (λ fs. has (numbers_in mark.Withdrawn fs) n || has c.self.inside.withdrawn.numbers n) c.deref-2.ensures.value ∙ ap (λ b. has (numbers_in mark.Withdrawn added) n || b) (c.self.invariant.withdrawn n) ∙ any-added (nat_eq n) (number_in mark.Withdrawn) old added ∙ ap (λ fs. has (numbers_in mark.Withdrawn fs) n) (sym facts);
+      quoted = λ n. c.add_numbers-3.ensures.numbers n ∙ ap (λ fs. has (numbers_in mark.Quoted fs) n || has c.self.inside.quoted.numbers n) c.deref-3.ensures.value ∙ ap (λ b. has (numbers_in mark.Quoted added) n || b) (c.self.invariant.quoted n) ∙ any-added (nat_eq n) (number_in mark.Quoted) old added ∙ ap (λ fs. has (numbers_in mark.Quoted fs) n) (sym facts);
+      lasts = λ room maker. c.add_lasts.ensures.entries room maker ∙ ap (λ fs. option_or (last_number fs room maker) (last_in c.self.inside.lasts.entries room maker)) c.deref-4.ensures.value ∙ ap (option_or (last_number added room maker)) (c.self.invariant.lasts room maker) ∙ last-added old added room maker ∙ ap (λ fs. last_number fs room maker) (sym facts);
+      requests = λ who id. c.add_names.ensures.names who id ∙ ap (λ fs. list_any (is_of who id) (names_in named.Requests fs) || list_any (is_of who id) c.self.inside.requests.names) c.deref-5.ensures.value ∙ ap (λ b. list_any (is_of who id) (names_in named.Requests added) || b) (c.self.invariant.requests who id) ∙ any-added (is_of who id) (name_in named.Requests) old added ∙ ap (λ fs. list_any (is_of who id) (names_in named.Requests fs)) (sym facts);
+      quotes = λ who id. c.add_names-2.ensures.names who id ∙ ap (λ fs. list_any (is_of who id) (names_in named.Quotes fs) || list_any (is_of who id) c.self.inside.quotes.names) c.deref-6.ensures.value ∙ ap (λ b. list_any (is_of who id) (names_in named.Quotes added) || b) (c.self.invariant.quotes who id) ∙ any-added (is_of who id) (name_in named.Quotes) old added ∙ ap (λ fs. list_any (is_of who id) (names_in named.Quotes fs)) (sym facts);
+      traded_room = omega (arith, c.add_numbers.ensures.room, ap length c.deref.ensures.value, c.self.invariant.traded_room);
+      withdrawn_room = omega (arith, c.add_numbers-2.ensures.room, ap length c.deref-2.ensures.value, c.self.invariant.withdrawn_room);
+      quoted_room = omega (arith, c.add_numbers-3.ensures.room, ap length c.deref-3.ensures.value, c.self.invariant.quoted_room);
+      lasts_room = omega (arith, c.add_lasts.ensures.room, ap length c.deref-4.ensures.value, c.self.invariant.lasts_room);
+      requests_room = omega (arith, c.add_names.ensures.room, ap length c.deref-5.ensures.value, c.self.invariant.requests_room);
+      quotes_room = omega (arith, c.add_names-2.ensures.room, ap length c.deref-6.ensures.value, c.self.invariant.quotes_room);
     }
