@@ -76,6 +76,7 @@ fn number_in(mark: Mark, fact: &Fact) -> Option<u64>
 }
 
 // The numbers that facts more mark, for which there is room.
+#[inline(always)]
 fn add_numbers(numbers: &mut Numbers, mark: Mark, facts: &[Fact])
     requires { length facts.now ≤ numbers.old.room }
     ensures numbers { (n : ℕ) → has numbers.new.numbers n ≡ (has (numbers_in mark facts.now) n || has numbers.old.numbers n) }
