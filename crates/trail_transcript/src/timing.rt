@@ -9,6 +9,7 @@ use audit_trail::Trail;
 use sef_moment::Moment;
 use sqlite::{Alter, Connection};
 use std::alloc::Global;
+use std::mem::drop;
 use std::time::Instant;
 use venue_rules::{RowText, TrailRow};
 
@@ -45,27 +46,29 @@ fn record_next<S: Alter>(alloc: Global, trail: &mut Trail<S>) -> Result<()> {
     Ok(())
 }
 
-fn record_rows<S: Alter>(alloc: Global, trail: &mut Trail<S>, rows: u64) -> Result<()> {
-    for _ in 0..rows {
-        record_next(alloc, trail)?;
-    }
-    Ok(())
-}
-
-/// Makes a trail in a new file, and says how many milliseconds it takes to record so many rows in it.
-pub fn time(rt: &HostRuntime, path: &str, rows: u64) -> Result<u64> {
-    let alloc = rt.alloc();
-    let conn = Connection::open(rt, path)?;
-    let Ok(mut trail) = Trail::create(alloc, conn, &make_files(alloc)?) else {
-        return Err(anyhow!("no trail was made"));
-    };
+// How many milliseconds it takes to record so many rows in a trail, which is dropped.
+fn time_over<S: Alter + Drop>(rt: &HostRuntime, mut trail: Trail<S>, rows: u64) -> Result<u64> {
     let start = Instant::now(rt)?;
-    record_rows(alloc, &mut trail, rows)?;
+    for _ in 0..rows {
+        record_next(rt.alloc(), &mut trail)?;
+    }
     let taken = start.elapsed(rt)?;
+    drop(trail);
     Ok(
         taken
             .as_secs()
             .saturating_mul(1000)
             .saturating_add(u64::from(taken.subsec_millis())),
     )
+}
+
+/// Makes a trail in a new file, and says how many milliseconds it takes to record so many rows in it.
+pub fn time(rt: &HostRuntime, path: &str, rows: u64) -> Result<u64> {
+    let alloc = rt.alloc();
+    let files = make_files(alloc)?;
+    let conn = Connection::open(rt, path)?;
+    let Ok(trail) = Trail::create(alloc, conn, &files) else {
+        return Err(anyhow!("no trail was made"));
+    };
+    time_over(rt, trail, rows)
 }
