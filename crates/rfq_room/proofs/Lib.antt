@@ -11,3 +11,4 @@ pub mod Marking
 pub mod Clearing
 pub mod Numbering
 pub mod Adding
+pub mod There

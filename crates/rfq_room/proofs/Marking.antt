@@ -1,20 +1,21 @@
-use Rattle.std.proofs.Common.{◌≡◌, refl, sym, ap, ◌∙◌, ℕ, ◌+◌, ◌<◌, Bool, true, false, cond, ◌||◌, ◌&&◌, ◌==◌, nat_eq, List, [], ◌∷◌, ◌++◌, length, get_or, take, filter_map, option_map, find, reverse, Option, Some, None, is_some}
+use Rattle.std.proofs.Common.{◌≡◌, refl, sym, ap, ◌∙◌, ℕ, ◌+◌, ◌<◌, Bool, true, false, cond, ◌||◌, ◌&&◌, ◌==◌, nat_eq, List, [], ◌∷◌, ◌++◌, length, get_or, take, All, filter_map, option_map, find, reverse, Option, Some, None, is_some}
 use Rattle.std.specs.List.{cons_option, list_any}
 use Rattle.std.specs.Option.{option_or}
 use Rattle.std.specs.Cmp.{nat_eq_equiv}
 use Rattle.std.proofs.lemmas.List.{append-nil, reverse-append}
 use Rattle.std.proofs.lemmas.List.Elements.{filter_map-append}
 use Rattle.std.proofs.lemmas.List.Folds.{find-append, list_any-append}
+use Rattle.std.proofs.lemmas.List.Sums.{count_by_more_no, count_by_more_yes, sum_by-append}
 use Rattle.sorted_names.specs.Names.{is_of}
 use Rattle.venue_rules.specs.declared.facts.Fact.{Fact}
 use Rattle.venue_rules.specs.declared.facts.Fact.TheVariants.{Entered, Traded, Removed, Held, Unheld, Asked, Quoted, Withdrawn, Closed}
 use Rattle.venue_rules.specs.declared.facts.RoomQuote.{RoomQuote}
 use Rattle.venue_rules.specs.Facts.{is_name, is_quote_id_used, is_request_id_used, quote_in, quotes}
 use Rattle.venue_rules.specs.Rooms.{first_quote, is_closed, is_last, is_withdrawn, last_quote}
+use Rattle.rfq_room.specs.declared.marks.Mark.{Mark}
 use Rattle.rfq_room.specs.declared.marks.Mark.TheVariants as mark
 use Rattle.rfq_room.specs.declared.marks.Named.TheVariants as named
-use Rattle.rfq_room.specs.Marked.{last_number, names_in, numbers_in}
-use Rattle.rfq_room.specs.Numbers.{has}
+use Rattle.rfq_room.specs.Marked.{AreThere, IsThere, count_of, is_marked, is_numbered, last_number, names_in}
 use Rattle.rfq_room.proofs.Readings.{found-any, take-read}
 
 -- One fact more of those that are added.
@@ -81,14 +82,30 @@ last-both facts added room maker =
 pub last-added : (facts added : List Fact) (room maker : ℕ) → option_or (last_number added room maker) (last_number facts room maker) ≡ last_number (facts ++ added) room maker
 last-added facts added room maker = or-number (last_quote added room maker) (last_quote facts room maker) ∙ ap (option_map (λ (q : RoomQuote). q.number)) (sym (last-both facts added room maker))
 
+-- the numbers that facts mark, once more
+
+pub there-same : (m : Mark) (facts added same : List Fact) (count : ℕ) → count ≡ count_of m facts → same ≡ added → AreThere facts added → All (IsThere count m) same
+there-same m facts added same count e f h = rw (e, f) (h m)
+
+-- the numbers that facts give
+
+pub number-given : (m : Mark) (fs : List Fact) (i : ℕ) (f : Fact) → i < length fs → f ≡ get_or fs i f → is_numbered m f ≡ true → count_of m (take (i + 1) fs) ≡ count_of m (take i fs) + 1
+number-given m fs i f h e given = count_by_more_yes (is_numbered m) fs i f h (ap (is_numbered m) (sym e) ∙ given)
+
+pub number-not_given : (m : Mark) (fs : List Fact) (i : ℕ) (f : Fact) → i < length fs → f ≡ get_or fs i f → is_numbered m f ≡ false → count_of m (take (i + 1) fs) ≡ count_of m (take i fs)
+number-not_given m fs i f h e given = count_by_more_no (is_numbered m) fs i f h (ap (is_numbered m) (sym e) ∙ given)
+
+pub count-added : (m : Mark) (facts added : List Fact) → count_of m (facts ++ added) ≡ count_of m facts + count_of m added
+count-added m facts added = sum_by-append (λ f. cond (is_numbered m f) 1 0) facts added
+
 -- What is marked is what the rules read.
 
 turned : (n m : ℕ) (b : Bool) → (nat_eq n m || b) ≡ (m == n || b)
 turned n m b = ap (λ c. c || b) (nat_eq_equiv.symm n m)
 
-pub traded-is : (fs : List Fact) (n : ℕ) → has (numbers_in mark.Traded fs) n ≡ is_closed fs n
+pub traded-is : (fs : List Fact) (n : ℕ) → is_marked mark.Traded fs n ≡ is_closed fs n
 traded-is [] n = refl
-traded-is (Closed c ∷ fs) n = turned n c.room (has (numbers_in mark.Traded fs) n) ∙ ap (λ b. c.room == n || b) (traded-is fs n)
+traded-is (Closed c ∷ fs) n = turned n c.room (is_marked mark.Traded fs n) ∙ ap (λ b. c.room == n || b) (traded-is fs n)
 traded-is (Entered e ∷ fs) n = traded-is fs n
 traded-is (Traded t ∷ fs) n = traded-is fs n
 traded-is (Removed r ∷ fs) n = traded-is fs n
@@ -98,9 +115,9 @@ traded-is (Asked r ∷ fs) n = traded-is fs n
 traded-is (Quoted q ∷ fs) n = traded-is fs n
 traded-is (Withdrawn w ∷ fs) n = traded-is fs n
 
-pub withdrawn-is : (fs : List Fact) (n : ℕ) → has (numbers_in mark.Withdrawn fs) n ≡ is_withdrawn fs n
+pub withdrawn-is : (fs : List Fact) (n : ℕ) → is_marked mark.Withdrawn fs n ≡ is_withdrawn fs n
 withdrawn-is [] n = refl
-withdrawn-is (Withdrawn w ∷ fs) n = turned n w.quote (has (numbers_in mark.Withdrawn fs) n) ∙ ap (λ b. w.quote == n || b) (withdrawn-is fs n)
+withdrawn-is (Withdrawn w ∷ fs) n = turned n w.quote (is_marked mark.Withdrawn fs n) ∙ ap (λ b. w.quote == n || b) (withdrawn-is fs n)
 withdrawn-is (Entered e ∷ fs) n = withdrawn-is fs n
 withdrawn-is (Traded t ∷ fs) n = withdrawn-is fs n
 withdrawn-is (Removed r ∷ fs) n = withdrawn-is fs n
@@ -110,9 +127,9 @@ withdrawn-is (Asked r ∷ fs) n = withdrawn-is fs n
 withdrawn-is (Quoted q ∷ fs) n = withdrawn-is fs n
 withdrawn-is (Closed c ∷ fs) n = withdrawn-is fs n
 
-quoted-any : (fs : List Fact) (n : ℕ) → has (numbers_in mark.Quoted fs) n ≡ list_any (λ (q : RoomQuote). q.room == n) (quotes fs)
+quoted-any : (fs : List Fact) (n : ℕ) → is_marked mark.Quoted fs n ≡ list_any (λ (q : RoomQuote). q.room == n) (quotes fs)
 quoted-any [] n = refl
-quoted-any (Quoted q ∷ fs) n = turned n q.room (has (numbers_in mark.Quoted fs) n) ∙ ap (λ b. q.room == n || b) (quoted-any fs n)
+quoted-any (Quoted q ∷ fs) n = turned n q.room (is_marked mark.Quoted fs n) ∙ ap (λ b. q.room == n || b) (quoted-any fs n)
 quoted-any (Entered e ∷ fs) n = quoted-any fs n
 quoted-any (Traded t ∷ fs) n = quoted-any fs n
 quoted-any (Removed r ∷ fs) n = quoted-any fs n
@@ -122,7 +139,7 @@ quoted-any (Asked r ∷ fs) n = quoted-any fs n
 quoted-any (Withdrawn w ∷ fs) n = quoted-any fs n
 quoted-any (Closed c ∷ fs) n = quoted-any fs n
 
-pub quoted-is : (fs : List Fact) (n : ℕ) → has (numbers_in mark.Quoted fs) n ≡ is_some (first_quote fs n)
+pub quoted-is : (fs : List Fact) (n : ℕ) → is_marked mark.Quoted fs n ≡ is_some (first_quote fs n)
 quoted-is fs n = quoted-any fs n ∙ sym (found-any (λ (q : RoomQuote). q.room == n) (quotes fs))
 
 pub requests-are : (fs : List Fact) (who : ℕ) (id : List ℕ) → list_any (is_of who id) (names_in named.Requests fs) ≡ is_request_id_used fs who id

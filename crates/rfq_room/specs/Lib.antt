@@ -20,7 +20,7 @@ pub mod Steps
 pub mod Told
 -- what is kept of the facts
 pub mod Past
-pub mod Numbers
+pub mod Flags
 pub mod Lasts
 pub mod Marked
 pub mod Numbered

@@ -1,17 +1,17 @@
 //! What has become of rooms and quotes, and the identifiers that were used.
-ghost use Rattle.std.specs.Prelude.{◌≡◌, ℕ, ◌+◌, ◌≤◌, ◌||◌, ◌++◌, [], length, is_some, option_map, IfOk, OnErr, List};
+ghost use Rattle.std.specs.Prelude.{◌≡◌, ℕ, ◌+◌, ◌≤◌, ◌||◌, ◌++◌, [], length, is_some, option_map, IfOk, OnErr, List, All};
 ghost use Rattle.std.specs.List.{list_any};
 ghost use Rattle.std.specs.Option.{option_or};
 ghost use Rattle.sorted_names.specs.Names.{is_of};
 ghost use Rattle.venue_rules.specs.Facts.{is_quote_id_used, is_request_id_used};
 ghost use Rattle.venue_rules.specs.Rooms.{first_quote, is_closed, is_live, is_replaced, is_withdrawn};
+ghost use Rattle.rfq_room.specs.Flags.{is_set};
 ghost use Rattle.rfq_room.specs.Lasts.{last_in};
-ghost use Rattle.rfq_room.specs.Marked.{last_number, name_in, names_in, number_in, numbers_in, still_open};
-ghost use Rattle.rfq_room.specs.Numbers.{has};
+ghost use Rattle.rfq_room.specs.Marked.{AreThere, IsThere, count_of, is_marked, is_numbered, last_number, name_in, names_in, number_in, still_open};
 
-use crate::facts::quote_in;
+use crate::facts::{quote_in, room_in};
+use crate::flags::Flags;
 use crate::lasts::Lasts;
-use crate::numbers::Numbers;
 use crate::past::Past;
 use fix_dictionary::Identifier;
 use participants::Who;
@@ -24,7 +24,7 @@ use venue_rules::{Fact, RoomQuote};
 // Room is made for no fewer facts at once.
 const AT_ONCE: usize = 64;
 
-// What a number is kept for: a room that has traded, a quote that was withdrawn or passed, a room in which there was a quote.
+// What a number is marked for: a room that has traded, a quote that was withdrawn or passed, a room in which there was a quote.
 #[derive(Clone, Copy)]
 enum Mark {
     Traded,
@@ -39,13 +39,14 @@ enum Named {
     Quotes,
 }
 
-/// What has become of rooms and quotes, and the identifiers that were used, each found by its hash; contracts see the facts of the day.
+/// What has become of rooms and quotes, by flags at the places of their numbers, and by their hashes the last quotes and the
+/// identifiers that were used; contracts see the facts of the day.
 #[derive(Drop)]
 pub(crate) struct Marks {
     past: Past,
-    traded: Numbers,
-    withdrawn: Numbers,
-    quoted: Numbers,
+    traded: Flags,
+    withdrawn: Flags,
+    quoted: Flags,
     lasts: Lasts,
     requests: UsedNames,
     quotes: UsedNames,
@@ -75,16 +76,32 @@ fn number_in(mark: Mark, fact: &Fact) -> Option<u64>
     }
 }
 
-// The numbers that facts more mark, for which there is room.
+// Whether the fact gives a number more that may be marked so: a room's, or a quote's.
+fn is_numbered(mark: Mark, fact: &Fact) -> bool
+    ensures { result ≡ is_numbered mark fact.now }
+{
+    match mark {
+        Mark::Traded => room_in(fact).is_some(),
+        Mark::Withdrawn => quote_in(fact).is_some(),
+        Mark::Quoted => room_in(fact).is_some(),
+    }
+}
+
+// A flag for each number that facts more give, for which there is room; that of each number that they mark, which is there, is set.
 #[inline(always)]
-fn add_numbers(numbers: &mut Numbers, mark: Mark, facts: &[Fact])
-    requires { length facts.now ≤ numbers.old.room }
-    ensures numbers { (n : ℕ) → has numbers.new.numbers n ≡ (has (numbers_in mark facts.now) n || has numbers.old.numbers n) }
-    ensures room { numbers.old.room ≤ numbers.new.room + length facts.now }
+fn add_flags(flags: &mut Flags, mark: Mark, facts: &[Fact])
+    requires there { All (IsThere (length flags.old.flags) mark) facts.now }
+    requires room { length facts.now ≤ flags.old.room }
+    ensures flags { (n : ℕ) → is_set flags.new.flags n ≡ (is_marked mark facts.now n || is_set flags.old.flags n) }
+    ensures count { length flags.new.flags ≡ length flags.old.flags + count_of mark facts.now }
+    ensures room { flags.old.room ≤ flags.new.room + length facts.now }
 {
     for fact in facts {
         if let Some(number) = number_in(mark, fact) {
-            numbers.add(number);
+            flags.set(number);
+        }
+        if is_numbered(mark, fact) {
+            flags.push();
         }
     }
 }
@@ -139,9 +156,9 @@ impl Marks {
     {
         Marks {
             past: Past::new(),
-            traded: Numbers::new(alloc),
-            withdrawn: Numbers::new(alloc),
-            quoted: Numbers::new(alloc),
+            traded: Flags::new(alloc),
+            withdrawn: Flags::new(alloc),
+            quoted: Flags::new(alloc),
             lasts: Lasts::new(alloc),
             requests: UsedNames::new(alloc),
             quotes: UsedNames::new(alloc),
@@ -187,21 +204,21 @@ impl Marks {
     pub(crate) fn has_quote(&self, room: u64) -> bool
         ensures { result ≡ is_some (first_quote self.now.facts room) }
     {
-        self.quoted.has(room)
+        self.quoted.is_set(room)
     }
 
     /// Whether the room has traded.
     pub(crate) fn is_closed(&self, room: u64) -> bool
         ensures { result ≡ is_closed self.now.facts room }
     {
-        self.traded.has(room)
+        self.traded.is_set(room)
     }
 
     /// Whether the quote was withdrawn or passed.
     pub(crate) fn is_withdrawn(&self, quote: u64) -> bool
         ensures { result ≡ is_withdrawn self.now.facts quote }
     {
-        self.withdrawn.has(quote)
+        self.withdrawn.is_set(quote)
     }
 
     /// Whether the maker quoted again in the room.
@@ -230,15 +247,16 @@ impl Marks {
         !self.is_closed(room) && moment.ms() <= end.ms()
     }
 
-    /// Facts more, for which there is room.
+    /// Facts more, for which there is room, of rooms and quotes that are there.
     pub(crate) fn add(&mut self, facts: &Vec<Fact>)
-        requires { length facts.now.items ≤ self.old.spare.room }
+        requires room { length facts.now.items ≤ self.old.spare.room }
+        requires there { AreThere self.old.facts facts.now.items }
         ensures facts { self.new.facts ≡ self.old.facts ++ facts.now.items }
         ensures room { self.old.spare.room ≡ self.new.spare.room + length facts.now.items }
     {
-        add_numbers(&mut self.traded, Mark::Traded, facts);
-        add_numbers(&mut self.withdrawn, Mark::Withdrawn, facts);
-        add_numbers(&mut self.quoted, Mark::Quoted, facts);
+        add_flags(&mut self.traded, Mark::Traded, facts);
+        add_flags(&mut self.withdrawn, Mark::Withdrawn, facts);
+        add_flags(&mut self.quoted, Mark::Quoted, facts);
         add_lasts(&mut self.lasts, facts);
         add_names(&mut self.requests, Named::Requests, facts);
         add_names(&mut self.quotes, Named::Quotes, facts);

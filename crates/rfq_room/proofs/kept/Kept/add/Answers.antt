@@ -8,7 +8,14 @@ use Rattle.rfq_room.specs.Openness.{open_room}
 use Rattle.rfq_room.specs.Standing.{contents}
 use Rattle.rfq_room.specs.Steps.{IsPlanOf}
 use Rattle.rfq_room.proofs.Clearing.{below-next, from-next, live-added, next-added, open-added, plan-quotes, plan-rooms}
+use Rattle.rfq_room.proofs.There.{plan-there}
 use Rattle.rfq_room.proofs.kept.Kept.add.Goals as goal
+
+pub add-requires-clause-there : goal.add-requires-clause-there
+add-requires-clause-there c =
+    let from = contents c.self.inside in
+    let made : IsPlanOf from c.args.facts.items = rw (← c.self.view_is) at c.requires in
+    plan-there from c.args.facts.items c.self.invariant.room_numbers c.self.invariant.quote_numbers made
 
 pub invariant_of-self : goal.invariant_of-self
 invariant_of-self c =

@@ -4,4 +4,4 @@ use Rattle.rfq_room.proofs.Marking.{traded-is}
 use Rattle.rfq_room.proofs.marks.Marks.is_closed.Goals as goal
 
 pub returns : goal.returns
-returns c = rw (← c.self.view_is) (c.has.ensures ∙ c.self.invariant.traded c.args.room ∙ traded-is (facts_in c.self.inside.past) c.args.room)
+returns c = rw (← c.self.view_is) (c.is_set.ensures ∙ c.self.invariant.traded c.args.room ∙ traded-is (facts_in c.self.inside.past) c.args.room)

@@ -4,4 +4,4 @@ use Rattle.rfq_room.proofs.Marking.{withdrawn-is}
 use Rattle.rfq_room.proofs.marks.Marks.is_withdrawn.Goals as goal
 
 pub returns : goal.returns
-returns c = rw (← c.self.view_is) (c.has.ensures ∙ c.self.invariant.withdrawn c.args.quote ∙ withdrawn-is (facts_in c.self.inside.past) c.args.quote)
+returns c = rw (← c.self.view_is) (c.is_set.ensures ∙ c.self.invariant.withdrawn c.args.quote ∙ withdrawn-is (facts_in c.self.inside.past) c.args.quote)

@@ -1,0 +1,20 @@
+use Rattle.std.specs.Prelude.{ℕ, zero, suc, ◌-◌, ◌≤◌, Bool, false, List, get_or}
+use Rattle.std.specs.Vec.{vec_capacity, vec_len}
+use Rattle.rfq_room.specs.declared.flags.Flags.TheInside.{Inside}
+
+-- the flags of the numbers from 1 on, and room for so many more
+pub record Known : Type 0 where
+  pub flags : List Bool
+  pub room : ℕ
+
+abbrev pub known : Inside → Known
+known a = record { flags = a.flags.items; room = vec_capacity a.flags - vec_len a.flags }
+
+-- the flag of a number is there, and set
+abbrev pub is_set : List Bool → ℕ → Bool
+is_set flags zero = false
+is_set flags (suc place) = get_or flags place false
+
+-- one of so many numbers from 1 on
+abbrev pub IsWithin : ℕ → ℕ → Type 0
+IsWithin count n = (1 ≤ n) × (n ≤ count)

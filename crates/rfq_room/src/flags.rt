@@ -1,0 +1,72 @@
+//! Flags of numbers, each at the place of its number from 1.
+ghost use Rattle.std.specs.Prelude.{◌≡◌, ℕ, ◌+◌, ◌≤◌, ◌||◌, [], length, nat_eq, IfOk};
+ghost use Rattle.rfq_room.specs.Flags.{IsWithin, is_set};
+
+use std::alloc::{AllocError, Global};
+use std::marker::Model;
+
+/// The flags of the numbers from 1 on, one more at a time.
+#[derive(Drop)]
+pub(crate) struct Flags {
+    flags: Vec<bool>,
+}
+
+impl Model for Flags {
+    ghost use Rattle.rfq_room.specs.Flags.{Known, known};
+
+    ghost Value = { Known };
+
+    ghost view = { known };
+}
+
+impl Flags {
+    pub(crate) fn new(alloc: Global) -> Flags
+        ensures { result.flags ≡ [] }
+    {
+        Flags {
+            flags: Vec::new(alloc),
+        }
+    }
+
+    /// Makes room for so many flags more.
+    pub(crate) fn reserve(&mut self, more: usize) -> Result<(), AllocError>
+        ensures flags { self.new.flags ≡ self.old.flags }
+        ensures room { IfOk result (λ _. more ≤ self.new.room) }
+        ensures grown { self.old.room ≤ self.new.room }
+    {
+        self.flags.reserve(more)
+    }
+
+    /// Whether the flag of the number is there, and set.
+    pub(crate) fn is_set(&self, number: u64) -> bool
+        ensures { result ≡ is_set self.now.flags number }
+    {
+        if number == 0 {
+            return false;
+        }
+        self.flags
+            .get((number - 1) as usize)
+            .copied()
+            .unwrap_or(false)
+    }
+
+    /// One flag more, which is not set, for which there is room.
+    pub(crate) fn push(&mut self)
+        requires { 1 ≤ self.old.room }
+        ensures flags { (n : ℕ) → is_set self.new.flags n ≡ is_set self.old.flags n }
+        ensures count { length self.new.flags ≡ length self.old.flags + 1 }
+        ensures room { self.old.room ≡ self.new.room + 1 }
+    {
+        self.flags.push_reserved(false);
+    }
+
+    /// Sets the flag of the number.
+    pub(crate) fn set(&mut self, number: u64)
+        requires { IsWithin (length self.old.flags) number }
+        ensures flags { (n : ℕ) → is_set self.new.flags n ≡ (nat_eq n number || is_set self.old.flags n) }
+        ensures count { length self.new.flags ≡ length self.old.flags }
+        ensures room { self.new.room ≡ self.old.room }
+    {
+        self.flags[(number - 1) as usize] = true;
+    }
+}
