@@ -1,5 +1,11 @@
 //! Texts that stand in more than one part of a transcript.
 
+use crate::refusals::Refusals;
+use anyhow::Result;
+use fix_dictionary::App;
+use fix_fields::{FieldFault, split};
+use fix_reading::read_app;
+use fix_tables::DictFault;
 use std::alloc::{AllocError, Global};
 
 /// Appends bytes with one byte in the place of another.
@@ -15,4 +21,57 @@ pub fn bytes_in(alloc: Global, text: &str) -> Result<Vec<u8>, AllocError> {
     let mut bytes = Vec::new(alloc);
     append_with(text.as_bytes(), b'|', 1, &mut bytes)?;
     Ok(bytes)
+}
+
+/// The application message of a body.
+pub fn app_of(alloc: Global, body: &[u8]) -> Result<Option<App>, AllocError> {
+    let fields = match split(alloc, body) {
+        Ok(fields) => fields,
+        Err(FieldFault::NoMemory) => return Err(AllocError),
+        Err(_) => return Ok(None),
+    };
+    match read_app(alloc, &fields) {
+        Ok(app) => Ok(Some(app)),
+        Err(DictFault::NoMemory) => Err(AllocError),
+        Err(_) => Ok(None),
+    }
+}
+
+/// The application message whose fields a text has, with `|` for SOH.
+pub fn app_in(alloc: Global, text: &str) -> Result<Option<App>, AllocError> {
+    let body = bytes_in(alloc, text)?;
+    app_of(alloc, &body)
+}
+
+/// How often a line says that its call is made, and the call.
+pub fn times_in(line: &str) -> (u32, &str) {
+    let Some((times, call)) = line
+        .strip_prefix("times ")
+        .and_then(|rest| rest.split_once(' '))
+    else {
+        return (1, line);
+    };
+    (times.parse::<u32>().unwrap_or(1), call)
+}
+
+fn write(words: &str, line: &str, told: &mut Vec<u8>) -> Result<(), AllocError> {
+    told.extend_from_slice(words.as_bytes())?;
+    told.extend_from_slice(line.as_bytes())?;
+    told.extend_from_slice(b"\n")
+}
+
+/// Appends words and a line, once more where a growth was refused.
+pub fn write_again(
+    words: &str,
+    line: &str,
+    told: &mut Vec<u8>,
+    refusals: &mut Refusals,
+) -> Result<()> {
+    let before = told.len();
+    if write(words, line, told).is_ok() {
+        return Ok(());
+    }
+    refusals.one_more()?;
+    told.truncate(before);
+    Ok(write(words, line, told)?)
 }

@@ -6,8 +6,9 @@ use crate::beside::market::Market;
 use crate::beside::sessions::Sessions;
 use crate::beside::times::Times;
 use crate::beside::together::{Together, resume_all};
+use crate::moments::start;
 use crate::texts::bytes_in;
-use anyhow::{Result, anyhow, bail};
+use anyhow::{Result, bail};
 use participants::Participants;
 use sef_moment::Moment;
 use std::alloc::{AllocError, Global};
@@ -15,9 +16,6 @@ use std::str;
 use venue_core::Venue;
 use venue_rules::fixture_instruments;
 use venue_world::{ListTrail, World};
-
-/// The moment of all, in milliseconds: 3 March 2025, 14:30 UTC.
-const START: u64 = 1_741_012_200_000;
 
 /// The delay between linked orders, in milliseconds.
 const DELAY: u64 = 15_000;
@@ -54,9 +52,7 @@ fn apart_of(alloc: Global, file: &str, t: Moment) -> Result<Apart> {
 }
 
 fn stage_of(alloc: Global, file: &str) -> Result<Stage> {
-    let Some(moment) = Moment::of_ms(START) else {
-        return Err(anyhow!("no moment"));
-    };
+    let moment = start();
     let together = together_of(alloc, file, moment)?;
     let apart = match apart_of(alloc, file, moment) {
         Ok(apart) => apart,

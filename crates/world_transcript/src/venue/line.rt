@@ -1,9 +1,13 @@
 //! The lines of a transcript.
 
+use crate::refusals::Refusals;
+use crate::telling::tell_line;
+use crate::texts::write_again;
 use crate::venue::market::Market;
 use crate::venue::message::{Sent, moment_in};
 use crate::venue::reading::{tell_room, tell_trades};
 use crate::venue::stage::Stage;
+use anyhow::Result;
 use sef_moment::Moment;
 use std::alloc::{AllocError, Global};
 use std::mem;
@@ -24,12 +28,11 @@ impl From<AllocError> for Trouble {
     }
 }
 
-// The market that is told, the venue that is played, and whether a refused call is made once more.
+// The market that is told, and the venue that is played.
 #[derive(Drop)]
 struct Play {
     market: Market,
     stage: Stage,
-    again: bool,
 }
 
 impl Play {
@@ -72,10 +75,11 @@ fn send_one(
     sent: Sent<'_>,
     place: u32,
     told: &mut Vec<u8>,
+    refusals: &mut Refusals,
 ) -> Result<(), Trouble> {
     let before = told.len();
     let first = play.stage.send(alloc, moment, sent, place, told);
-    if !play.again || first != Err(Trouble::NoMemory) {
+    if first != Err(Trouble::NoMemory) || !refusals.has_one_more() {
         return first;
     }
     told.truncate(before);
@@ -88,6 +92,7 @@ fn take_many(
     play: &mut Play,
     text: &str,
     told: &mut Vec<u8>,
+    refusals: &mut Refusals,
 ) -> Result<(), Trouble> {
     let (count, text) = text.split_once(' ').ok_or(Trouble::NoCall)?;
     let (after, text) = text.split_once(' ').ok_or(Trouble::NoCall)?;
@@ -99,7 +104,7 @@ fn take_many(
     let before = told.len();
     for place in 0..count {
         told.truncate(before);
-        send_one(alloc, play, moment, sent, place, told)?;
+        send_one(alloc, play, moment, sent, place, told, refusals)?;
     }
     Ok(())
 }
@@ -107,8 +112,7 @@ fn take_many(
 // Whether a held side is due.
 fn tell_due(play: &Play, after: &str, told: &mut Vec<u8>) -> Result<(), Trouble> {
     let due = play.stage.venue().due(moment_in(after)?);
-    let text = if due { "  yes\n" } else { "  no\n" };
-    told.extend_from_slice(text.as_bytes())?;
+    tell_line(if due { "yes" } else { "no" }, told)?;
     Ok(())
 }
 
@@ -127,10 +131,15 @@ fn tell_numbered(
 }
 
 // Makes the call of a line, and appends what is answered.
-fn call(alloc: Global, play: &mut Play, line: &str, told: &mut Vec<u8>) -> Result<(), Trouble> {
+fn call(
+    alloc: Global,
+    play: &mut Play,
+    line: &str,
+    told: &mut Vec<u8>,
+    refusals: &mut Refusals,
+) -> Result<(), Trouble> {
     let (word, rest) = line.split_once(' ').unwrap_or((line, ""));
     match word {
-        "again" => play.again = true,
         "market" => play.market = Market::new(alloc)?,
         "participants" => play.market.add_participants(alloc, rest)?,
         "related" => play.market.add_related(alloc, rest)?,
@@ -140,50 +149,36 @@ fn call(alloc: Global, play: &mut Play, line: &str, told: &mut Vec<u8>) -> Resul
         "due" => tell_due(play, rest, told)?,
         "trades" => tell_trades(alloc, play.stage.venue(), told)?,
         "room" => tell_numbered(alloc, play, rest, told)?,
-        "times" => take_many(alloc, play, rest, told)?,
+        "times" => take_many(alloc, play, rest, told, refusals)?,
         _ => take(alloc, play, word, rest, told)?,
     }
     Ok(())
 }
 
-// Makes the call of a line, once more where a growth was refused and that is to be done.
+// Makes the call of a line, once more where a growth was refused.
 fn call_again(
     alloc: Global,
     play: &mut Play,
     line: &str,
     told: &mut Vec<u8>,
+    refusals: &mut Refusals,
 ) -> Result<(), Trouble> {
     let before = told.len();
-    let first = call(alloc, play, line, told);
-    if !play.again || first != Err(Trouble::NoMemory) {
+    let first = call(alloc, play, line, told, refusals);
+    if first != Err(Trouble::NoMemory) || !refusals.has_one_more() {
         return first;
     }
     told.truncate(before);
-    call(alloc, play, line, told)
+    call(alloc, play, line, told, refusals)
 }
 
 fn tell_trouble(trouble: Trouble, told: &mut Vec<u8>) -> Result<(), AllocError> {
     let text = match trouble {
-        Trouble::NoCall => "  no call\n",
-        Trouble::NoFile => "  file refused\n",
-        Trouble::NoMemory => "  no memory\n",
+        Trouble::NoCall => "no call",
+        Trouble::NoFile => "file refused",
+        Trouble::NoMemory => "no memory",
     };
-    told.extend_from_slice(text.as_bytes())
-}
-
-fn write_line(line: &str, told: &mut Vec<u8>) -> Result<(), AllocError> {
-    told.reserve(line.len().saturating_add(1))?;
-    told.extend_from_slice(line.as_bytes())?;
-    told.push(b'\n')?;
-    Ok(())
-}
-
-// Appends a line, once more where a growth was refused.
-fn write(line: &str, told: &mut Vec<u8>) -> Result<(), AllocError> {
-    if write_line(line, told).is_ok() {
-        return Ok(());
-    }
-    write_line(line, told)
+    tell_line(text, told)
 }
 
 // Plays a line, and appends it with what is answered; a line that tells an answer is passed over.
@@ -192,17 +187,18 @@ fn play_line(
     play: &mut Play,
     line: &str,
     told: &mut Vec<u8>,
-) -> Result<(), AllocError> {
+    refusals: &mut Refusals,
+) -> Result<()> {
     if line.starts_with("  ") {
         return Ok(());
     }
-    write(line, told)?;
+    write_again("", line, told, refusals)?;
     if line.is_empty() || line.starts_with('#') {
         return Ok(());
     }
-    match call_again(alloc, play, line, told) {
+    match call_again(alloc, play, line, told, refusals) {
         Ok(()) => Ok(()),
-        Err(trouble) => tell_trouble(trouble, told),
+        Err(trouble) => Ok(tell_trouble(trouble, told)?),
     }
 }
 
@@ -211,21 +207,26 @@ fn play_lines(
     play: &mut Play,
     lines: &str,
     told: &mut Vec<u8>,
-) -> Result<(), AllocError> {
+    refusals: &mut Refusals,
+) -> Result<()> {
     for line in lines.lines() {
-        play_line(alloc, play, line, told)?;
+        play_line(alloc, play, line, told, refusals)?;
     }
     Ok(())
 }
 
 /// Appends the lines of a part, with what the venue answers.
-pub fn play_part(alloc: Global, lines: &str, told: &mut Vec<u8>) -> Result<(), AllocError> {
+pub fn play_part(
+    alloc: Global,
+    lines: &str,
+    told: &mut Vec<u8>,
+    refusals: &mut Refusals,
+) -> Result<()> {
     let mut play = Play {
         market: Market::new(alloc)?,
         stage: Stage::new(alloc)?,
-        again: false,
     };
-    let played = play_lines(alloc, &mut play, lines, told);
+    let played = play_lines(alloc, &mut play, lines, told, refusals);
     drop(play);
     played
 }

@@ -1,17 +1,13 @@
 //! Messages as the lines of a transcript have them.
 
+use crate::moments::moment_after;
+use crate::texts::app_of;
 use crate::venue::line::Trouble;
-use fix_dictionary::{App, BoxedApp, Item, SequenceNumber};
-use fix_fields::{FieldFault, split};
-use fix_reading::read_app;
-use fix_tables::DictFault;
+use fix_dictionary::{BoxedApp, Item, SequenceNumber};
 use participants::{Participants, Who};
 use sef_moment::Moment;
 use std::alloc::{AllocError, Global};
 use venue_rules::Taken;
-
-/// The moment from which those of a transcript count, in milliseconds: 3 March 2025, 14:30 UTC.
-const START: u64 = 1_741_012_200_000;
 
 /// The last number that a message may have.
 const LAST_NUMBER: u32 = 999_999_999;
@@ -25,13 +21,7 @@ pub struct Sent<'a> {
 
 /// The moment so many milliseconds after the start.
 pub fn moment_in(text: &str) -> Result<Moment, Trouble> {
-    let Ok(after) = text.parse::<u64>() else {
-        return Err(Trouble::NoCall);
-    };
-    let Some(ms) = START.checked_add(after) else {
-        return Err(Trouble::NoCall);
-    };
-    Moment::of_ms(ms).ok_or(Trouble::NoCall)
+    moment_after(text).ok_or(Trouble::NoCall)
 }
 
 // A byte of a text as a body has it: `|` is SOH, and `*` a number.
@@ -54,20 +44,6 @@ fn body_in(alloc: Global, text: &str, number: u32) -> Result<Vec<u8>, AllocError
     Ok(body)
 }
 
-// The application message of a body.
-fn app_in(alloc: Global, body: &[u8]) -> Result<App, Trouble> {
-    let fields = match split(alloc, body) {
-        Ok(fields) => fields,
-        Err(FieldFault::NoMemory) => return Err(Trouble::NoMemory),
-        Err(_) => return Err(Trouble::NoCall),
-    };
-    match read_app(alloc, &fields) {
-        Ok(app) => Ok(app),
-        Err(DictFault::NoMemory) => Err(Trouble::NoMemory),
-        Err(_) => Err(Trouble::NoCall),
-    }
-}
-
 fn participant(participants: &Participants, name: &str) -> Result<Who, Trouble> {
     participants.find(name.as_bytes()).ok_or(Trouble::NoCall)
 }
@@ -85,7 +61,7 @@ pub fn taken(
     }
     let from = participant(participants, sent.from)?;
     let body = body_in(alloc, sent.text, place)?;
-    let app = app_in(alloc, &body)?;
+    let app = app_of(alloc, &body)?.ok_or(Trouble::NoCall)?;
     Ok(Taken {
         from,
         item: Item {

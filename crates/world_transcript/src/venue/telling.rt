@@ -1,5 +1,6 @@
 //! Answers as lines of a transcript.
 
+use crate::telling::end_line;
 use fix_printing::print_app;
 use participants::{Participants, Who};
 use std::alloc::{AllocError, Global};
@@ -15,14 +16,6 @@ pub fn name_of(participants: &Participants, who: Who) -> &[u8] {
     }
 }
 
-// Appends bytes with `|` for SOH.
-fn append_text(bytes: &[u8], told: &mut Vec<u8>) -> Result<(), AllocError> {
-    for byte in bytes {
-        told.push(if *byte == 1 { b'|' } else { *byte })?;
-    }
-    Ok(())
-}
-
 fn tell_reply(
     alloc: Global,
     participants: &Participants,
@@ -35,9 +28,7 @@ fn tell_reply(
     told.extend_from_slice(b"  ")?;
     told.extend_from_slice(name_of(participants, reply.to))?;
     told.push(b' ')?;
-    append_text(&text, told)?;
-    told.push(b'\n')?;
-    Ok(())
+    end_line(&text, told)
 }
 
 /// Appends a line for each reply: to whom, and the text with `|` for SOH.

@@ -1,5 +1,6 @@
 //! The lines of a transcript.
 
+use crate::refusals::Refusals;
 use crate::world::call::Call;
 use crate::world::playing::{Answer, Played, new_world, play};
 use crate::world::reading::call_in;
@@ -8,14 +9,14 @@ use anyhow::{Result, anyhow};
 use std::alloc::{AllocError, Global};
 use std::mem;
 
-// The line after which what was refused a growth is made once more.
-const AGAIN: &str = "again";
-
-// The call of a line.
-fn read(alloc: Global, line: &str, again: bool) -> Result<Call> {
+// The call of a line, read once more where a growth was refused.
+fn read(alloc: Global, line: &str, refusals: &mut Refusals) -> Result<Call> {
     let call = match call_in(alloc, line) {
-        Err(_) if again => call_in(alloc, line)?,
-        call => call?,
+        Ok(call) => call,
+        Err(_) => {
+            refusals.one_more()?;
+            call_in(alloc, line)?
+        }
     };
     call.ok_or_else(|| anyhow!("no call: {line}"))
 }
@@ -33,29 +34,32 @@ fn write(
     tell(alloc, world, answer, told)
 }
 
-// Appends a line and an answer.
+// Appends a line and an answer, once more where a growth was refused.
 fn write_again(
     alloc: Global,
     world: &Played,
     line: &str,
     answer: &Answer,
-    again: bool,
     told: &mut Vec<u8>,
-) -> Result<(), AllocError> {
+    refusals: &mut Refusals,
+) -> Result<()> {
     let before = told.len();
-    let written = write(alloc, world, line, answer, told);
-    if !again || written.is_ok() {
-        return written;
+    if write(alloc, world, line, answer, told).is_ok() {
+        return Ok(());
     }
+    refusals.one_more()?;
     told.truncate(before);
-    write(alloc, world, line, answer, told)
+    Ok(write(alloc, world, line, answer, told)?)
 }
 
-// A new world.
-fn open(alloc: Global, refuses: Option<u64>, again: bool) -> Result<Played, AllocError> {
+// A new world, opened once more where a growth was refused.
+fn open(alloc: Global, refuses: Option<u64>, refusals: &mut Refusals) -> Result<Played> {
     match new_world(alloc, refuses) {
-        Err(_) if again => new_world(alloc, refuses),
-        world => world,
+        Ok(world) => Ok(world),
+        Err(_) => {
+            refusals.one_more()?;
+            Ok(new_world(alloc, refuses)?)
+        }
     }
 }
 
@@ -64,28 +68,33 @@ fn begin(
     alloc: Global,
     world: &mut Played,
     refuses: Option<u64>,
-    again: bool,
-) -> Result<(), AllocError> {
-    let begun = open(alloc, refuses, again)?;
+    refusals: &mut Refusals,
+) -> Result<()> {
+    let begun = open(alloc, refuses, refusals)?;
     drop(mem::replace(world, begun));
     Ok(())
 }
 
 // What the world answers to a line.
-fn answer_to(alloc: Global, world: &mut Played, line: &str, again: bool) -> Result<Answer> {
-    if line.is_empty() || line == AGAIN {
+fn answer_to(
+    alloc: Global,
+    world: &mut Played,
+    line: &str,
+    refusals: &mut Refusals,
+) -> Result<Answer> {
+    if line.is_empty() {
         return Ok(Answer::Nothing);
     }
     if line.starts_with('#') {
-        begin(alloc, world, None, again)?;
+        begin(alloc, world, None, refusals)?;
         return Ok(Answer::Nothing);
     }
     if let Some(number) = line.strip_prefix("refuses ") {
-        begin(alloc, world, number.parse::<u64>().ok(), again)?;
+        begin(alloc, world, number.parse::<u64>().ok(), refusals)?;
         return Ok(Answer::Nothing);
     }
-    let call = read(alloc, line, again)?;
-    play(alloc, world, &call, again)
+    let call = read(alloc, line, refusals)?;
+    play(alloc, world, &call, refusals)
 }
 
 // Plays a line, and appends it with what the world answers; a line that tells an answer is passed over.
@@ -93,36 +102,38 @@ fn play_line(
     alloc: Global,
     world: &mut Played,
     line: &str,
-    again: bool,
     told: &mut Vec<u8>,
+    refusals: &mut Refusals,
 ) -> Result<()> {
     if line.starts_with("  ") {
         return Ok(());
     }
-    let answer = answer_to(alloc, world, line, again)?;
-    write_again(alloc, world, line, &answer, again, told)?;
-    Ok(())
+    let answer = answer_to(alloc, world, line, refusals)?;
+    write_again(alloc, world, line, &answer, told, refusals)
 }
 
 fn play_lines(
     alloc: Global,
     world: &mut Played,
     lines: &str,
-    again: bool,
     told: &mut Vec<u8>,
+    refusals: &mut Refusals,
 ) -> Result<()> {
     for line in lines.lines() {
-        play_line(alloc, world, line, again, told)?;
+        play_line(alloc, world, line, told, refusals)?;
     }
     Ok(())
 }
 
-/// Appends the lines of a part, with what the world answers. Where they begin with the line `again`, a call to which a growth is
-/// refused is made once more.
-pub fn play_part(alloc: Global, lines: &str, told: &mut Vec<u8>) -> Result<()> {
-    let again = lines.starts_with(AGAIN);
-    let mut world = open(alloc, None, again)?;
-    let played = play_lines(alloc, &mut world, lines, again, told);
+/// Appends the lines of a part, with what the world answers.
+pub fn play_part(
+    alloc: Global,
+    lines: &str,
+    told: &mut Vec<u8>,
+    refusals: &mut Refusals,
+) -> Result<()> {
+    let mut world = open(alloc, None, refusals)?;
+    let played = play_lines(alloc, &mut world, lines, told, refusals);
     drop(world);
     played
 }

@@ -1,5 +1,6 @@
 //! Calls that are made of a world.
 
+use crate::refusals::Refusals;
 use crate::world::call::Call;
 use crate::world::filling::fill;
 use crate::world::keeper::FaultyTrail;
@@ -109,13 +110,19 @@ fn is_refused(answer: &Answer) -> bool {
     }
 }
 
-/// What a call gives. Where that is to be done, a call to which a growth is refused, which changes nothing, is made once more.
-pub fn play(alloc: Global, world: &mut Played, call: &Call, again: bool) -> Result<Answer> {
+/// What a call gives. A call to which a growth is refused, which changes nothing, is made once more.
+pub fn play(
+    alloc: Global,
+    world: &mut Played,
+    call: &Call,
+    refusals: &mut Refusals,
+) -> Result<Answer> {
     let before = row_count(world);
     let answer = call_once(alloc, world, call);
-    if !again || !is_refused(&answer) {
+    if !is_refused(&answer) {
         return Ok(answer);
     }
+    refusals.one_more()?;
     ensure!(row_count(world) == before, "a refused call recorded a row");
     let again = call_once(alloc, world, call);
     ensure!(!is_refused(&again), "a call was refused twice");

@@ -1,23 +1,14 @@
 //! How calls are read.
 
+use crate::moments::moment_after;
 use crate::texts::bytes_in;
 use crate::world::call::{Call, Filling};
 use fix_frame::{FrameFault, write_frame};
-use sef_moment::Moment;
 use std::alloc::{AllocError, Global};
 use venue_rules::Who;
 
-/// The moment from which those of a transcript count, in milliseconds: 3 March 2025, 14:30 UTC.
-pub const START: u64 = 1_741_012_200_000;
-
 /// The participants, by their places.
 pub const NAMES: [&str; 5] = ["ALPHA", "BETA", "GAMMA", "DELTA", "EPSILON"];
-
-// The moment so many milliseconds after the start.
-fn moment_in(text: &str) -> Option<Moment> {
-    let after = text.parse::<u64>().ok()?;
-    Moment::of_ms(START.checked_add(after)?)
-}
 
 // The participant of this name.
 fn who_in(name: &str) -> Option<Who> {
@@ -90,7 +81,7 @@ fn filling_in(alloc: Global, who: Who, text: &str) -> Result<Option<Call>, Alloc
     let Ok(count) = count.parse::<u64>() else {
         return Ok(None);
     };
-    let Some(t) = moment_in(after) else {
+    let Some(t) = moment_after(after) else {
         return Ok(None);
     };
     let text = Vec::from_slice(alloc, message.as_bytes())?;
@@ -128,7 +119,7 @@ fn of_participant(
 
 // A call at a moment.
 fn timed(word: &str, who: Who, rest: &str) -> Option<Call> {
-    let t = moment_in(rest)?;
+    let t = moment_after(rest)?;
     match word {
         "step" => Some(Call::Step(who, t)),
         "tick" => Some(Call::Tick(who, t)),
@@ -149,7 +140,7 @@ pub fn call_in(alloc: Global, line: &str) -> Result<Option<Call>, AllocError> {
         return Ok(Some(Call::Count));
     }
     if word == "venue" {
-        return Ok(moment_in(rest).map(|t| Call::VenueTick(t)));
+        return Ok(moment_after(rest).map(|t| Call::VenueTick(t)));
     }
     let (name, rest) = split_word(rest);
     let Some(who) = who_in(name) else {

@@ -1,25 +1,11 @@
 //! Answers as lines of a transcript.
 
-use crate::texts::append_with;
+use crate::moments::START;
+use crate::telling::{tell as tell_value, tell_bytes, tell_line, tell_step};
 use crate::world::playing::{Answer, Played};
-use crate::world::reading::{NAMES, START};
-use fix_session::{Step, Why};
+use crate::world::reading::NAMES;
 use std::alloc::{AllocError, Global};
 use venue_rules::{EventFault, TrailRow, Who};
-
-fn reason(why: Why) -> &'static str {
-    match why {
-        Why::NotLogon => "not a Logon",
-        Why::WrongComp => "wrong CompIDs",
-        Why::BadLogon => "bad Logon",
-        Why::NoNumber => "no number",
-        Why::TooLow => "too low",
-        Why::PeerLogout => "logged out",
-        Why::Silent => "silent",
-        Why::NumbersSpent => "numbers spent",
-        Why::Reset => "reset",
-    }
-}
 
 // The name of the participant at a place.
 fn name_at(place: usize) -> &'static str {
@@ -34,52 +20,22 @@ fn name_of(who: Who) -> &'static str {
     name_at(who.place() as usize)
 }
 
-fn tell_text(text: &str, told: &mut Vec<u8>) -> Result<(), AllocError> {
-    told.extend_from_slice(b"  ")?;
-    told.extend_from_slice(text.as_bytes())?;
-    told.extend_from_slice(b"\n")
-}
-
-fn tell_step(alloc: Global, step: Step, told: &mut Vec<u8>) -> Result<(), AllocError> {
-    match step {
-        Step::Idle => tell_text("idle", told),
-        Step::Did => tell_text("did", told),
-        Step::App(number) => {
-            let number = number.get();
-            let line = format!(in alloc; "ready {number}")?;
-            tell_text(line.as_str(), told)
-        }
-        Step::Dropped(why) => {
-            let why = reason(why);
-            let line = format!(in alloc; "dropped: {why}")?;
-            tell_text(line.as_str(), told)
-        }
-    }
-}
-
 fn tell_fault(alloc: Global, fault: &EventFault, told: &mut Vec<u8>) -> Result<(), AllocError> {
     match fault {
         EventFault::Behind(who) => {
             let name = name_of(*who);
             let line = format!(in alloc; "behind: {name}")?;
-            tell_text(line.as_str(), told)
+            tell_line(line.as_str(), told)
         }
         EventFault::Down(who) => {
             let name = name_of(*who);
             let line = format!(in alloc; "down: {name}")?;
-            tell_text(line.as_str(), told)
+            tell_line(line.as_str(), told)
         }
-        EventFault::TrailRefused => tell_text("the trail refused", told),
-        EventFault::Due => tell_text("a held side is due", told),
-        EventFault::NoMemory => tell_text("no memory", told),
+        EventFault::TrailRefused => tell_line("the trail refused", told),
+        EventFault::Due => tell_line("a held side is due", told),
+        EventFault::NoMemory => tell_line("no memory", told),
     }
-}
-
-// Bytes with `|` for SOH.
-fn tell_bytes(bytes: &[u8], told: &mut Vec<u8>) -> Result<(), AllocError> {
-    told.extend_from_slice(b"  ")?;
-    append_with(bytes, 1, b'|', told)?;
-    told.extend_from_slice(b"\n")
 }
 
 // A row: its number, its moment in milliseconds after the start, and the message, or that it is a tick.
@@ -88,7 +44,7 @@ fn tell_row(alloc: Global, row: &TrailRow, told: &mut Vec<u8>) -> Result<(), All
     let after = row.moment.ms().saturating_sub(START);
     if row.who == 0 {
         let line = format!(in alloc; "{n} at {after}: tick")?;
-        return tell_text(line.as_str(), told);
+        return tell_line(line.as_str(), told);
     }
     let name = name_at((row.who - 1) as usize);
     let era = row.era;
@@ -101,7 +57,7 @@ fn tell_row(alloc: Global, row: &TrailRow, told: &mut Vec<u8>) -> Result<(), All
 
 fn tell_rows(alloc: Global, rows: &[TrailRow], told: &mut Vec<u8>) -> Result<(), AllocError> {
     if rows.is_empty() {
-        return tell_text("none", told);
+        return tell_line("none", told);
     }
     for row in rows {
         tell_row(alloc, row, told)?;
@@ -119,14 +75,11 @@ pub fn tell(
     match answer {
         Answer::Nothing => Ok(()),
         Answer::Step(step) => tell_step(alloc, *step, told),
-        Answer::Wire(wire) if wire.is_empty() => tell_text("nothing", told),
+        Answer::Wire(wire) if wire.is_empty() => tell_line("nothing", told),
         Answer::Wire(wire) => tell_bytes(wire, told),
-        Answer::Count(count) => {
-            let line = format!(in alloc; "{count}")?;
-            tell_text(line.as_str(), told)
-        }
+        Answer::Count(count) => tell_value(alloc, count, told),
         Answer::Rows => tell_rows(alloc, world.keeper().rows(), told),
         Answer::Fault(fault) => tell_fault(alloc, fault, told),
-        Answer::Unknown => tell_text("nobody", told),
+        Answer::Unknown => tell_line("nobody", told),
     }
 }

@@ -3,4 +3,3 @@
 mod adding;
 pub mod line;
 mod looking;
-mod telling;

@@ -1,15 +1,13 @@
 //! Moments, read and printed.
 
-use crate::bytes::telling::{tell, tell_bytes, tell_line};
+use crate::bytes::telling::tell_last;
+use crate::moments::moment_in;
+use crate::telling::{tell, tell_line};
 use sef_moment::{Moment, later, print_utc, read_utc};
 use std::alloc::{AllocError, Global};
 
 fn number_in(text: &str) -> Option<u64> {
     text.parse::<u64>().ok()
-}
-
-fn moment_in(text: &str) -> Option<Moment> {
-    Moment::of_ms(number_in(text)?)
 }
 
 fn later_in(text: &str) -> Option<Moment> {
@@ -28,7 +26,7 @@ fn tell_moment(
     told: &mut Vec<u8>,
 ) -> Result<(), AllocError> {
     match moment {
-        Some(moment) => tell_bytes(alloc, "", &print_utc(moment), told),
+        Some(moment) => tell_last(alloc, "", &print_utc(moment), told),
         None => tell_line("no moment", told),
     }
 }

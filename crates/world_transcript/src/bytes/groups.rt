@@ -1,6 +1,7 @@
 //! The groups of a request for quotes: its symbols, and the parties of one.
 
-use crate::bytes::telling::{tell, tell_bytes, tell_count, tell_line};
+use crate::bytes::telling::tell_last;
+use crate::telling::{tell, tell_count, tell_line};
 use fix_fields::{Field, Fields, Group, append_bytes, group_among};
 use std::alloc::{AllocError, Global};
 
@@ -33,7 +34,7 @@ fn tell_instance(
     for field in fields {
         append_bytes(&mut text, field.tag, field.value)?;
     }
-    tell_bytes(alloc, words, &text, told)
+    tell_last(alloc, words, &text, told)
 }
 
 /// Tells how many parties are among some fields, and each of them.

@@ -1,8 +1,7 @@
 //! What is asked of the files that were read.
 
-use crate::files::telling::{
-    tell_fault, tell_instruments, tell_line, tell_participants, tell_place, tell_whether,
-};
+use crate::files::telling::{tell_instruments, tell_participants, tell_place, tell_whether};
+use crate::telling::tell;
 use instruments::{DelayFault, Instruments};
 use participants::{Participants, Who};
 use std::alloc::{AllocError, Global};
@@ -96,8 +95,7 @@ fn tell_delay(
     if place as usize >= file.len() {
         return Ok(false);
     }
-    let delay = file.delay(place);
-    tell_line(format!(in alloc; "{delay}")?.as_str(), told)?;
+    tell(alloc, &file.delay(place), told)?;
     Ok(true)
 }
 
@@ -113,7 +111,7 @@ fn tell_with_delays(
     match file.with_delays(alloc, &delays) {
         Ok(other) => tell_instruments(alloc, &other, told)?,
         Err(DelayFault::NoMemory) => return Err(AllocError),
-        Err(fault) => tell_fault(alloc, &fault, told)?,
+        Err(fault) => tell(alloc, &fault, told)?,
     }
     Ok(true)
 }

@@ -1,6 +1,6 @@
 //! Fields that are written.
 
-use crate::bytes::telling::tell_bytes;
+use crate::bytes::telling::tell_last;
 use fix_fields::FieldWriter;
 use sef_moment::Moment;
 use std::alloc::{AllocError, Global};
@@ -34,8 +34,8 @@ fn put_limits(writer: &mut FieldWriter) -> Result<(), AllocError> {
 pub fn tell_written(alloc: Global, told: &mut Vec<u8>) -> Result<(), AllocError> {
     let mut writer = FieldWriter::new(alloc);
     put_report(&mut writer)?;
-    tell_bytes(alloc, "", writer.bytes(), told)?;
+    tell_last(alloc, "", writer.bytes(), told)?;
     let mut writer = FieldWriter::new(alloc);
     put_limits(&mut writer)?;
-    tell_bytes(alloc, "", writer.bytes(), told)
+    tell_last(alloc, "", writer.bytes(), told)
 }

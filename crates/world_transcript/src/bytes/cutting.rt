@@ -4,7 +4,8 @@ ghost use Rattle.std.specs.Prelude.{◌≡◌, IfOk};
 ghost use Rattle.fix_frame.specs.Frame.{IsBody};
 
 use crate::bytes::state::{State, Trouble};
-use crate::bytes::telling::{tell, tell_bytes, tell_count, tell_line};
+use crate::bytes::telling::tell_last;
+use crate::telling::{tell, tell_count, tell_line};
 use crate::texts::bytes_in;
 use fix_frame::{Cut, Cutter, FrameFault, frame_bodies, write_frame};
 use std::alloc::{AllocError, Global};
@@ -19,7 +20,7 @@ fn tell_cut(alloc: Global, cut: &Cut, taken: &[u8], told: &mut Vec<u8>) -> Resul
         Cut::Frame { body } => {
             let (start, end) = (body.start, body.end);
             let words = format!(in alloc; "{start} to {end} of ")?;
-            tell_bytes(alloc, words.as_str(), taken, told)
+            tell_last(alloc, words.as_str(), taken, told)
         }
         Cut::Open => tell_line("open", told),
     }
@@ -69,7 +70,7 @@ fn tell_once(
     told: &mut Vec<u8>,
 ) -> Result<(), AllocError> {
     let last = told.len();
-    tell_bytes(alloc, "", body, told)?;
+    tell_last(alloc, "", body, told)?;
     let answers = told.get(start..).unwrap_or(&[]);
     let is_same = match answers.split_at_checked(last.saturating_sub(start)) {
         Some((before, answer)) => before.ends_with(answer),
@@ -145,7 +146,7 @@ fn tell_bodies(alloc: Global, text: &str, told: &mut Vec<u8>) -> Result<(), Allo
     let bodies = frame_bodies(alloc, &pieces)?;
     tell_count(alloc, bodies.len(), "bodies", told)?;
     for body in &bodies {
-        tell_bytes(alloc, "", body, told)?;
+        tell_last(alloc, "", body, told)?;
     }
     Ok(())
 }
@@ -172,7 +173,7 @@ fn tell_frame(alloc: Global, middle: &[u8], told: &mut Vec<u8>) -> Result<(), Tr
         Err(FrameFault::NoMemory) => return Err(Trouble::Changed),
         Err(fault) => tell(alloc, &fault, told)?,
     }
-    Ok(tell_bytes(alloc, "", &out, told)?)
+    Ok(tell_last(alloc, "", &out, told)?)
 }
 
 /// Answers a call of frames, if it is one.

@@ -1,16 +1,9 @@
 //! Answers as lines of a transcript.
 
+use crate::telling::{tell, tell_line};
 use instruments::{Instrument, Instruments};
 use participants::{Participants, Who};
 use std::alloc::{AllocError, Global};
-use std::fmt::Display;
-
-/// Appends a line that is set in.
-pub fn tell_line(text: &str, told: &mut Vec<u8>) -> Result<(), AllocError> {
-    told.extend_from_slice(b"  ")?;
-    told.extend_from_slice(text.as_bytes())?;
-    told.extend_from_slice(b"\n")
-}
 
 /// Appends yes or no.
 pub fn tell_whether(answer: bool, told: &mut Vec<u8>) -> Result<(), AllocError> {
@@ -20,7 +13,7 @@ pub fn tell_whether(answer: bool, told: &mut Vec<u8>) -> Result<(), AllocError> 
 /// Appends a place, or none.
 pub fn tell_place(alloc: Global, place: Option<u32>, told: &mut Vec<u8>) -> Result<(), AllocError> {
     match place {
-        Some(place) => tell_line(format!(in alloc; "{place}")?.as_str(), told),
+        Some(place) => tell(alloc, &place, told),
         None => tell_line("none", told),
     }
 }
@@ -76,23 +69,4 @@ pub fn tell_instruments(
         tell_instrument(alloc, file.get(place), told)?;
     }
     Ok(())
-}
-
-/// Appends how many rows a file has.
-pub fn tell_count(
-    alloc: Global,
-    count: usize,
-    rows: &str,
-    told: &mut Vec<u8>,
-) -> Result<(), AllocError> {
-    tell_line(format!(in alloc; "{count} {rows}")?.as_str(), told)
-}
-
-/// Appends why a file, or a list of delays, is refused.
-pub fn tell_fault<F: Display>(
-    alloc: Global,
-    fault: &F,
-    told: &mut Vec<u8>,
-) -> Result<(), AllocError> {
-    tell_line(format!(in alloc; "{fault}")?.as_str(), told)
 }

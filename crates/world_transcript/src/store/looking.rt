@@ -1,6 +1,6 @@
 //! Calls that look at the store.
 
-use crate::store::telling::{tell_line, tell_number};
+use crate::telling::{tell, tell_bytes, tell_line};
 use fix_dictionary::SequenceNumber;
 use fix_printing::print_app;
 use resend_store::{Resend, Store};
@@ -20,12 +20,12 @@ fn tell_resend(alloc: Global, resend: Resend<'_>, told: &mut Vec<u8>) -> Result<
             let words = format!(in alloc; "{number}, first sent at {first}: ")?;
             let mut text = Vec::from_slice(alloc, words.as_bytes())?;
             print_app(app, &mut text)?;
-            tell_line(&text, told)
+            tell_bytes(&text, told)
         }
         Resend::GapFill { number, new } => {
             let (number, new) = (number.get(), new.get());
             tell_line(
-                format!(in alloc; "{number}, gap fill to {new}")?.as_bytes(),
+                format!(in alloc; "{number}, gap fill to {new}")?.as_str(),
                 told,
             )
         }
@@ -64,8 +64,8 @@ pub fn look(
     told: &mut Vec<u8>,
 ) -> Result<bool, AllocError> {
     match word {
-        "next" => tell_number(alloc, u64::from(store.next_number()), told)?,
-        "eras" => tell_number(alloc, u64::from(store.era()), told)?,
+        "next" => tell(alloc, &store.next_number(), told)?,
+        "eras" => tell(alloc, &store.era(), told)?,
         "range" | "resends" => {
             let Some((from, to)) = range_in(rest) else {
                 return Ok(false);
@@ -73,7 +73,7 @@ pub fn look(
             if word == "resends" {
                 return tell_resends(alloc, store, from, to, told);
             }
-            tell_number(alloc, store.range(from, to).len() as u64, told)?
+            tell(alloc, &store.range(from, to).len(), told)?
         }
         _ => return Ok(false),
     }

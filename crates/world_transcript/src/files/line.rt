@@ -1,9 +1,9 @@
 //! The lines of a transcript.
 
 use crate::files::asking::{ask_instruments, ask_participants};
-use crate::files::telling::{tell_count, tell_fault};
 use crate::files::texts::Files;
 use crate::refusals::Refusals;
+use crate::telling::{tell, tell_count};
 use anyhow::{Result, ensure};
 use instruments::{FileFault as InstrumentFault, Instruments};
 use participants::{FileFault, Participants};
@@ -21,7 +21,7 @@ fn read_participants(
             files.participants = Some(file);
         }
         Err(FileFault::NoMemory) => return Err(AllocError),
-        Err(fault) => tell_fault(alloc, &fault, told)?,
+        Err(fault) => tell(alloc, &fault, told)?,
     }
     files.text.clear();
     Ok(())
@@ -39,7 +39,7 @@ fn read_instruments(
             files.instruments = Some(file);
         }
         Err(InstrumentFault::NoMemory) => return Err(AllocError),
-        Err(fault) => tell_fault(alloc, &fault, told)?,
+        Err(fault) => tell(alloc, &fault, told)?,
     }
     files.text.clear();
     Ok(())

@@ -1,7 +1,7 @@
 //! Bodies and answers as they stand in a transcript.
 
 use crate::dictionary::reading::Answer;
-use crate::texts::append_with;
+use crate::telling::{end_line, tell_line};
 use fix_tables::DictFault;
 use std::alloc::{AllocError, Global};
 
@@ -14,19 +14,14 @@ fn tell_fault(alloc: Global, fault: DictFault, told: &mut Vec<u8>) -> Result<(),
         DictFault::Range(tag) => ("range", tag),
         DictFault::NoMemory => return Err(AllocError),
     };
-    let line = format!(in alloc; "  {kind} {tag}\n")?;
-    told.extend_from_slice(line.as_bytes())
+    tell_line(format!(in alloc; "{kind} {tag}")?.as_str(), told)
 }
 
 /// Appends the line that tells an answer.
 pub fn tell(alloc: Global, answer: &Answer, told: &mut Vec<u8>) -> Result<(), AllocError> {
     match answer {
-        Answer::Printed(text) => {
-            append_with(text, 1, b'|', told)?;
-            told.push(b'\n')?;
-            Ok(())
-        }
+        Answer::Printed(text) => end_line(text, told),
         Answer::Fault(fault) => tell_fault(alloc, *fault, told),
-        Answer::NoFields => told.extend_from_slice(b"  no fields\n"),
+        Answer::NoFields => tell_line("no fields", told),
     }
 }

@@ -1,12 +1,10 @@
 //! The calls of a transcript.
 
+use crate::moments::moment_after;
 use crate::texts::{app_in, bytes_in};
 use fix_dictionary::App;
 use sef_moment::Moment;
 use std::alloc::{AllocError, Global};
-
-/// The moment from which those of a transcript count, in milliseconds: 3 March 2025, 14:30 UTC.
-const START: u64 = 1_741_012_200_000;
 
 /// A call of a session.
 #[derive(Drop)]
@@ -25,18 +23,12 @@ pub enum Call {
     Look,
 }
 
-// The moment so many milliseconds after the start.
-fn moment_in(text: &str) -> Option<Moment> {
-    let after = text.parse::<u64>().ok()?;
-    Moment::of_ms(START.checked_add(after)?)
-}
-
 // A message and the moment before it.
 fn send_in(alloc: Global, text: &str) -> Result<Option<Call>, AllocError> {
     let Some((after, message)) = text.split_once(' ') else {
         return Ok(None);
     };
-    let Some(t) = moment_in(after) else {
+    let Some(t) = moment_after(after) else {
         return Ok(None);
     };
     Ok(app_in(alloc, message)?.map(|app| Call::Send(app, t)))
@@ -46,10 +38,10 @@ fn send_in(alloc: Global, text: &str) -> Result<Option<Call>, AllocError> {
 pub fn call_in(alloc: Global, line: &str) -> Result<Option<Call>, AllocError> {
     let (word, rest) = line.split_once(' ').unwrap_or((line, ""));
     Ok(match word {
-        "resume" => moment_in(rest).map(|t| Call::Resume(t)),
+        "resume" => moment_after(rest).map(|t| Call::Resume(t)),
         "push" => Some(Call::Push(bytes_in(alloc, rest)?)),
-        "step" => moment_in(rest).map(|t| Call::Step(t)),
-        "tick" => moment_in(rest).map(|t| Call::Tick(t)),
+        "step" => moment_after(rest).map(|t| Call::Step(t)),
+        "tick" => moment_after(rest).map(|t| Call::Tick(t)),
         "send" => send_in(alloc, rest)?,
         "take" => Some(Call::TakeWire),
         "pop" => Some(Call::Pop),

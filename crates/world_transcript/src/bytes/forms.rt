@@ -1,6 +1,7 @@
 //! Values of fields in their forms.
 
-use crate::bytes::telling::{tell, tell_bytes, tell_line};
+use crate::bytes::telling::tell_last;
+use crate::telling::{tell, tell_line};
 use fix_fields::{
     Fields, ValueFault, read_amount, read_character, read_flag, read_integer, read_moment,
     read_price, read_quantity,
@@ -84,7 +85,7 @@ pub fn tell_text(
     told: &mut Vec<u8>,
 ) -> Result<(), AllocError> {
     match read {
-        Ok(value) => tell_bytes(alloc, "", value, told),
+        Ok(value) => tell_last(alloc, "", value, told),
         Err(fault) => tell(alloc, &fault, told),
     }
 }

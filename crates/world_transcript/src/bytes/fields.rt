@@ -4,7 +4,8 @@ use crate::bytes::cutting::pieces_in;
 use crate::bytes::forms::{Form, form_in, got, read, tell_got, tell_text};
 use crate::bytes::groups::{tell_parties, tell_symbols};
 use crate::bytes::state::{State, Trouble};
-use crate::bytes::telling::{tell, tell_bytes, tell_count, tell_line};
+use crate::bytes::telling::tell_last;
+use crate::telling::{tell, tell_count, tell_line};
 use fix_fields::{
     FieldFault, Fields, append_number, read_identifier, read_integer, read_text, split,
 };
@@ -114,7 +115,7 @@ fn tell_turns(
     }
     tell_count(alloc, fields.len(), "fields", told)?;
     match fields.get(tag) {
-        Some(value) => tell_bytes(alloc, "", value, told),
+        Some(value) => tell_last(alloc, "", value, told),
         None => tell_line("none", told),
     }
 }

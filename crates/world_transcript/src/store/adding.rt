@@ -1,19 +1,20 @@
 //! Calls that change the store.
 
+use crate::moments::moment_in;
 use crate::texts::app_in;
 use resend_store::{Store, StoreFault};
 use sef_moment::Moment;
 use std::alloc::Global;
 
 // The moment that a text begins with, in milliseconds, and the text behind it.
-fn moment_in(text: &str) -> Option<(Moment, &str)> {
+fn sent_in(text: &str) -> Option<(Moment, &str)> {
     let (moment, rest) = text.split_once(' ')?;
-    Some((Moment::of_ms(moment.parse::<u64>().ok()?)?, rest))
+    Some((moment_in(moment)?, rest))
 }
 
 // Adds the message that is told behind its first moment; false where none is told.
 fn add_message(alloc: Global, store: &mut Store, text: &str) -> Result<bool, StoreFault> {
-    let Some((first_sent, message)) = moment_in(text) else {
+    let Some((first_sent, message)) = sent_in(text) else {
         return Ok(false);
     };
     let Some(app) = app_in(alloc, message)? else {

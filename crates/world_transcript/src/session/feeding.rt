@@ -1,14 +1,12 @@
 //! A session that is fed by a reader.
 
-use anyhow::{Result, anyhow, bail};
+use crate::moments::start;
+use anyhow::{Result, bail};
 use fix_dictionary::Identifier;
 use fix_session::{Session, Step};
 use sef_moment::Moment;
 use std::alloc::{AllocError, Global};
 use std::io::Read;
-
-/// The moment of all, in milliseconds: 3 March 2025, 14:30 UTC.
-const START: u64 = 1_741_012_200_000;
 
 /// How many bytes are heard at once.
 const PIECE: usize = 4_096;
@@ -70,9 +68,7 @@ fn hear(session: &mut Session, piece: &[u8], t: Moment, taken: &mut Taken) -> Re
 
 /// What a session with a line that is up takes of all that a reader gives.
 pub fn feed<R: Read>(alloc: Global, reader: &mut R) -> Result<Taken> {
-    let Some(t) = Moment::of_ms(START) else {
-        return Err(anyhow!("no moment"));
-    };
+    let t = start();
     let mut session = new_session(alloc)?;
     session.resume(t);
     let mut taken = Taken {

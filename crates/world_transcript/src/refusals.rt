@@ -13,10 +13,16 @@ impl Refusals {
         Refusals { left }
     }
 
+    /// Whether one more call may have been refused.
+    pub fn has_one_more(&mut self) -> bool {
+        let has = self.left > 0;
+        self.left = self.left.saturating_sub(1);
+        has
+    }
+
     /// One more call was refused. An error where no growth can have been.
     pub fn one_more(&mut self) -> Result<()> {
-        ensure!(self.left > 0, "a call was refused, and no growth");
-        self.left -= 1;
+        ensure!(self.has_one_more(), "a call was refused, and no growth");
         Ok(())
     }
 }

@@ -3,7 +3,7 @@
 use crate::refusals::Refusals;
 use crate::store::adding::add;
 use crate::store::looking::look;
-use crate::store::telling::tell_line;
+use crate::telling::tell_line;
 use crate::texts::{times_in, write_again};
 use anyhow::{Result, bail, ensure};
 use resend_store::{Store, StoreFault};
@@ -21,11 +21,11 @@ fn ask(
         Ok(true) => return Ok(true),
         Ok(false) => {}
         Err(StoreFault::Full) => {
-            tell_line(b"the numbers are spent", told)?;
+            tell_line("the numbers are spent", told)?;
             return Ok(true);
         }
         Err(StoreFault::Eras) => {
-            tell_line(b"the eras are spent", told)?;
+            tell_line("the eras are spent", told)?;
             return Ok(true);
         }
         Err(StoreFault::NoMemory) => return Err(AllocError),
