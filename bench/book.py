@@ -1,10 +1,10 @@
-"""Times book_bench and its peers in C++ in turn, at several sizes, and prints the nanoseconds of each request and their ratio."""
+"""Times book_transcript and its peers in C++ in turn, at several sizes, and prints the nanoseconds of each request and their ratio."""
 
 import os
 import subprocess
 import sys
 
-PROGRAM = "crates/book_bench/out/book_bench"
+PROGRAM = "crates/book_transcript/out/book_transcript"
 # how many rest on each side of each instrument, how many orders came and went, how many instruments, how many orders are timed in
 # the plain book
 SIZES = (
@@ -57,8 +57,8 @@ def time_rooms(timed, place):
 
 def main():
     timed, place = int(sys.argv[1]), sys.argv[2]
-    # builds it where it is not built
-    subprocess.run(["rt", "run"], cwd="crates/book_bench", check=True, stdin=subprocess.DEVNULL, capture_output=True)
+    # builds it where it is not built, and plays it
+    subprocess.run(["rt", "run"], cwd="crates/book_transcript", check=True, stdin=subprocess.DEVNULL, capture_output=True)
     for resting, gone, instruments, plain in SIZES:
         # (where many rest, one request is timed in each instrument)
         timed_here = min(timed, instruments) if resting * instruments > 10_000 else timed

@@ -1,55 +1,28 @@
 //! A book filled to the brim: what has room there is not refused.
 
-use crate::market::{Market, market_of};
-use crate::stream::{id_of, price, quantity};
-use anyhow::{Result, anyhow};
+use crate::market::{Market, enter, market_of};
+use crate::stream::{order_of, quantity, standing};
+use anyhow::Result;
 use fix_dictionary::Side;
 use participants::Who;
 use price_book::{PriceBook, Refusal};
-use sef_moment::Moment;
 use std::alloc::Global;
-use venue_rules::{Life, OrderFact};
+use venue_rules::OrderFact;
 
-/// The n-th of orders of 10 that rest: bids of at most 499 ticks, offers of at least 501, over 50 prices each.
+/// The n-th of orders of 10 that rest, of two participants.
 pub(crate) fn resting(n: u64, instrument: u32, side: Side) -> OrderFact {
-    let away = n % 50;
-    OrderFact {
-        who: Who::of((n % 2) as u32),
-        id: id_of(n),
-        link: None,
-        instrument,
-        side,
-        quantity: quantity(9),
-        price: match side {
-            Side::Buy => price(499 - away),
-            Side::Sell => price(501 + away),
-        },
-        life: Life::Day,
-    }
-}
-
-/// Whether the order is accepted; it enters then.
-pub(crate) fn enters(
-    market: &Market,
-    book: &mut PriceBook,
-    order: &OrderFact,
-    moment: Moment,
-) -> bool {
-    match book.plan_entry(&market.participants, &market.instruments, order, moment) {
-        Ok(plan) => {
-            book.apply(plan);
-            true
-        }
-        Err(_) => false,
-    }
+    let mut order = standing(n, instrument, side);
+    order.who = Who::of((n % 2) as u32);
+    order.quantity = quantity(9);
+    order
 }
 
 // How many of 200 bids and 200 offers are refused.
-fn refused_sides(market: &Market, book: &mut PriceBook, moment: Moment) -> u64 {
+fn refused_sides(market: &Market, book: &mut PriceBook) -> u64 {
     let mut refused: u64 = 0;
     for n in 0..400u64 {
         let side = if n < 200 { Side::Buy } else { Side::Sell };
-        if !enters(market, book, &resting(n, 0, side), moment) {
+        if enter(market, book, &resting(n, 0, side)).is_err() {
             refused = refused.saturating_add(1);
         }
     }
@@ -57,9 +30,14 @@ fn refused_sides(market: &Market, book: &mut PriceBook, moment: Moment) -> u64 {
 }
 
 // Whether one more order on a full side is refused for that.
-fn refuses_more(market: &Market, book: &mut PriceBook, moment: Moment) -> bool {
+fn refuses_more(market: &Market, book: &mut PriceBook) -> bool {
     let order = resting(400, 0, Side::Buy);
-    match book.plan_entry(&market.participants, &market.instruments, &order, moment) {
+    match book.plan_entry(
+        &market.participants,
+        &market.instruments,
+        &order,
+        market.moment,
+    ) {
         Err(refusal) => refusal == Refusal::Full,
         Ok(_) => false,
     }
@@ -67,21 +45,19 @@ fn refuses_more(market: &Market, book: &mut PriceBook, moment: Moment) -> bool {
 
 // A bid for all the offers.
 fn bid_for_all() -> OrderFact {
-    OrderFact {
-        who: Who::of(3),
-        id: id_of(401),
-        link: None,
-        instrument: 0,
-        side: Side::Buy,
-        quantity: quantity(1_999),
-        price: price(600),
-        life: Life::Day,
-    }
+    let mut order = order_of(401, 3, 0, Side::Buy, 600);
+    order.quantity = quantity(1_999);
+    order
 }
 
 // How many orders it fills; none where it is refused.
-fn fills_of(market: &Market, book: &mut PriceBook, order: &OrderFact, moment: Moment) -> usize {
-    match book.plan_entry(&market.participants, &market.instruments, order, moment) {
+fn fills_of(market: &Market, book: &mut PriceBook, order: &OrderFact) -> usize {
+    match book.plan_entry(
+        &market.participants,
+        &market.instruments,
+        order,
+        market.moment,
+    ) {
         Ok(plan) => {
             let fills = plan.fills().len();
             book.apply(plan);
@@ -107,11 +83,11 @@ struct Filled {
     left: usize,
 }
 
-fn fill_sides(market: &Market, book: &mut PriceBook, moment: Moment) -> Result<Filled> {
-    let refused = refused_sides(market, book, moment);
-    let is_full = refuses_more(market, book, moment);
+fn fill_sides(market: &Market, book: &mut PriceBook) -> Result<Filled> {
+    let refused = refused_sides(market, book);
+    let is_full = refuses_more(market, book);
     let shown_first = shown(book)?;
-    let fills = fills_of(market, book, &bid_for_all(), moment);
+    let fills = fills_of(market, book, &bid_for_all());
     let left = shown(book)?;
     Ok(Filled {
         refused,
@@ -123,12 +99,9 @@ fn fill_sides(market: &Market, book: &mut PriceBook, moment: Moment) -> Result<F
 }
 
 fn fill_book(alloc: Global) -> Result<Filled> {
-    let Some(moment) = Moment::of_ms(1_000) else {
-        return Err(anyhow!("no moment"));
-    };
     let market = market_of(alloc)?;
     let mut book = PriceBook::new(alloc);
-    fill_sides(&market, &mut book, moment)
+    fill_sides(&market, &mut book)
 }
 
 /// Fills both sides of an instrument, shows them, and takes one side off by one order.

@@ -1,24 +1,23 @@
 //! How many identifiers a search looks at.
 
-use crate::filling::{enters, resting};
-use crate::market::{Market, market_of};
+use crate::filling::resting;
+use crate::market::{Market, enter, market_of};
 use crate::stream::id_of;
-use anyhow::{Result, anyhow};
+use anyhow::Result;
 use fix_dictionary::Side;
 use participants::Who;
 use price_book::PriceBook;
-use sef_moment::Moment;
 use std::alloc::Global;
+use venue_rules::OrderFact;
 
 // The n-th of orders that rest, 200 on a side.
-fn enter(market: &Market, book: &mut PriceBook, n: u64, moment: Moment) -> bool {
+fn spread(n: u64) -> OrderFact {
     let side = if n / 200 % 2 == 0 {
         Side::Buy
     } else {
         Side::Sell
     };
-    let order = resting(n, (n / 400 % 4) as u32, side);
-    enters(market, book, &order, moment)
+    resting(n, (n / 400 % 4) as u32, side)
 }
 
 /// How many orders were refused, how many were not found, and how many identifiers a search looked at, at most.
@@ -29,10 +28,10 @@ struct Looks {
     most: u32,
 }
 
-fn enter_all(market: &Market, book: &mut PriceBook, orders: u64, moment: Moment) -> u64 {
+fn enter_all(market: &Market, book: &mut PriceBook, orders: u64) -> u64 {
     let mut refused: u64 = 0;
     for n in 0..orders {
-        if !enter(market, book, n, moment) {
+        if enter(market, book, &spread(n)).is_err() {
             refused = refused.saturating_add(1);
         }
     }
@@ -56,12 +55,9 @@ fn look(book: &PriceBook, orders: u64, refused: u64) -> Looks {
 }
 
 fn look_for_all(alloc: Global, orders: u64) -> Result<Looks> {
-    let Some(moment) = Moment::of_ms(1_000) else {
-        return Err(anyhow!("no moment"));
-    };
     let market = market_of(alloc)?;
     let mut book = PriceBook::new(alloc);
-    let refused = enter_all(&market, &mut book, orders, moment);
+    let refused = enter_all(&market, &mut book, orders);
     Ok(look(&book, orders, refused))
 }
 

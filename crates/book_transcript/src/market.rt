@@ -1,23 +1,125 @@
-//! Who trades what.
+//! Who trades what, and their requests, each as a venue makes it: looked up, planned and applied.
 
-use anyhow::Result;
+use crate::stream::quantity;
+use anyhow::{Result, anyhow};
+use fix_dictionary::{Identifier, Price};
 use instruments::Instruments;
-use participants::Participants;
+use participants::{Participants, Who};
+use price_book::{PriceBook, ScannedBook};
+use sef_moment::Moment;
 use std::alloc::Global;
-use venue_rules::{fixture_instruments, fixture_participants};
+use venue_rules::{OrderFact, fixture_instruments, fixture_participants};
 
-/// Five participants, and two instruments with a delay of 15 seconds.
+/// Who trades what, and when.
 #[derive(Drop)]
 pub(crate) struct Market {
     pub(crate) participants: Participants,
     pub(crate) instruments: Instruments,
+    pub(crate) moment: Moment,
 }
 
+/// The delay between linked orders, in milliseconds.
+pub(crate) const DELAY: u64 = 15_000;
+
+/// Five participants, and two instruments.
 pub(crate) fn market_of(alloc: Global) -> Result<Market> {
     let participants = fixture_participants(alloc)?;
-    let instruments = fixture_instruments(alloc, 15_000)?;
+    let instruments = fixture_instruments(alloc, DELAY)?;
+    let Some(moment) = Moment::of_ms(1_000) else {
+        return Err(anyhow!("no moment"));
+    };
     Ok(Market {
         participants,
         instruments,
+        moment,
     })
+}
+
+pub(crate) fn enter(market: &Market, book: &mut PriceBook, order: &OrderFact) -> Result<()> {
+    if book.used(order.who, &order.id) {
+        return Err(anyhow!("used"));
+    }
+    let Ok(plan) = book.plan_entry(
+        &market.participants,
+        &market.instruments,
+        order,
+        market.moment,
+    ) else {
+        return Err(anyhow!("refused"));
+    };
+    book.apply(plan);
+    Ok(())
+}
+
+pub(crate) fn enter_plain(
+    market: &Market,
+    book: &mut ScannedBook,
+    order: &OrderFact,
+) -> Result<()> {
+    if book.used(order.who, &order.id) {
+        return Err(anyhow!("used"));
+    }
+    let Ok(plan) = book.plan_entry(
+        &market.participants,
+        &market.instruments,
+        order,
+        market.moment,
+    ) else {
+        return Err(anyhow!("refused"));
+    };
+    book.apply(plan);
+    Ok(())
+}
+
+pub(crate) fn cancel(
+    book: &mut PriceBook,
+    who: Who,
+    old: &Identifier,
+    id: &Identifier,
+) -> Result<()> {
+    if book.used(who, id) {
+        return Err(anyhow!("used"));
+    }
+    let Some(order) = book.order(who, old) else {
+        return Err(anyhow!("unknown"));
+    };
+    let number = order.entry.number;
+    let plan = book.plan_cancel(who, number, id)?;
+    book.apply(plan);
+    Ok(())
+}
+
+pub(crate) fn replace(
+    market: &Market,
+    book: &mut PriceBook,
+    who: Who,
+    old: &Identifier,
+    id: &Identifier,
+    price: Price,
+) -> Result<()> {
+    let units = quantity(49);
+    if book.used(who, id) {
+        return Err(anyhow!("used"));
+    }
+    let Some(order) = book.order(who, old) else {
+        return Err(anyhow!("unknown"));
+    };
+    if units.get() <= order.filled().get() {
+        return Err(anyhow!("filled"));
+    }
+    let number = order.entry.number;
+    let Ok(plan) = book.plan_replace(
+        &market.participants,
+        &market.instruments,
+        who,
+        number,
+        id,
+        units,
+        price,
+        market.moment,
+    ) else {
+        return Err(anyhow!("refused"));
+    };
+    book.apply(plan);
+    Ok(())
 }
