@@ -215,6 +215,25 @@ fn play_lines(
     Ok(())
 }
 
+// The fixture's venue.
+fn open(alloc: Global) -> Result<Play, AllocError> {
+    Ok(Play {
+        market: Market::new(alloc)?,
+        stage: Stage::new(alloc)?,
+    })
+}
+
+// The same, opened once more where a growth was refused.
+fn begin(alloc: Global, refusals: &mut Refusals) -> Result<Play> {
+    match open(alloc) {
+        Ok(play) => Ok(play),
+        Err(_) => {
+            refusals.one_more()?;
+            Ok(open(alloc)?)
+        }
+    }
+}
+
 /// Appends the lines of a part, with what the venue answers.
 pub fn play_part(
     alloc: Global,
@@ -222,10 +241,7 @@ pub fn play_part(
     told: &mut Vec<u8>,
     refusals: &mut Refusals,
 ) -> Result<()> {
-    let mut play = Play {
-        market: Market::new(alloc)?,
-        stage: Stage::new(alloc)?,
-    };
+    let mut play = begin(alloc, refusals)?;
     let played = play_lines(alloc, &mut play, lines, told, refusals);
     drop(play);
     played
