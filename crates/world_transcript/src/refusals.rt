@@ -13,16 +13,16 @@ impl Refusals {
         Refusals { left }
     }
 
-    /// Whether one more call may have been refused.
-    pub fn has_one_more(&mut self) -> bool {
-        let has = self.left > 0;
+    /// Admits one more refused call. False where no growth can have been refused.
+    pub fn admit(&mut self) -> bool {
+        let admitted = self.left > 0;
         self.left = self.left.saturating_sub(1);
-        has
+        admitted
     }
 
     /// One more call was refused. An error where no growth can have been.
     pub fn one_more(&mut self) -> Result<()> {
-        ensure!(self.has_one_more(), "a call was refused, and no growth");
+        ensure!(self.admit(), "a call was refused, and no growth");
         Ok(())
     }
 }

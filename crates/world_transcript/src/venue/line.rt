@@ -79,7 +79,7 @@ fn send_one(
 ) -> Result<(), Trouble> {
     let before = told.len();
     let first = play.stage.send(alloc, moment, sent, place, told);
-    if first != Err(Trouble::NoMemory) || !refusals.has_one_more() {
+    if first != Err(Trouble::NoMemory) || !refusals.admit() {
         return first;
     }
     told.truncate(before);
@@ -165,7 +165,7 @@ fn call_again(
 ) -> Result<(), Trouble> {
     let before = told.len();
     let first = call(alloc, play, line, told, refusals);
-    if first != Err(Trouble::NoMemory) || !refusals.has_one_more() {
+    if first != Err(Trouble::NoMemory) || !refusals.admit() {
         return first;
     }
     told.truncate(before);
