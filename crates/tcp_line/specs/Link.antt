@@ -1,5 +1,5 @@
 -- What contracts see of a connection, and what reading and writing do to it.
-use Rattle.std.specs.Prelude.{◌≡◌, ◌≢◌, ℕ, Bool, true, false, List, [], ◌++◌, length, min, take, Option}
+use Rattle.std.specs.Prelude.{◌≡◌, ◌≢◌, ℕ, ◌≤◌, Bool, true, false, List, [], ◌++◌, length, min, take, Option}
 use Rattle.std.specs.Io.KnownBytes.{Appends, Consumes, Keeps, IsAtEnd, append_known}
 use Rattle.gateway.specs.declared.line.Read.{Read}
 use Rattle.gateway.specs.declared.line.Read.TheVariants as read
@@ -36,21 +36,22 @@ HasRead old new read.Quiet buffer = Keeps old new
 HasRead old new read.Ended buffer = Keeps old new × IsAtEnd new
 HasRead old new read.Fault buffer = Keeps old new
 
--- where bytes were read ahead the first of them are given, and the others stay ahead; nothing else is told before they are given
+-- 1 to 256 bytes are given, the first of those read ahead where there were any, and the others stay ahead; where none are given, none are
+-- ahead
 abbrev pub GivesAhead : Read → List ℕ → List ℕ → List ℕ → Type 0
-GivesAhead (read.Got count) old new buffer = old ≢ [] → (count ≡ min (length old) 256) × (old ≡ take count buffer ++ new)
-GivesAhead read.Quiet old new buffer = old ≡ []
-GivesAhead read.Ended old new buffer = old ≡ []
-GivesAhead read.Fault old new buffer = old ≡ []
+GivesAhead (read.Got count) old new buffer = (1 ≤ count) × (count ≤ 256) × (old ≢ [] → (count ≡ min (length old) 256) × (old ≡ take count buffer ++ new))
+GivesAhead read.Quiet old new buffer = (old ≡ []) × (new ≡ [])
+GivesAhead read.Ended old new buffer = (old ≡ []) × (new ≡ [])
+GivesAhead read.Fault old new buffer = (old ≡ []) × (new ≡ [])
 
 -- all that waited was given to the system
 abbrev pub GivesAll : Link → Link → Type 0
 GivesAll old new = Appends old.taken new.taken old.waiting × (new.waiting ≡ [])
 
--- all that waited was given to the system before it was asked for more, unless a fault was told; and nothing before what was read ahead was
--- given
+-- all that waited was given to the system before it was asked for more, or a first part of it where a fault was told; and nothing before
+-- what was read ahead was given
 abbrev pub HasFlushed : Read → Link → Link → Type 0
 HasFlushed (read.Got count) old new = (old.ahead ≡ [] → GivesAll old new) × (old.ahead ≢ [] → (new.taken ≡ old.taken) × (new.waiting ≡ old.waiting))
 HasFlushed read.Quiet old new = GivesAll old new
 HasFlushed read.Ended old new = GivesAll old new
-HasFlushed read.Fault old new = Unit {0}
+HasFlushed read.Fault old new = TookPart old.taken new.taken old.waiting

@@ -63,8 +63,9 @@ impl<I: Read, O: Write> Connection<I, O> {
         !self.input.buffer().is_empty()
     }
 
-    /// Gives what was read ahead, and asks the system only where nothing was. The peer has ended where the system says so and nothing
-    /// is to come; a fault is any other refusal than that there is nothing yet.
+    /// Gives 1 to 256 bytes, and none only where none are held: the first of what was read ahead, and asks the system only where nothing
+    /// was. The peer has ended where the system says so and nothing is to come; a fault is any other refusal than that there is nothing
+    /// yet.
     pub fn read(&mut self, buffer: &mut [u8; PIECE]) -> Answer
         ensures within { IsWithin result }
         ensures bytes { HasRead self.old.coming self.new.coming result buffer.new }
@@ -76,8 +77,12 @@ impl<I: Read, O: Write> Connection<I, O> {
             return Answer::Got { count };
         }
         match self.input.read(&mut buffer[..MOST_GIVEN]) {
-            Ok(0) => Answer::Ended,
-            Ok(count) => Answer::Got { count },
+            Ok(count) if count > 0 => Answer::Got { count },
+            // (A reader that gave nothing does not promise that it holds nothing.)
+            _ if self.is_ahead() => Answer::Got {
+                count: self.give_ahead(buffer),
+            },
+            Ok(_) => Answer::Ended,
             Err(error) => match error.kind() {
                 ErrorKind::WouldBlock => Answer::Quiet,
                 ErrorKind::Interrupted => Answer::Quiet,
@@ -100,10 +105,11 @@ impl<I: Read, O: Write> Connection<I, O> {
         count
     }
 
-    /// Takes all bytes, which may wait, or a first part of them and of those that waited, and then a fault.
+    /// Takes all bytes, which may wait, or a first part of them and of those that waited, and then a fault. What was read ahead stays.
     pub fn write<T: Clock>(&mut self, clock: &T, bytes: &[u8]) -> Result<(), LineFault>
         ensures bytes { MatchResult result (λ _. Appends (promised self.old) (promised self.new) bytes.now) (λ _. TookPart self.old.taken self.new.taken (due self.old bytes.now)) }
         ensures coming { self.new.coming ≡ self.old.coming }
+        ensures ahead { self.new.ahead ≡ self.old.ahead }
     {
         if self.keep(bytes) {
             return Ok(());
@@ -125,15 +131,18 @@ impl<I: Read, O: Write> Connection<I, O> {
     // Gives these to the system, past those that wait.
     fn pass<T: Clock>(&mut self, clock: &T, bytes: &[u8]) -> Result<(), LineFault>
         ensures bytes { MatchResult result (λ _. Appends self.old.taken self.new.taken bytes.now) (λ _. TookPart self.old.taken self.new.taken bytes.now) }
-        ensures same { (self.new.coming ≡ self.old.coming) × (self.new.waiting ≡ self.old.waiting) }
+        ensures coming { self.new.coming ≡ self.old.coming }
+        ensures ahead { self.new.ahead ≡ self.old.ahead }
+        ensures waiting { self.new.waiting ≡ self.old.waiting }
     {
         give(clock, &mut self.output, bytes)
     }
 
-    /// Gives the system all that waits, or a first part of it, and then tells a fault.
+    /// Gives the system all that waits, or a first part of it, and then tells a fault. What was read ahead stays.
     pub fn flush<T: Clock>(&mut self, clock: &T) -> Result<(), LineFault>
         ensures bytes { MatchResult result (λ _. Appends self.old.taken self.new.taken self.old.waiting × (self.new.waiting ≡ [])) (λ _. TookPart self.old.taken self.new.taken self.old.waiting) }
         ensures coming { self.new.coming ≡ self.old.coming }
+        ensures ahead { self.new.ahead ≡ self.old.ahead }
     {
         if self.waiting.is_empty() {
             return Ok(());

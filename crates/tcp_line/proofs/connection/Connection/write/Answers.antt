@@ -16,4 +16,4 @@ returns-in-Ok-clause-bytes g c =
     subst
     (λ (l : Link). MatchResult c.pass.result (λ _. Appends (promised l) (promised c.pass.new.self) c.args.bytes.now) (λ _. TookPart l.taken c.pass.new.self.taken (due l c.args.bytes.now)))
     same
-    (given_after c.keep.new.self c.flush.new.self c.pass.new.self c.args.bytes.now c.pass.result c.in-Ok.ensures.bytes.0 c.in-Ok.ensures.bytes.1 c.pass.ensures.same.1 c.pass.ensures.bytes)
+    (given_after c.keep.new.self c.flush.new.self c.pass.new.self c.args.bytes.now c.pass.result c.in-Ok.ensures.bytes.0 c.in-Ok.ensures.bytes.1 c.pass.ensures.waiting c.pass.ensures.bytes)
