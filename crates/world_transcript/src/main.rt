@@ -16,6 +16,7 @@ mod beside;
 mod bytes;
 mod dictionary;
 mod files;
+mod lines;
 mod moments;
 mod parts;
 mod refusals;

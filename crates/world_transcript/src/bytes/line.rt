@@ -5,6 +5,7 @@ use crate::bytes::fields::{add_numbers, ask_fields};
 use crate::bytes::moments::ask_moments;
 use crate::bytes::state::{State, Trouble};
 use crate::bytes::writing::tell_written;
+use crate::lines::{self, Part};
 use crate::refusals::Refusals;
 use anyhow::{Result, bail, ensure};
 use std::alloc::{AllocError, Global};
@@ -75,31 +76,30 @@ fn play_once(
     Ok(known)
 }
 
-// Plays a line, once more where a growth was refused, after the text was put back as it was.
-fn play_line(
-    alloc: Global,
-    state: &mut State,
-    line: &str,
-    told: &mut Vec<u8>,
-    refusals: &mut Refusals,
-) -> Result<()> {
-    if line.starts_with("  ") {
-        return Ok(());
+impl Part for State {
+    // Plays a line, once more where a growth was refused, after the text was put back as it was.
+    fn play_line(
+        &mut self,
+        alloc: Global,
+        line: &str,
+        told: &mut Vec<u8>,
+        refusals: &mut Refusals,
+    ) -> Result<()> {
+        let (answers, text) = (told.len(), self.text.len());
+        let mut played = play_once(alloc, self, line, told);
+        if let Err(Trouble::NoMemory) = played {
+            refusals.one_more()?;
+            told.truncate(answers);
+            self.text.truncate(text);
+            played = play_once(alloc, self, line, told);
+        }
+        match played {
+            Ok(known) => ensure!(known, "no call: {line}"),
+            Err(Trouble::NoMemory) => return Err(AllocError.into()),
+            Err(Trouble::Changed) => bail!("a refused call changed what was to stay"),
+        }
+        Ok(())
     }
-    let (answers, text) = (told.len(), state.text.len());
-    let mut played = play_once(alloc, state, line, told);
-    if let Err(Trouble::NoMemory) = played {
-        refusals.one_more()?;
-        told.truncate(answers);
-        state.text.truncate(text);
-        played = play_once(alloc, state, line, told);
-    }
-    match played {
-        Ok(known) => ensure!(known, "no call: {line}"),
-        Err(Trouble::NoMemory) => return Err(AllocError.into()),
-        Err(Trouble::Changed) => bail!("a refused call changed what was to stay"),
-    }
-    Ok(())
 }
 
 /// Appends the lines of a part, with what is answered.
@@ -110,8 +110,5 @@ pub fn play_lines(
     refusals: &mut Refusals,
 ) -> Result<()> {
     let mut state = State::new(alloc);
-    for line in lines.lines() {
-        play_line(alloc, &mut state, line, told, refusals)?;
-    }
-    Ok(())
+    lines::play_lines(alloc, &mut state, lines, told, refusals)
 }

@@ -2,6 +2,7 @@
 
 use crate::dictionary::reading::{Answer, Form, answer_to};
 use crate::dictionary::telling::tell;
+use crate::lines::{self, Part};
 use crate::refusals::Refusals;
 use crate::texts::bytes_in;
 use anyhow::{Result, anyhow};
@@ -42,20 +43,28 @@ fn write(
     }
 }
 
-// Plays a line, and appends it with what the dictionary answers, once more where a growth was refused; a line that tells an answer
-// is passed over.
-fn play_line(alloc: Global, line: &str, told: &mut Vec<u8>, refusals: &mut Refusals) -> Result<()> {
-    if line.starts_with("  ") {
-        return Ok(());
+/// The dictionary, which keeps nothing from line to line.
+#[derive(Drop)]
+struct Dictionary {}
+
+impl Part for Dictionary {
+    // Plays a line, and appends it with what the dictionary answers, once more where a growth was refused.
+    fn play_line(
+        &mut self,
+        alloc: Global,
+        line: &str,
+        told: &mut Vec<u8>,
+        refusals: &mut Refusals,
+    ) -> Result<()> {
+        let answer = answer_to_line(alloc, line, refusals)?;
+        let before = told.len();
+        if write(alloc, line, &answer, told).is_err() {
+            refusals.one_more()?;
+            told.truncate(before);
+            write(alloc, line, &answer, told)?;
+        }
+        Ok(())
     }
-    let answer = answer_to_line(alloc, line, refusals)?;
-    let before = told.len();
-    if write(alloc, line, &answer, told).is_err() {
-        refusals.one_more()?;
-        told.truncate(before);
-        write(alloc, line, &answer, told)?;
-    }
-    Ok(())
 }
 
 /// Appends the lines of a part, with what the dictionary answers.
@@ -65,8 +74,5 @@ pub fn play_lines(
     told: &mut Vec<u8>,
     refusals: &mut Refusals,
 ) -> Result<()> {
-    for line in lines.lines() {
-        play_line(alloc, line, told, refusals)?;
-    }
-    Ok(())
+    lines::play_lines(alloc, &mut Dictionary {}, lines, told, refusals)
 }

@@ -2,6 +2,7 @@
 
 use crate::files::asking::{ask_instruments, ask_participants};
 use crate::files::texts::Files;
+use crate::lines::{self, Part};
 use crate::refusals::Refusals;
 use crate::telling::{tell, tell_count};
 use anyhow::{Result, ensure};
@@ -153,30 +154,29 @@ fn play_once(
     ask(alloc, files, word, rest, told)
 }
 
-// Plays a line, once more where a growth was refused. A refused call changes nothing but the text that it was to write,
-// which is put back.
-fn play_line(
-    alloc: Global,
-    files: &mut Files,
-    line: &str,
-    told: &mut Vec<u8>,
-    refusals: &mut Refusals,
-) -> Result<()> {
-    if line.starts_with("  ") {
-        return Ok(());
+impl Part for Files {
+    // Plays a line, once more where a growth was refused. A refused call changes nothing but the text that it was to write,
+    // which is put back.
+    fn play_line(
+        &mut self,
+        alloc: Global,
+        line: &str,
+        told: &mut Vec<u8>,
+        refusals: &mut Refusals,
+    ) -> Result<()> {
+        let (answers, text) = (told.len(), self.text.len());
+        let known = match play_once(alloc, self, line, told) {
+            Ok(known) => known,
+            Err(AllocError) => {
+                refusals.one_more()?;
+                told.truncate(answers);
+                self.text.truncate(text);
+                play_once(alloc, self, line, told)?
+            }
+        };
+        ensure!(known, "no call: {line}");
+        Ok(())
     }
-    let (answers, text) = (told.len(), files.text.len());
-    let known = match play_once(alloc, files, line, told) {
-        Ok(known) => known,
-        Err(AllocError) => {
-            refusals.one_more()?;
-            told.truncate(answers);
-            files.text.truncate(text);
-            play_once(alloc, files, line, told)?
-        }
-    };
-    ensure!(known, "no call: {line}");
-    Ok(())
 }
 
 /// Appends the lines of a part, with what is answered.
@@ -187,8 +187,5 @@ pub fn play_lines(
     refusals: &mut Refusals,
 ) -> Result<()> {
     let mut files = Files::new(alloc);
-    for line in lines.lines() {
-        play_line(alloc, &mut files, line, told, refusals)?;
-    }
-    Ok(())
+    lines::play_lines(alloc, &mut files, lines, told, refusals)
 }

@@ -1,5 +1,6 @@
 //! The lines of a transcript.
 
+use crate::lines::{self, Part};
 use crate::refusals::Refusals;
 use crate::session::call::{Call, call_in};
 use crate::session::feeding::feed;
@@ -95,28 +96,26 @@ fn answer_to(
     play(session, &call, refusals)
 }
 
-// Plays a line, and appends it with what the session answers, of the same answers in succession one; a line that tells an answer
-// is passed over.
-fn play_line(
-    alloc: Global,
-    session: &mut Session,
-    line: &str,
-    told: &mut Vec<u8>,
-    refusals: &mut Refusals,
-) -> Result<()> {
-    if line.starts_with("  ") {
-        return Ok(());
+impl Part for Session {
+    // Plays a line, and appends it with what the session answers, of the same answers in succession one.
+    fn play_line(
+        &mut self,
+        alloc: Global,
+        line: &str,
+        told: &mut Vec<u8>,
+        refusals: &mut Refusals,
+    ) -> Result<()> {
+        write_again("", line, told, refusals)?;
+        let start = told.len();
+        let (times, call) = times_in(line);
+        for _ in 0..times {
+            let last = told.len();
+            let answer = answer_to(alloc, self, call, refusals)?;
+            tell_again(alloc, &answer, told, refusals)?;
+            tell_once(told, start, last);
+        }
+        Ok(())
     }
-    write_again("", line, told, refusals)?;
-    let start = told.len();
-    let (times, call) = times_in(line);
-    for _ in 0..times {
-        let last = told.len();
-        let answer = answer_to(alloc, session, call, refusals)?;
-        tell_again(alloc, &answer, told, refusals)?;
-        tell_once(told, start, last);
-    }
-    Ok(())
 }
 
 /// Appends the lines of a part, with what the session answers.
@@ -127,8 +126,5 @@ pub fn play_lines(
     refusals: &mut Refusals,
 ) -> Result<()> {
     let mut session = new_session(alloc, "SEF", "ALPHA")?;
-    for line in lines.lines() {
-        play_line(alloc, &mut session, line, told, refusals)?;
-    }
-    Ok(())
+    lines::play_lines(alloc, &mut session, lines, told, refusals)
 }

@@ -1,5 +1,6 @@
 //! The lines of a transcript.
 
+use crate::lines::{self, Part};
 use crate::refusals::Refusals;
 use crate::store::adding::add;
 use crate::store::looking::look;
@@ -55,30 +56,29 @@ fn ask_again(
     Ok(())
 }
 
-// Plays a line, and appends it with what is answered.
-fn play_line(
-    alloc: Global,
-    store: &mut Store,
-    line: &str,
-    told: &mut Vec<u8>,
-    refusals: &mut Refusals,
-) -> Result<()> {
-    if line.starts_with("  ") {
-        return Ok(());
+impl Part for Store {
+    // Plays a line, and appends it with what is answered.
+    fn play_line(
+        &mut self,
+        alloc: Global,
+        line: &str,
+        told: &mut Vec<u8>,
+        refusals: &mut Refusals,
+    ) -> Result<()> {
+        write_again("", line, told, refusals)?;
+        if line.is_empty() {
+            return Ok(());
+        }
+        if line.starts_with('#') {
+            *self = Store::new(alloc);
+            return Ok(());
+        }
+        let (times, call) = times_in(line);
+        for _ in 0..times {
+            ask_again(alloc, self, call, told, refusals)?;
+        }
+        Ok(())
     }
-    write_again("", line, told, refusals)?;
-    if line.is_empty() {
-        return Ok(());
-    }
-    if line.starts_with('#') {
-        *store = Store::new(alloc);
-        return Ok(());
-    }
-    let (times, call) = times_in(line);
-    for _ in 0..times {
-        ask_again(alloc, store, call, told, refusals)?;
-    }
-    Ok(())
 }
 
 /// Appends the lines of a part, with what is answered.
@@ -89,8 +89,5 @@ pub fn play_lines(
     refusals: &mut Refusals,
 ) -> Result<()> {
     let mut store = Store::new(alloc);
-    for line in lines.lines() {
-        play_line(alloc, &mut store, line, told, refusals)?;
-    }
-    Ok(())
+    lines::play_lines(alloc, &mut store, lines, told, refusals)
 }

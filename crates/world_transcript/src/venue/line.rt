@@ -1,5 +1,6 @@
 //! The lines of a transcript.
 
+use crate::lines::{Part, play_lines};
 use crate::refusals::Refusals;
 use crate::telling::tell_line;
 use crate::texts::write_again;
@@ -181,38 +182,24 @@ fn tell_trouble(trouble: Trouble, told: &mut Vec<u8>) -> Result<(), AllocError> 
     tell_line(text, told)
 }
 
-// Plays a line, and appends it with what is answered; a line that tells an answer is passed over.
-fn play_line(
-    alloc: Global,
-    play: &mut Play,
-    line: &str,
-    told: &mut Vec<u8>,
-    refusals: &mut Refusals,
-) -> Result<()> {
-    if line.starts_with("  ") {
-        return Ok(());
+impl Part for Play {
+    // Plays a line, and appends it with what is answered.
+    fn play_line(
+        &mut self,
+        alloc: Global,
+        line: &str,
+        told: &mut Vec<u8>,
+        refusals: &mut Refusals,
+    ) -> Result<()> {
+        write_again("", line, told, refusals)?;
+        if line.is_empty() || line.starts_with('#') {
+            return Ok(());
+        }
+        match call_again(alloc, self, line, told, refusals) {
+            Ok(()) => Ok(()),
+            Err(trouble) => Ok(tell_trouble(trouble, told)?),
+        }
     }
-    write_again("", line, told, refusals)?;
-    if line.is_empty() || line.starts_with('#') {
-        return Ok(());
-    }
-    match call_again(alloc, play, line, told, refusals) {
-        Ok(()) => Ok(()),
-        Err(trouble) => Ok(tell_trouble(trouble, told)?),
-    }
-}
-
-fn play_lines(
-    alloc: Global,
-    play: &mut Play,
-    lines: &str,
-    told: &mut Vec<u8>,
-    refusals: &mut Refusals,
-) -> Result<()> {
-    for line in lines.lines() {
-        play_line(alloc, play, line, told, refusals)?;
-    }
-    Ok(())
 }
 
 // The fixture's venue.

@@ -1,5 +1,6 @@
 //! The lines of a transcript.
 
+use crate::lines::{Part, play_lines};
 use crate::refusals::Refusals;
 use crate::world::call::Call;
 use crate::world::playing::{Answer, Played, new_world, play};
@@ -97,32 +98,18 @@ fn answer_to(
     play(alloc, world, &call, refusals)
 }
 
-// Plays a line, and appends it with what the world answers; a line that tells an answer is passed over.
-fn play_line(
-    alloc: Global,
-    world: &mut Played,
-    line: &str,
-    told: &mut Vec<u8>,
-    refusals: &mut Refusals,
-) -> Result<()> {
-    if line.starts_with("  ") {
-        return Ok(());
+impl Part for Played {
+    // Plays a line, and appends it with what the world answers.
+    fn play_line(
+        &mut self,
+        alloc: Global,
+        line: &str,
+        told: &mut Vec<u8>,
+        refusals: &mut Refusals,
+    ) -> Result<()> {
+        let answer = answer_to(alloc, self, line, refusals)?;
+        write_again(alloc, self, line, &answer, told, refusals)
     }
-    let answer = answer_to(alloc, world, line, refusals)?;
-    write_again(alloc, world, line, &answer, told, refusals)
-}
-
-fn play_lines(
-    alloc: Global,
-    world: &mut Played,
-    lines: &str,
-    told: &mut Vec<u8>,
-    refusals: &mut Refusals,
-) -> Result<()> {
-    for line in lines.lines() {
-        play_line(alloc, world, line, told, refusals)?;
-    }
-    Ok(())
 }
 
 /// Appends the lines of a part, with what the world answers.
