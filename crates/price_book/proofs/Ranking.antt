@@ -5,7 +5,7 @@ use Rattle.std.specs.Option.{unwrap_or}
 use Rattle.std.proofs.Math.Numerals.{one-add}
 use Rattle.std.proofs.lemmas.Bool.Decides.{nat_tests}
 use Rattle.std.proofs.lemmas.Int.{ints}
-use Rattle.std.proofs.lemmas.List.{length-map, length-reverse}
+use Rattle.std.proofs.lemmas.List.{length-map, length-reverse, get_or_default}
 use Rattle.fix_dictionary.specs.declared.values.Side.{Side}
 use Rattle.fix_dictionary.specs.declared.values.Side.TheVariants.{Buy, Sell}
 use Rattle.venue_rules.specs.Book.{Resting, is_better, rank, ranked, rests}
@@ -152,6 +152,10 @@ row-found n rs k r place here = record {
   price = λ d. ap (λ (row : Row). row.price) (read-row rs k d r place.0 here);
 }
 
+pub no-rows : (rs : List Resting) → rows_of rs ≡ [] → rs ≡ []
+no-rows [] h = refl
+no-rows (r ∷ rs) h = cc
+
 more-left : (a b : ℕ) → a < b → nat_lt a b ≡ true
 more-left a b h = grind (arith, nat_tests)
 
@@ -289,10 +293,14 @@ numbered-ranked n low side (r ∷ rs) l = numbered-rank n side r (ranked side rs
 pub stands : (n x : ℕ) (side : Side) (rs : List Resting) (r : Resting) → Ledger 0 rs → numbered n rs ≡ Some r → rests x side r ≡ true → Found n (ranked_live x side rs) r
 stands n x side rs r l some on = numbered-some n (ranked_live x side rs) r (numbered-ranked n 0 side (filter (rests x side) rs) (ledger-filter 0 (rests x side) rs l) ∙ numbered-filter n (rests x side) rs r some on)
 
-pub cut-here : (k q : ℕ) (rows : List Row) (at : ℕ) (row : Row) (less : ℕ) → at + k + 1 ≡ length rows → row ≡ get_or rows at row → less ≡ row.left - q → reverse (set rows at (record { number = row.number; price = row.price; left = less })) ≡ cut_at k q (reverse rows)
-cut-here k q rows at row less e is l =
-    ap (λ m. reverse (set rows at (record { number = row.number; price = row.price; left = m }))) l ∙ set-turned rows at k (record { number = row.number; price = row.price; left = row.left - q }) e
-    ∙ cut-set k q (reverse rows) row (is ∙ sym (read-turned rows at k row e))
+pub cut-turned : (q : ℕ) (rows : List Row) (at k : ℕ) → at + k + 1 ≡ length rows → reverse (cut_at at q rows) ≡ cut_at k q (reverse rows)
+cut-turned q [] at k h = absurd (omega (arith, h))
+cut-turned q (first ∷ rest) at k h =
+    let rows : List Row = first ∷ rest in
+    let row : Row = get_or rows at first in
+    let is : row ≡ get_or rows at row = get_or_default rows at first row (omega (arith, h)) in
+    let less : Row = record { number = row.number; price = row.price; left = row.left - q } in
+    ap reverse (sym (cut-set at q rows row is)) ∙ set-turned rows at k less h ∙ cut-set k q (reverse rows) row (is ∙ sym (read-turned rows at k row h))
 
 -- each order of a side is kept by its number
 pub sides-kept : (x : ℕ) (side : Side) (rs : List Resting) (es : List (ℕ × Slot)) → Ledger 0 rs → IsNumbered rs es → AreKept (ranked_live x side rs) es

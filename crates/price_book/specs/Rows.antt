@@ -3,6 +3,7 @@ use Rattle.std.specs.List.{insert, position_or_len}
 use Rattle.fix_dictionary.specs.declared.values.Side.{Side}
 use Rattle.venue_rules.specs.declared.replies.PictureEntry.{PictureEntry}
 use Rattle.venue_rules.specs.Book.{Resting, is_better}
+use Rattle.price_book.specs.declared.row.Priority.{Priority}
 use Rattle.price_book.specs.declared.row.Row.{Row}
 
 -- an order that rests, as it stands on its side
@@ -12,9 +13,16 @@ row_of r = record { number = r.entry.number; price = r.entry.order.price; left =
 abbrev pub rows_of : List Resting → List Row
 rows_of rs = map row_of rs
 
--- a row stands before an order of this price and number: it is better, or as good and earlier
+-- what ranks an order
+abbrev pub priority_of : Row → Priority
+priority_of row = record { number = row.number; price = row.price }
+
+-- an order stands before one of this price and number: it is better, or as good and earlier
+abbrev pub ranks_before : Side → ℤ → ℕ → Priority → Bool
+ranks_before side price number p = is_better side p.price price || (nat_lt p.number number && not (is_better side price p.price))
+
 abbrev pub comes_before : Side → ℤ → ℕ → Row → Bool
-comes_before side price number row = is_better side row.price price || (nat_lt row.number number && not (is_better side price row.price))
+comes_before side price number row = ranks_before side price number (priority_of row)
 
 -- each row stands before those behind it: the best first, and those at one price by their entry
 abbrev pub AreRanked : Side → List Row → Type 0

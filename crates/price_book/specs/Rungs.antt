@@ -70,5 +70,5 @@ pub record HasRoom (n : ℕ) (o : OrdersKept) : Type 0 where
   pub names : vec_len o.names + n ≤ vec_capacity o.names
   pub few : vec_len o.names + n ≤ 2 ^ 32
   pub ladders : vec_len o.ladders + n ≤ vec_capacity o.ladders
-  pub spare : n * (side_room + 1) ≤ vec_capacity o.spare
+  pub spare : n * (side_room + 1) ≤ o.spare.capacity
   pub places : (x : ℕ) (side : Side) → length (held (rung x side) o.ladders.items) + n ≤ side_room + 1

@@ -15,7 +15,7 @@ use crate::numbered::{put, reduce_slot, reserve_slots, take};
 use crate::orders::is_day;
 use crate::orders_kept::OrdersKept;
 use crate::resting::Resting as Lent;
-use crate::rows::row_of;
+use crate::rows::{Rows, row_of};
 use crate::sides::{enter_ladder, leave_ladder, reduce_ladder};
 use fix_dictionary::Identifier;
 use sorted_names::mark;
@@ -36,7 +36,7 @@ pub(crate) fn no_orders(alloc: Global) -> OrdersKept
         slots: HashMap::new(alloc),
         names: Vec::new(alloc),
         ladders: Vec::new(alloc),
-        spare: Vec::new(alloc),
+        spare: Rows::new(alloc),
     }
 }
 

@@ -1,9 +1,8 @@
 //! The orders of an instrument and a side, as the book keeps them.
 ghost use Rattle.std.specs.Prelude.{◌<◌};
-ghost use Rattle.std.specs.Vec.{vec_capacity};
 ghost use Rattle.venue_rules.specs.Book.{side_room};
 
-use crate::row::Row;
+use crate::rows::Rows;
 use fix_dictionary::Side;
 
 /// The orders that rest in an instrument and on a side, the best last, with room for as many as may rest and one that
@@ -12,6 +11,6 @@ use fix_dictionary::Side;
 pub(crate) struct Ladder {
     pub(crate) instrument: u32,
     pub(crate) side: Side,
-    pub(crate) rows: Vec<Row>,
-    ghost room: { side_room < vec_capacity rows },
+    pub(crate) rows: Rows,
+    ghost room: { side_room < rows.capacity },
 }

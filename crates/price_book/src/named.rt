@@ -8,6 +8,7 @@ ghost use Rattle.sorted_names.specs.Search.{IsPlace};
 ghost use Rattle.price_book.specs.Live.{Ledger};
 ghost use Rattle.price_book.specs.Numbered.{IsListed, IsNamed, IsKeyAt, AreRisingMarks, no_key, answer_at, answer_behind};
 
+use crate::inserting::insert_at;
 use crate::name_key::NameKey;
 use crate::numbered::Numbered;
 use crate::probing::{FirstProbe, LastProbe};
@@ -79,7 +80,7 @@ pub(crate) fn add_name(slots: &Numbered, keys: &mut Vec<NameKey>, entry: &Entry,
 {
     let number = entry.number;
     let at = behind(slots, keys, mark, entry.order.who, &entry.order.id);
-    let _inserted = keys.insert(at, NameKey { mark, number });
+    insert_at(keys, at, NameKey { mark, number });
 }
 
 // How many keys have a lesser mark.

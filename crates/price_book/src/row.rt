@@ -9,3 +9,10 @@ pub(crate) struct Row {
     pub(crate) price: Price,
     pub(crate) left: Amount,
 }
+
+/// What ranks an order on its side: its price, and at one price its number, since numbers rise as orders enter.
+#[derive(Clone, Copy)]
+pub(crate) struct Priority {
+    pub(crate) number: u64,
+    pub(crate) price: Price,
+}

@@ -1,15 +1,113 @@
 //! The orders of a side as they are ranked, the best last: where one stands, and what an entry, a trade and a removal do
 //! to them. None has to move where one comes or goes at the end, as the best does, which trades first.
-ghost use Rattle.std.specs.Prelude.{◌≡◌, ℕ, ◌<◌, ◌+◌, length, reverse};
-ghost use Rattle.std.specs.List.{remove};
-ghost use Rattle.std.specs.Vec.{vec_capacity, vec_len};
-ghost use Rattle.price_book.specs.Rows.{row_of, comes_before, AreRanked, IsRow, behind, put_last, cut_at};
+ghost use Rattle.std.specs.Prelude.{◌≡◌, ℕ, ◌≤◌, ◌<◌, ◌+◌, [], length, slice_index_or, reverse, IfOk};
+ghost use Rattle.std.specs.List.{insert, remove};
+ghost use Rattle.price_book.specs.Rows.{row_of, ranks_before, AreRanked, IsRow, behind, put_last, cut_at};
 ghost use Rattle.price_book.specs.Views.{seen};
 
+use crate::inserting::insert_at;
 use crate::orders::is_better;
 use crate::resting::Resting;
-use crate::row::Row;
+use crate::row::{Priority, Row};
 use fix_dictionary::{Amount, Price, Side};
+use std::alloc::{AllocError, Global};
+use std::marker::Model;
+
+/// The orders of a side. What ranks them and what is left of them lie apart: a search reads the first alone, and where an order comes
+/// or goes, each of the two moves as one block of memory.
+#[derive(Drop)]
+pub(crate) struct Rows {
+    priorities: Vec<Priority>,
+    left: Vec<Amount>,
+}
+
+impl Model for Rows {
+    ghost use Rattle.price_book.specs.Ranks.{Ranks, ranks, ArePaired};
+
+    ghost Value = { Ranks };
+
+    ghost view = { ranks };
+
+    ghost invariant = { ArePaired };
+}
+
+impl Rows {
+    /// No orders.
+    pub(crate) fn new(alloc: Global) -> Rows
+        ensures { result.items ≡ [] }
+    {
+        Rows {
+            priorities: Vec::new(alloc),
+            left: Vec::new(alloc),
+        }
+    }
+
+    /// How many orders there are.
+    pub(crate) fn len(&self) -> usize
+        ensures { result ≡ length self.now.items }
+    {
+        self.left.len()
+    }
+
+    /// The order at a place.
+    pub(crate) fn row(&self, at: usize) -> Row
+        requires { at < length self.now.items }
+        ensures { result ≡ slice_index_or self.now.items at result }
+    {
+        let priority = self.priorities[at];
+        Row {
+            number: priority.number,
+            price: priority.price,
+            left: self.left[at],
+        }
+    }
+
+    /// Makes room for so many orders more.
+    pub(crate) fn reserve(&mut self, more: usize) -> Result<(), AllocError>
+        ensures items { self.new.items ≡ self.old.items }
+        ensures room { IfOk result (λ _. length self.old.items + more ≤ self.new.capacity) }
+        ensures grown { self.old.capacity ≤ self.new.capacity }
+    {
+        self.priorities.reserve(more)?;
+        self.left.reserve(more)?;
+        Ok(())
+    }
+
+    // An order comes to a place, for which there is room.
+    fn insert(&mut self, at: usize, row: Row)
+        requires within { at ≤ length self.old.items }
+        requires room { length self.old.items < self.old.capacity }
+        ensures items { self.new.items ≡ insert self.old.items at row }
+        ensures capacity { self.new.capacity ≡ self.old.capacity }
+    {
+        let priority = Priority {
+            number: row.number,
+            price: row.price,
+        };
+        insert_at(&mut self.priorities, at, priority);
+        insert_at(&mut self.left, at, row.left);
+    }
+
+    // So much less is left of the order at a place.
+    fn reduce(&mut self, at: usize, quantity: u64)
+        requires { at < length self.old.items }
+        ensures items { self.new.items ≡ cut_at at quantity self.old.items }
+        ensures capacity { self.new.capacity ≡ self.old.capacity }
+    {
+        let left = &mut self.left[at];
+        *left = Amount::new(left.get().saturating_sub(quantity));
+    }
+
+    // The order at a place goes.
+    fn remove(&mut self, at: usize)
+        requires { at < length self.old.items }
+        ensures items { self.new.items ≡ remove self.old.items at }
+        ensures capacity { self.new.capacity ≡ self.old.capacity }
+    {
+        let _priority = self.priorities.remove(at);
+        let _left = self.left.remove(at);
+    }
+}
 
 /// An order, as it stands on its side.
 pub(crate) fn row_of(order: Resting<'_>) -> Row
@@ -22,61 +120,64 @@ pub(crate) fn row_of(order: Resting<'_>) -> Row
     }
 }
 
-// Whether a row stands before an order of this price and number: it is better, or as good and earlier.
-fn comes_before(side: Side, price: Price, number: u64, row: &Row) -> bool
-    ensures { result ≡ comes_before side price number row.now }
+// Whether an order stands before one of this price and number: it is better, or as good and earlier.
+fn ranks_before(side: Side, price: Price, number: u64, order: &Priority) -> bool
+    ensures { result ≡ ranks_before side price number order.now }
 {
-    is_better(side, row.price, price) || (row.number < number && !is_better(side, price, row.price))
+    is_better(side, order.price, price)
+        || (order.number < number && !is_better(side, price, order.price))
 }
 
 // Where the order of this number and price stands on a side: the last of those that do not come before it.
-fn place_of(rows: &[Row], side: Side, price: Price, number: u64) -> usize
-    requires ranked { AreRanked side (reverse rows.now) }
-    requires there { (k : ℕ) × IsRow number price (reverse rows.now) k }
-    ensures { (k : ℕ) → IsRow number price (reverse rows.now) k → result + k + 1 ≡ length rows.now }
+fn place_of(rows: &Rows, side: Side, price: Price, number: u64) -> usize
+    requires ranked { AreRanked side (reverse rows.now.items) }
+    requires there { (k : ℕ) × IsRow number price (reverse rows.now.items) k }
+    ensures { (k : ℕ) → IsRow number price (reverse rows.now.items) k → result + k + 1 ≡ length rows.now.items }
 {
-    let count = rows.partition_point(|row| !comes_before(side, price, number, row));
+    let count = rows
+        .priorities
+        .partition_point(|order| !ranks_before(side, price, number, order));
     count - 1
 }
 
 // How many orders of a side are worse than one of this price.
-fn worse(rows: &[Row], side: Side, price: Price) -> usize
-    requires { AreRanked side (reverse rows.now) }
-    ensures { result + behind side price (reverse rows.now) ≡ length rows.now }
+fn worse(rows: &Rows, side: Side, price: Price) -> usize
+    requires { AreRanked side (reverse rows.now.items) }
+    ensures { result + behind side price (reverse rows.now.items) ≡ length rows.now.items }
 {
-    rows.partition_point(|row| is_better(side, price, row.price))
+    rows.priorities
+        .partition_point(|order| is_better(side, price, order.price))
 }
 
 /// An order that enters stands behind all of its side that are as good, and before all that are worse.
-pub(crate) fn put_last(rows: &mut Vec<Row>, side: Side, row: Row)
-    requires room { vec_len rows.old < vec_capacity rows.old }
+pub(crate) fn put_last(rows: &mut Rows, side: Side, row: Row)
+    requires room { length rows.old.items < rows.old.capacity }
     requires ranked { AreRanked side (reverse rows.old.items) }
     ensures rows { reverse rows.new.items ≡ put_last side row (reverse rows.old.items) }
-    ensures capacity { vec_capacity rows.new ≡ vec_capacity rows.old }
+    ensures capacity { rows.new.capacity ≡ rows.old.capacity }
 {
     let at = worse(rows, side, row.price);
-    let _inserted = rows.insert(at, row);
+    rows.insert(at, row);
 }
 
 /// So much less is left of the order of this number and price.
-pub(crate) fn cut(rows: &mut Vec<Row>, side: Side, price: Price, number: u64, quantity: u64)
+pub(crate) fn cut(rows: &mut Rows, side: Side, price: Price, number: u64, quantity: u64)
     requires ranked { AreRanked side (reverse rows.old.items) }
     requires there { (k : ℕ) × IsRow number price (reverse rows.old.items) k }
     ensures rows { (k : ℕ) → IsRow number price (reverse rows.old.items) k → reverse rows.new.items ≡ cut_at k quantity (reverse rows.old.items) }
-    ensures capacity { vec_capacity rows.new ≡ vec_capacity rows.old }
+    ensures capacity { rows.new.capacity ≡ rows.old.capacity }
 {
     let at = place_of(rows, side, price, number);
-    let row = &mut rows[at];
-    row.left = Amount::new(row.left.get().saturating_sub(quantity));
+    rows.reduce(at, quantity);
 }
 
 /// The order of this number and price is gone.
-pub(crate) fn take_out(rows: &mut Vec<Row>, side: Side, price: Price, number: u64)
+pub(crate) fn take_out(rows: &mut Rows, side: Side, price: Price, number: u64)
     requires ranked { AreRanked side (reverse rows.old.items) }
     requires there { (k : ℕ) × IsRow number price (reverse rows.old.items) k }
     ensures rows { (k : ℕ) → IsRow number price (reverse rows.old.items) k → reverse rows.new.items ≡ remove (reverse rows.old.items) k }
-    ensures capacity { vec_capacity rows.new ≡ vec_capacity rows.old }
+    ensures capacity { rows.new.capacity ≡ rows.old.capacity }
 {
     let at = place_of(rows, side, price, number);
-    let _gone = rows.remove(at);
+    rows.remove(at);
 }

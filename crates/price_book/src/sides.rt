@@ -8,7 +8,7 @@ ghost use Rattle.price_book.specs.Rungs.{rung, held, AreOrdered, Lacks, IsLadder
 
 use crate::ladder::Ladder;
 use crate::row::Row;
-use crate::rows::{cut, put_last, take_out};
+use crate::rows::{Rows, cut, put_last, take_out};
 use fix_dictionary::{Price, Side};
 use std::alloc::Global;
 use std::mem;
@@ -59,9 +59,9 @@ pub(crate) fn find_ladder(ladders: &[Ladder], instrument: u32, side: Side) -> Op
 }
 
 // A ladder without orders, for a side that has none; answers where it stands.
-fn open(ladders: &mut Vec<Ladder>, rows: Vec<Row>, instrument: u32, side: Side) -> usize
+fn open(ladders: &mut Vec<Ladder>, rows: Rows, instrument: u32, side: Side) -> usize
     requires room { vec_len ladders.old < vec_capacity ladders.old }
-    requires places { side_room < vec_capacity rows }
+    requires places { side_room < rows.capacity }
     requires empty { rows.items ≡ [] }
     requires ordered { AreOrdered 0 ladders.old.items }
     requires lacks { Lacks (rung instrument side) ladders.old.items }
@@ -87,13 +87,13 @@ fn open(ladders: &mut Vec<Ladder>, rows: Vec<Row>, instrument: u32, side: Side) 
 pub(crate) fn enter_ladder(
     alloc: Global,
     ladders: &mut Vec<Ladder>,
-    spare: &mut Vec<Row>,
+    spare: &mut Rows,
     instrument: u32,
     side: Side,
     row: Row,
 )
     requires room { vec_len ladders.old < vec_capacity ladders.old }
-    requires spare { side_room < vec_capacity spare.old }
+    requires spare { side_room < spare.old.capacity }
     requires empty { spare.old.items ≡ [] }
     requires places { length (held (rung instrument side) ladders.old.items) ≤ side_room }
     requires ordered { AreOrdered 0 ladders.old.items }
@@ -108,7 +108,7 @@ pub(crate) fn enter_ladder(
         put_last(&mut ladders[at].rows, side, row);
         return;
     }
-    let rows = mem::replace(spare, Vec::new(alloc));
+    let rows = mem::replace(spare, Rows::new(alloc));
     let at = open(ladders, rows, instrument, side);
     put_last(&mut ladders[at].rows, side, row);
 }

@@ -1,6 +1,5 @@
-use Rattle.std.proofs.Common.{◌≡◌, refl, ◌∙◌, sym, ap, subst, ◌<◌, ◌^◌, if◌then◌else◌, true, List, length, arith}
+use Rattle.std.proofs.Common.{◌≡◌, refl, ◌∙◌, sym, ap, subst, ◌<◌, ◌^◌, List, length, arith}
 use Rattle.std.specs.List.{insert}
-use Rattle.std.specs.Result.{is_ok}
 use Rattle.sorted_names.specs.Names.{mark_of}
 use Rattle.sorted_names.specs.Search.{IsPlace}
 use Rattle.venue_rules.specs.declared.facts.Entry.{Entry}
@@ -12,8 +11,8 @@ use Rattle.price_book.proofs.named.add_name.Goals as goal
 pub behind-at-requires-clause-listed : goal.behind-at-requires-clause-listed
 behind-at-requires-clause-listed c = rw c.deref.ensures.value c.requires.listed
 
-pub insert-inserted-requires : goal.insert-inserted-requires
-insert-inserted-requires c = omega (arith, c.behind-at.ensures.1.within, ap length c.deref.ensures.value, c.args.keys.now.ok)
+pub insert_at-requires-clause-within : goal.insert_at-requires-clause-within
+insert_at-requires-clause-within c = omega (arith, c.behind-at.ensures.1.within, ap length c.deref.ensures.value, c.args.keys.now.ok)
 
 pub returns-clause-named : goal.returns-clause-named
 returns-clause-named c = λ rs r is listed.
@@ -24,8 +23,7 @@ returns-clause-named c = λ rs r is listed.
     let found = c.behind-at.ensures.0 in
     let p : IsPlace (answer_behind es ks (mark_of e.order.who e.order.id) e.order.who e.order.id) (length ks) at found = rw (c.deref.ensures.value, c.requires.mark) at c.behind-at.ensures.1 in
     let q : IsPlace (answer_behind es ks (mark_of r.entry.order.who r.entry.order.id) r.entry.order.who r.entry.order.id) (length ks) at found = subst (λ (x : Entry). IsPlace (answer_behind es ks (mark_of x.order.who x.order.id) x.order.who x.order.id) (length ks) at found) (sym is) p in
-    let ok : is_ok c.insert-inserted.result ≡ true = c.insert-inserted.ensures.succeeds c.requires.room in
     let few : length ks < 2 ^ 32 = omega (arith, c.requires.few, ap length c.deref.ensures.value, c.deref.ensures.len) in
     let key : record { mark = c.args.mark; number = e.number } ≡ key_of r.entry = rw (is, c.requires.mark) refl in
-    let inserted : c.insert-inserted.new.self.items ≡ insert ks at (key_of r.entry) = c.insert-inserted.ensures.items ∙ ap (λ b. if b then insert ks at (record { mark = c.args.mark; number = e.number }) else ks) ok ∙ ap (λ k. insert ks at k) key in
+    let inserted : c.insert_at.new.items.items ≡ insert ks at (key_of r.entry) = c.insert_at.ensures.items ∙ ap (λ k. insert ks at k) key in
     rw inserted (named-pushed rs es ks r at found listed few q)

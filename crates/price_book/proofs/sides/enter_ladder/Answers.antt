@@ -12,7 +12,7 @@ put_last-requires-clause-room c =
     let ls : List Ladder = c.args.ladders.now.items in
     let l : Ladder = c.index_mut.result.now in
     let there : IsLadder (rung c.args.instrument c.args.side) ls c.in-Some.at = rw c.deref.ensures.value at c.in-Some.ensures in
-    omega (arith, ap length (held-there (rung c.args.instrument c.args.side) ls c.in-Some.at l c.requires.ordered there c.index_mut.ensures.value), c.requires.places, l.room, l.rows.ok, length-reverse l.rows.items)
+    omega (arith, ap length (held-there (rung c.args.instrument c.args.side) ls c.in-Some.at l c.requires.ordered there c.index_mut.ensures.value), c.requires.places, l.room, length-reverse l.rows.items)
 
 pub put_last-requires-clause-ranked : goal.put_last-requires-clause-ranked
 put_last-requires-clause-ranked c =
@@ -38,7 +38,7 @@ put_last-requires-2-clause-room c =
     let n = rung c.args.instrument c.args.side in
     let l : Ladder = c.index_mut-2.result.now in
     let held-is = held-there n c.open-at.new.ladders.items c.open-at.result l c.open-at.ensures.ordered c.open-at.ensures.there c.index_mut-2.ensures.value in
-    omega (arith, ap length (sym (c.open-at.ensures.held n) ∙ held-is), c.requires.places, l.room, l.rows.ok, length-reverse l.rows.items)
+    omega (arith, ap length (sym (c.open-at.ensures.held n) ∙ held-is), c.requires.places, l.room, length-reverse l.rows.items)
 
 pub put_last-requires-2-clause-ranked : goal.put_last-requires-2-clause-ranked
 put_last-requires-2-clause-ranked c =
