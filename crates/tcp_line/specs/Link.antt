@@ -48,8 +48,7 @@ GivesAhead read.Fault old new buffer = (old ≡ []) × (new ≡ [])
 abbrev pub GivesAll : Link → Link → Type 0
 GivesAll old new = Appends old.taken new.taken old.waiting × (new.waiting ≡ [])
 
--- all that waited was given to the system before it was asked for more, or a first part of it where a fault was told; and nothing before
--- what was read ahead was given
+-- all that waited was given to the system, or a first part of it where a fault was told; and nothing of it while something is read ahead
 abbrev pub HasFlushed : Read → Link → Link → Type 0
 HasFlushed (read.Got count) old new = (old.ahead ≡ [] → GivesAll old new) × (old.ahead ≢ [] → (new.taken ≡ old.taken) × (new.waiting ≡ old.waiting))
 HasFlushed read.Quiet old new = GivesAll old new

@@ -1,5 +1,5 @@
 //! A line over one listener and at most one connection.
-ghost use Rattle.std.specs.Prelude.{◌≡◌, ◌≢◌, ◌^◌, ◌-◌, [], ◌∷◌, ◌++◌, IfOk, MatchResult, min};
+ghost use Rattle.std.specs.Prelude.{◌≡◌, ◌≢◌, ◌^◌, ◌-◌, [], ◌∷◌, ◌++◌, false, None, IfOk, MatchResult, min};
 ghost use Rattle.gateway.specs.Said.{IsWithin, Accepted, faults_in};
 ghost use Rattle.tcp_line.specs.Link.{GivesAhead, HasFlushed, HasRead};
 
@@ -63,7 +63,8 @@ impl<T: Clock + Drop> TcpLine<T> {
 
     /// Gives the system what still waits, and lets the connection go. Whether all that was written was taken.
     pub fn close(&mut self) -> bool
-        ensures { self.new.account ≡ self.old.account }
+        ensures same { self.new.account ≡ self.old.account }
+        ensures gone { self.new.connection ≡ None }
     {
         match self.connection.take() {
             None => true,
@@ -119,6 +120,7 @@ impl<T: Clock + Drop> TcpLine<T> {
     fn hear(&mut self, buffer: &mut [u8; PIECE]) -> Read
         ensures within { IsWithin result }
         ensures same { self.new.account ≡ self.old.account }
+        ensures gone { result ≡ Read.Fault → self.new.connection ≡ None }
     {
         let answer = match &mut self.connection {
             None => Read::Fault,
@@ -134,6 +136,7 @@ impl<T: Clock + Drop> TcpLine<T> {
     // Whether the connection took all of these. One that did not is let go.
     fn has_taken(&mut self, bytes: &[u8]) -> bool
         ensures same { self.new.account ≡ self.old.account }
+        ensures gone { result ≡ false → self.new.connection ≡ None }
     {
         let has_taken = match &mut self.connection {
             None => false,
@@ -147,7 +150,7 @@ impl<T: Clock + Drop> TcpLine<T> {
 }
 
 // Reads once. The system is given what waits before it is asked, and not before what was read ahead is given, so that one call of the
-// system carries the replies to all that another one read. A read that heard nothing has asked the system: so nothing waits any more
+// system may carry the replies to all that another one read. A read that heard nothing has asked the system: so nothing waits any more
 // after turns that read and heard nothing, after which a thread goes to sleep. (One that may not read, since many messages are ready,
 // sleeps until the bell or 100 ms.)
 fn hear_out<I: io::Read, O: io::Write, T: Clock>(
