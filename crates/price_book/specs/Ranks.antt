@@ -4,7 +4,7 @@ use Rattle.price_book.specs.declared.row.Priority.{Priority}
 use Rattle.price_book.specs.declared.row.Row.{Row}
 use Rattle.price_book.specs.declared.rows.Rows.TheInside.{Inside}
 
--- the orders of a side, the best last, and how many there is room for
+-- the orders of a side, the best last, and how many there is room for: the lesser of both lists' room
 pub record Ranks : Type 0 where
   pub items : List Row
   pub capacity : ℕ
@@ -13,6 +13,7 @@ pub record Ranks : Type 0 where
 abbrev pub row_with : Priority → ℕ → Row
 row_with p left = record { number = p.number; price = p.price; left = left }
 
+-- orders of these priorities, each with what is left of it
 abbrev pub rows_with : List Priority → List ℕ → List Row
 rows_with [] ls = []
 rows_with (p ∷ ps) [] = []

@@ -21,6 +21,7 @@ priority_of row = record { number = row.number; price = row.price }
 abbrev pub ranks_before : Side → ℤ → ℕ → Priority → Bool
 ranks_before side price number p = is_better side p.price price || (nat_lt p.number number && not (is_better side price p.price))
 
+-- the same of a row
 abbrev pub comes_before : Side → ℤ → ℕ → Row → Bool
 comes_before side price number row = ranks_before side price number (priority_of row)
 

@@ -3,8 +3,8 @@ ghost use Rattle.std.specs.Prelude.{◌≡◌, ◌≤◌, ◌<◌, ◌+◌};
 ghost use Rattle.std.specs.List.{insert};
 ghost use Rattle.std.specs.Vec.{vec_capacity, vec_len};
 
-/// An element comes to a place, for which there is room. It is added last and turned to its place, so that those behind it move as one
-/// block of memory; `Vec::insert` moves them one after the other.
+/// An element comes to a place, for which there is room. It is added last and turned to its place: as this is compiled, those behind it
+/// then move by `memmove`, and by `Vec::insert` one after the other.
 pub(crate) fn insert_at<T>(items: &mut Vec<T>, at: usize, item: T)
     requires within { at ≤ vec_len items.old }
     requires room { vec_len items.old < vec_capacity items.old }

@@ -10,7 +10,7 @@ pub(crate) struct Row {
     pub(crate) left: Amount,
 }
 
-/// What ranks an order on its side: its price, and at one price its number, since numbers rise as orders enter.
+/// What ranks an order on its side (price-time priority): its price, and at one price its number, since numbers rise as orders enter.
 #[derive(Clone, Copy)]
 pub(crate) struct Priority {
     pub(crate) number: u64,

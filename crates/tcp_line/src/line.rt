@@ -1,6 +1,6 @@
 //! A line over one listener and at most one connection.
-ghost use Rattle.std.specs.Prelude.{◌≡◌, ◌≢◌, ◌^◌, ◌-◌, [], ◌∷◌, ◌++◌, false, None, IfOk, MatchResult, min};
-ghost use Rattle.gateway.specs.Said.{IsWithin, Accepted, faults_in};
+ghost use Rattle.std.specs.Prelude.{◌≡◌, ◌≢◌, ◌^◌, ◌-◌, [], ◌∷◌, ◌++◌, false, None, IfOk, IfErr, MatchResult, min};
+ghost use Rattle.gateway.specs.Said.{IsWithin, Accepted, Gave, Took, Broke_off, given, faults_in};
 ghost use Rattle.tcp_line.specs.Link.{GivesAhead, HasFlushed, HasRead};
 
 use crate::account::{Account, past_of};
@@ -76,6 +76,7 @@ impl<T: Clock + Drop> TcpLine<T> {
     fn next_connection(&mut self) -> Accept
         ensures over { result ≢ Accept.Over }
         ensures same { self.new.account ≡ self.old.account }
+        ensures kept { result ≢ Accept.Up → self.new.connection ≡ self.old.connection }
     {
         match self.listener.accept() {
             Ok((stream, _)) => match self.prepare(stream) {
@@ -109,6 +110,7 @@ impl<T: Clock + Drop> TcpLine<T> {
     fn change(&mut self) -> Accept
         ensures over { result ≢ Accept.Over }
         ensures same { self.new.account ≡ self.old.account }
+        ensures gone { result ≢ Accept.Up → self.new.connection ≡ None }
     {
         if !self.close() {
             return Accept::Fault;
@@ -178,6 +180,7 @@ impl<T: Clock + Drop> Line for TcpLine<T> {
     fn accept<R: Wait>(&mut self, _rt: &R) -> Accept
         ensures over { result ≢ Accept.Over }
         ensures said { self.new.account ≡ self.old.account ++ Accepted result ∷ [] }
+        ensures gone { result ≢ Accept.Up → self.new.connection ≡ None }
     {
         let answer = self.change();
         match answer {
@@ -188,7 +191,11 @@ impl<T: Clock + Drop> Line for TcpLine<T> {
         answer
     }
 
-    fn read<R: Wait>(&mut self, _rt: &R, buffer: &mut [u8; PIECE]) -> Read {
+    fn read<R: Wait>(&mut self, _rt: &R, buffer: &mut [u8; PIECE]) -> Read
+        ensures within { IsWithin result }
+        ensures said { self.new.account ≡ self.old.account ++ Gave (given result buffer.new) ∷ [] }
+        ensures gone { result ≡ Read.Fault → self.new.connection ≡ None }
+    {
         let answer = self.hear(buffer);
         let given = match answer {
             Read::Got { count } => Given::Got {
@@ -207,7 +214,10 @@ impl<T: Clock + Drop> Line for TcpLine<T> {
         answer
     }
 
-    fn write<R: Wait>(&mut self, _rt: &R, bytes: &[u8]) -> Result<(), LineFault> {
+    fn write<R: Wait>(&mut self, _rt: &R, bytes: &[u8]) -> Result<(), LineFault>
+        ensures said { MatchResult result (λ _. self.new.account ≡ self.old.account ++ Took bytes.now ∷ []) (λ _. self.new.account ≡ self.old.account ++ Broke_off bytes.now ∷ []) }
+        ensures gone { IfErr result (λ _. self.new.connection ≡ None) }
+    {
         let past = past_of(bytes);
         self.activity.note();
         if self.has_taken(bytes) {
