@@ -1,4 +1,5 @@
-//! Plays a trail, a venue that begins from it, boards of seats and a worker over it, and sees whether they answer as it is written.
+//! Plays a trail, a venue that begins from it, boards of seats, a worker over it and a counterparty's script, and sees whether they answer
+//! as it is written.
 //!
 //! The transcript comes on standard input. A line that is set in tells an answer, an empty line and one that begins with `#` are passed
 //! over, and any other line names a play. The plays are played, and the transcript is written anew with what is seen. Where that is the
@@ -8,6 +9,7 @@
 #![tactic(auto)]
 
 mod boards;
+mod counterparty;
 mod items;
 mod keeping;
 mod line;
@@ -16,6 +18,7 @@ mod older;
 mod opening;
 mod play;
 mod starting;
+mod telling;
 mod timing;
 mod working;
 
@@ -26,11 +29,8 @@ use std::io::Write;
 use std::{env, io};
 use timing::time;
 
-/// Plays the transcript, in which so many growths may be refused.
-fn play_all(rt: &HostRuntime, refusals: u32) -> Result<()> {
-    let mut play = Play::new(rt.alloc(), refusals);
-    let transcript = io::read_to_string(rt.alloc(), rt.stdin())?;
-    play_lines(&mut play, transcript.as_str())?;
+/// Writes what is seen where it is not what was written there.
+fn tell(rt: &HostRuntime, play: &Play, transcript: &str) -> Result<()> {
     let is_same = play.told() == transcript.as_bytes();
     if !is_same {
         rt.stdout().write_all(play.told())?;
@@ -50,14 +50,29 @@ fn time_rows(rt: &HostRuntime, path: Option<String>, rows: Option<String>) -> Re
     Ok(())
 }
 
-fn main(rt: HostRuntime) -> Result<()> {
-    let mut words = env::args(&rt)?.skip(1);
+/// How many growths may be refused in the play that the words ask for; none where they ask for no play, and what they ask for is done.
+/// The play is left to `main`, since `main` alone may wait.
+fn refusals_asked(rt: &HostRuntime) -> Result<Option<u32>> {
+    let mut words = env::args(rt)?.skip(1);
     let Some(word) = words.next() else {
-        return play_all(&rt, 0);
+        return Ok(Some(0));
     };
     match word.as_str() {
-        "one_refused" => play_all(&rt, 1),
-        "time" => time_rows(&rt, words.next(), words.next()),
+        "one_refused" => Ok(Some(1)),
+        "time" => {
+            time_rows(rt, words.next(), words.next())?;
+            Ok(None)
+        }
         _ => Err(anyhow!("usage: trail_transcript [one_refused | time PATH ROWS]")),
     }
+}
+
+fn main(rt: HostRuntime) -> Result<()> {
+    let Some(refusals) = refusals_asked(&rt)? else {
+        return Ok(());
+    };
+    let transcript = io::read_to_string(rt.alloc(), rt.stdin())?;
+    let mut play = Play::new(rt.alloc(), refusals);
+    play_lines(&rt, &mut play, transcript.as_str())?;
+    tell(&rt, &play, transcript.as_str())
 }

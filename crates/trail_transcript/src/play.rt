@@ -33,6 +33,12 @@ fn write_number(
     write(line.as_str(), told)
 }
 
+/// Appends a byte, with `|` for SOH.
+pub fn write_byte(byte: u8, told: &mut Vec<u8>) -> Result<(), AllocError> {
+    told.push(if byte == 1 { b'|' } else { byte })?;
+    Ok(())
+}
+
 // Appends a row, with `|` for SOH, and its moment in milliseconds after the start.
 fn write_row(alloc: Global, row: &TrailRow, told: &mut Vec<u8>) -> Result<(), AllocError> {
     let (n, who, era, number) = (row.n, row.who, row.era, row.number);
@@ -40,7 +46,7 @@ fn write_row(alloc: Global, row: &TrailRow, told: &mut Vec<u8>) -> Result<(), Al
     let front = format!(in alloc; "  {n} at {after}: {who} era {era} number {number} ")?;
     told.extend_from_slice(front.as_bytes())?;
     for byte in row.text.as_slice() {
-        told.push(if *byte == 1 { b'|' } else { *byte })?;
+        write_byte(*byte, told)?;
     }
     told.extend_from_slice(b"\n")
 }
@@ -74,6 +80,17 @@ impl Play {
         }
         ensure!(is_as_before, "a refused call changed what is seen");
         self.refused()
+    }
+
+    /// Appends lines, once more where a growth was refused.
+    pub fn append(&mut self, lines: &[u8]) -> Result<()> {
+        let before = self.told.len();
+        if self.told.extend_from_slice(lines).is_ok() {
+            return Ok(());
+        }
+        self.refused()?;
+        self.told.truncate(before);
+        Ok(self.told.extend_from_slice(lines)?)
     }
 
     /// Appends a line, once more where a growth was refused.

@@ -1,21 +1,16 @@
-//! Messages as lines.
+//! What a counterparty heard and wrote, as lines that are set in.
 
+use crate::play::write_byte;
 use fix_dictionary::Message;
 use fix_printing::print_message;
 use std::alloc::{AllocError, Global};
 
-// A byte, with `|` for SOH.
-fn tell_byte(byte: u8, told: &mut Vec<u8>) -> Result<(), AllocError> {
-    told.push(if byte == 1 { b'|' } else { byte })?;
-    Ok(())
-}
-
 fn tell_message(alloc: Global, message: &Message, told: &mut Vec<u8>) -> Result<(), AllocError> {
     let mut text = Vec::new(alloc);
     print_message(message, &mut text)?;
-    told.extend_from_slice(b"heard ")?;
+    told.extend_from_slice(b"  heard ")?;
     for byte in text.as_slice() {
-        tell_byte(*byte, told)?;
+        write_byte(*byte, told)?;
     }
     told.push(b'\n')?;
     Ok(())
@@ -37,9 +32,9 @@ pub fn tell_heard(
 pub fn tell_written(bytes: &[u8], told: &mut Vec<u8>) -> Result<(), AllocError> {
     for at in 0..bytes.len() {
         if bytes[at..].starts_with(b"8=FIXT.1.1\x01") {
-            told.extend_from_slice(if at == 0 { b"wrote " } else { b"\nwrote " })?;
+            told.extend_from_slice(if at == 0 { b"  wrote " } else { b"\n  wrote " })?;
         }
-        tell_byte(bytes[at], told)?;
+        write_byte(bytes[at], told)?;
     }
     told.push(b'\n')?;
     Ok(())

@@ -1,6 +1,8 @@
 //! The counterparty ALPHA, and the line on which the venue SEF answers it.
 
+use crate::play::{Play, START};
 use crate::telling::{tell_heard, tell_written};
+use anyhow::{Result, ensure};
 use fix_dictionary::{App, FixChar, Identifier, NewOrderSingle, Price, Quantity, Side};
 use gateway::line::Accept;
 use gateway::mem_line::{MemClock, MemLine, Played};
@@ -24,9 +26,6 @@ const COMES: [&str; 7] = [
     "",
     "8=FIXT.1.1|9=51|35=5|49=SEF|56=ALPHA|34=7|52=20250303-14:30:00.000|10=086|",
 ];
-
-/// 3 March 2025, 14:30 UTC.
-const START: u64 = 1_741_012_200_000;
 
 const TURNS: u64 = 20;
 
@@ -116,8 +115,8 @@ fn play_over<R: Wait>(
     }
 }
 
-/// Plays the script over its line: what was heard and what was written, as lines.
-pub fn play<R: Wait>(rt: &R, alloc: Global) -> Result<Vec<u8>, ClientFault> {
+// Plays the script over its line: what was heard and what was written, as lines.
+fn told_once<R: Wait>(rt: &R, alloc: Global) -> Result<Vec<u8>, ClientFault> {
     let Ok(script) = new_script(alloc) else {
         return Err(ClientFault::NoMemory);
     };
@@ -129,4 +128,25 @@ pub fn play<R: Wait>(rt: &R, alloc: Global) -> Result<Vec<u8>, ClientFault> {
     drop(script);
     drop(line);
     told
+}
+
+// Whether a growth was refused: to the script, or to the line, which tells a fault where it cannot keep what is written.
+fn is_refused(fault: ClientFault) -> bool {
+    match fault {
+        ClientFault::NoMemory | ClientFault::LineFault => true,
+        ClientFault::Turns => false,
+    }
+}
+
+/// A script is played, once more over an equal line where a growth was refused, and what was heard and written is told.
+pub fn play_script<R: Wait>(rt: &R, play: &mut Play) -> Result<()> {
+    let told = match told_once(rt, play.alloc) {
+        Ok(told) => told,
+        Err(fault) => {
+            ensure!(is_refused(fault), "a script was given up");
+            play.refused()?;
+            told_once(rt, play.alloc)?
+        }
+    };
+    play.append(&told)
 }
