@@ -150,7 +150,9 @@ class Mutator:
     def is_too_much(self, body):
         """Whether it may begin an era, or make one needed, and enough were."""
         high = re.search(rb"\x01(?:34|36)=0*([0-9]{9,})\x01", body)
-        if not (b"\x01141=Y\x01" in body or (high and int(high.group(1)) > HIGHEST)):
+        # (Python makes no number of some thousand digits)
+        is_high = high and (len(high.group(1)) > len(str(HIGHEST)) or int(high.group(1)) > HIGHEST)
+        if b"\x01141=Y\x01" not in body and not is_high:
             return False
         if self.eras >= MOST_ERAS:
             return True
