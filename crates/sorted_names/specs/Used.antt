@@ -1,7 +1,8 @@
-use Rattle.std.specs.Prelude.{ℕ, ◌-◌, ◌≤◌, ◌^◌, min, List}
+use Rattle.std.specs.Prelude.{ℕ, ◌-◌, ◌≤◌, ◌^◌, ◌++◌, true, false, min, List}
 use Rattle.std.specs.HashSet.{keys, spare}
 use Rattle.sorted_names.specs.declared.names.Name.{Name}
 use Rattle.sorted_names.specs.declared.used.UsedNames.TheInside.{Inside}
+use Rattle.sorted_names.specs.Short.{HasNone}
 
 -- so many names may be added in all
 abbrev pub most : ℕ
@@ -14,7 +15,10 @@ pub record Known : Type 0 where
   pub room : ℕ
 
 abbrev pub known : Inside → Known
-known a = record { names = keys a.names; count = a.count; room = min (spare a.names) (most - a.count) }
+known a = record { names = keys a.short ++ keys a.others; count = a.count; room = min (min (spare a.short) (spare a.others)) (most - a.count) }
 
-abbrev pub AreUsed : Inside → Type 0
-AreUsed a = a.count ≤ most
+-- a short name is kept among the short ones alone, and each other among the others
+pub record AreUsed (a : Inside) : Type 0 where
+  pub few : a.count ≤ most
+  pub short : HasNone false (keys a.short)
+  pub others : HasNone true (keys a.others)

@@ -5,6 +5,7 @@ ghost use Rattle.sorted_names.specs.Names.{is_of};
 ghost use Rattle.sorted_names.specs.Used.{most};
 
 use crate::names::Name;
+use crate::short::{Short, is_short};
 use fix_dictionary::Identifier;
 use participants::Who;
 use std::alloc::{AllocError, Global};
@@ -12,13 +13,15 @@ use std::collections::HashSet;
 use std::hash::{BuildHasherDefault, FoldHasher};
 use std::marker::Model;
 
-// No more names are added to one set of them.
+// No more names are added.
 const MOST: u64 = 0x7fff_ffff_ffff_ffff;
 
-/// Names that were used: whether one was is found by its hash, whatever the count of them.
+/// Names that were used: whether one was is found by its hash, whatever the count of them. A short one (an identifier of at most 36 bytes,
+/// of a participant whose place is below 65,536) takes 48 bytes and the set's index, each other 80.
 #[derive(Drop)]
 pub struct UsedNames {
-    names: HashSet<Name, BuildHasherDefault<FoldHasher>, Global>,
+    short: HashSet<Short, BuildHasherDefault<FoldHasher>, Global>,
+    others: HashSet<Name, BuildHasherDefault<FoldHasher>, Global>,
     count: u64,
 }
 
@@ -39,7 +42,8 @@ impl UsedNames {
         ensures count { result.count ≡ 0 }
     {
         UsedNames {
-            names: HashSet::new(alloc),
+            short: HashSet::new(alloc),
+            others: HashSet::new(alloc),
             count: 0,
         }
     }
@@ -62,14 +66,19 @@ impl UsedNames {
         if MOST - self.count < more as u64 {
             return Err(AllocError);
         }
-        self.names.reserve(more)
+        self.short.reserve(more)?;
+        self.others.reserve(more)
     }
 
     /// Whether there is such a name.
     pub fn has(&self, who: Who, id: &Identifier) -> bool
         ensures { result ≡ list_any (is_of who id.now) self.now.names }
     {
-        self.names.contains(&Name { who, id: *id })
+        if is_short(who, id) {
+            self.short.contains(&Short::new(who, id))
+        } else {
+            self.others.contains(&Name { who, id: *id })
+        }
     }
 
     /// One name more, for which there is room.
@@ -79,7 +88,11 @@ impl UsedNames {
         ensures count { self.new.count ≡ self.old.count + 1 }
         ensures room { self.old.room ≤ self.new.room + 1 }
     {
-        let _added = self.names.insert(name);
+        if is_short(name.who, &name.id) {
+            let _added = self.short.insert(Short::new(name.who, &name.id));
+        } else {
+            let _added = self.others.insert(name);
+        }
         self.count += 1;
     }
 }

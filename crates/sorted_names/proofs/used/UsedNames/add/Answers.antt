@@ -1,12 +1,35 @@
-use Rattle.std.proofs.Common.{◌≡◌, ◌≤◌, true, arith}
+use Rattle.std.proofs.Common.{◌≡◌, ◌∙◌, sym, ◌≤◌, true, false, arith}
 use Rattle.std.specs.Result.{is_ok}
+use Rattle.std.specs.HashSet.{keys}
 use Rattle.sorted_names.specs.Used.{known}
-use Rattle.sorted_names.proofs.Hashed.{given-ok, one-more}
+use Rattle.sorted_names.proofs.Hashed.{given-ok, Gains, one-more, one-more_first, one-more_second, still-none}
+use Rattle.sorted_names.proofs.used.UsedNames.add.Goals.{then-is_short, else-is_short}
 use Rattle.sorted_names.proofs.used.UsedNames.add.Goals as goal
+
+pub invariant_of-self : goal.invariant_of-self
+invariant_of-self c =
+    let room : 1 ≤ (known c.self.inside).room = rw (← c.self.view_is) at c.requires in
+    elim c.if-is_short.branch [
+      | then-is_short w ↦
+          let ok : is_ok w.insert-added.result ≡ true = w.insert-added.ensures.succeeds (omega (arith, room)) in
+          let gains : Gains c.args.name (keys c.self.inside.short) (keys w.insert-added.new.self) = rw (← w.new.ensures) (one-more w.new.result _ _ (given-ok _ w.insert-added.result ok w.insert-added.ensures.updates).0) in
+          rw w.self-inside-is (record { few = omega (arith, room); short = still-none false c.args.name _ _ (sym c.is_short.ensures ∙ w.if-is_short.true) c.self.invariant.short gains; others = c.self.invariant.others })
+      | else-is_short w ↦
+          let ok : is_ok w.insert-added-else-is_short.result ≡ true = w.insert-added-else-is_short.ensures.succeeds (omega (arith, room)) in
+          let gains : Gains c.args.name (keys c.self.inside.others) (keys w.insert-added-else-is_short.new.self) = one-more c.args.name _ _ (given-ok _ w.insert-added-else-is_short.result ok w.insert-added-else-is_short.ensures.updates).0 in
+          rw w.self-inside-is (record { few = omega (arith, room); short = c.self.invariant.short; others = still-none true c.args.name _ _ (sym c.is_short.ensures ∙ w.if-is_short.false) c.self.invariant.others gains })
+    ]
 
 pub returns-clause-names : goal.returns-clause-names
 returns-clause-names c = λ who id.
     let room : 1 ≤ (known c.self.inside).room = rw (← c.self.view_is) at c.requires in
-    let ok : is_ok c.insert-added.result ≡ true = c.insert-added.ensures.succeeds (omega (arith, room)) in
-    let updates = given-ok _ c.insert-added.result ok c.insert-added.ensures.updates in
-    rw (← c.self.view_is) (one-more c.args.name who id _ _ (updates.0 (record { who = who; id = id })))
+    elim c.if-is_short.branch [
+      | then-is_short w ↦
+          let ok : is_ok w.insert-added.result ≡ true = w.insert-added.ensures.succeeds (omega (arith, room)) in
+          let gains : Gains c.args.name (keys c.self.inside.short) (keys w.insert-added.new.self) = rw (← w.new.ensures) (one-more w.new.result _ _ (given-ok _ w.insert-added.result ok w.insert-added.ensures.updates).0) in
+          rw (← c.self.view_is) (rw w.self-inside-is (one-more_first c.args.name _ _ (keys c.self.inside.others) gains who id))
+      | else-is_short w ↦
+          let ok : is_ok w.insert-added-else-is_short.result ≡ true = w.insert-added-else-is_short.ensures.succeeds (omega (arith, room)) in
+          let gains : Gains c.args.name (keys c.self.inside.others) (keys w.insert-added-else-is_short.new.self) = one-more c.args.name _ _ (given-ok _ w.insert-added-else-is_short.result ok w.insert-added-else-is_short.ensures.updates).0 in
+          rw (← c.self.view_is) (rw w.self-inside-is (one-more_second c.args.name (keys c.self.inside.short) _ _ gains who id))
+    ]
