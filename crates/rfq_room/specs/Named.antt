@@ -1,8 +1,13 @@
-use Rattle.std.specs.Prelude.{ℕ, List, Option, Some, None, filter, bytes_eq}
+use Rattle.std.specs.Prelude.{ℕ, ◌==◌, List, Option, Some, None, filter, find, bytes_eq}
 use Rattle.venue_rules.specs.declared.facts.Fact.{Fact}
 use Rattle.venue_rules.specs.declared.facts.Room.{Room}
 use Rattle.venue_rules.specs.declared.facts.RoomQuote.{RoomQuote}
+use Rattle.venue_rules.specs.Facts.{quotes}
 use Rattle.venue_rules.specs.Rooms.{find_quote, live_quotes, room_by_number}
+
+-- a quote by its number
+abbrev pub quote_by_number : List Fact → ℕ → Option RoomQuote
+quote_by_number facts number = find (λ q. q.number == number) (quotes facts)
 
 abbrev pub room_with : List Fact → Option RoomQuote → Option Room
 room_with facts None = None

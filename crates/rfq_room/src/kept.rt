@@ -3,12 +3,12 @@ ghost use Rattle.std.specs.Prelude.{◌≡◌, ◌≤◌, ◌+◌, [], ◌++◌,
 ghost use Rattle.std.specs.Vec.{vec_capacity, vec_len};
 ghost use Rattle.venue_rules.specs.Facts.{next_quote, next_room, rooms as asked};
 ghost use Rattle.venue_rules.specs.Rooms.{find_quote, find_room, is_open, open_rooms, room_by_number};
-ghost use Rattle.rfq_room.specs.Named.{named_quotes, quote_room};
+ghost use Rattle.rfq_room.specs.Named.{named_quotes, quote_by_number, quote_room};
 ghost use Rattle.rfq_room.specs.Steps.{IsPlanOf};
 
 use crate::live::{add_quotes, clear_live, taken_quotes};
 use crate::marks::Marks;
-use crate::numbered::{find_quote, find_room, room_by_number};
+use crate::numbered::{find_quote, find_room, quote_by_number, room_by_number};
 use crate::opened::{OpenRoom, add_open, clear_open, count_all_open, count_open};
 use fix_dictionary::Identifier;
 use participants::Who;
@@ -153,6 +153,13 @@ impl Kept {
         ensures { option_map (λ q. q.now) result ≡ find_quote self.now.facts id.now }
     {
         find_quote(&self.quotes, id)
+    }
+
+    /// A quote by its number.
+    pub(crate) fn quote(&self, number: u64) -> Option<&RoomQuote>
+        ensures { option_map (λ q. q.now) result ≡ quote_by_number self.now.facts number }
+    {
+        quote_by_number(&self.quotes, number)
     }
 
     /// The room of the quote that the venue gave this identifier.

@@ -80,7 +80,7 @@ pub(crate) fn room_by_number(rooms: &[Room], number: u64) -> Option<&Room>
 }
 
 /// The quote of this number.
-fn quote_by_number(quotes: &[RoomQuote], number: u64) -> Option<&RoomQuote>
+pub(crate) fn quote_by_number(quotes: &[RoomQuote], number: u64) -> Option<&RoomQuote>
     requires { AreFrom 1 (map (λ q. q.number) quotes.now) }
     ensures { option_map (λ q. q.now) result ≡ find (λ q. q.number == number) quotes.now }
 {
