@@ -1,4 +1,5 @@
-use Rattle.std.proofs.Common.{◌≡◌, refl, ap, ◌∙◌, ◌+◌, Bool, true, false, ◌&&◌, cond, List, [], ◌∷◌, ◌++◌, append_assoc, Some, Option, None, IsSome, is_some, option_map}
+use Rattle.std.proofs.Common.{◌≡◌, refl, sym, ap, ◌∙◌, ℕ, ◌+◌, Bool, true, false, ◌&&◌, ◌==◌, cond, eq-eqb, List, [], ◌∷◌, ◌++◌, append_assoc, find, Some, Option, None, IsSome, is_some, option_map}
+use Rattle.std.proofs.lemmas.Bool.{eqb-true}
 use Rattle.std.proofs.lemmas.List.Sums.{sum_by-append}
 use Rattle.venue_rules.specs.declared.replies.Reply.{Reply}
 use Rattle.venue_rules.specs.Run.{is_report}
@@ -35,3 +36,23 @@ two-more rs a b = append_assoc rs (a ∷ []) (b ∷ [])
 pub is-there : {X Y : Type 0} (f : X → Y) (x : Option X) (y : Option Y) → option_map f x ≡ y → IsSome y → IsSome x
 is-there f None y e h = ap is_some e ∙ h
 is-there f (Some x) y e h = refl
+
+-- what is found passes the test
+found-passes : {X : Type 0} (p : X → Bool) (xs : List X) (x : X) → find p xs ≡ Some x → p x ≡ true
+found-passes p [] x h = cc
+found-passes {X} p (y ∷ ys) x h = by (p y) refl h (found-passes p ys x)
+  where
+    by : (b : Bool) → p y ≡ b → cond b (Some y) (find p ys) ≡ Some x → (find p ys ≡ Some x → p x ≡ true) → p x ≡ true
+    by true e h rest = ap p (sym (same_some y x h)) ∙ e
+    by false e h rest = rest h
+
+-- what is found by a test of its number is found by the number
+pub by-number : {X : Type 0} (num : X → ℕ) (p : ℕ → Bool) (xs : List X) (x : X) → find (λ y. p (num y)) xs ≡ Some x → find (λ y. num y == num x) xs ≡ Some x
+by-number num p [] x h = cc
+by-number {X} num p (y ∷ ys) x h = by (p (num y)) (num y == num x) refl refl h (by-number num p ys x)
+  where
+    by : (b c : Bool) → p (num y) ≡ b → num y == num x ≡ c → cond b (Some y) (find (λ z. p (num z)) ys) ≡ Some x → (find (λ z. p (num z)) ys ≡ Some x → find (λ z. num z == num x) ys ≡ Some x) → cond c (Some y) (find (λ z. num z == num x) ys) ≡ Some x
+    by true true e f h rest = h
+    by true false e f h rest = let never : true ≡ false = sym (eq-eqb (num y) (num x) (ap num (same_some y x h))) ∙ f in cc
+    by false true e f h rest = let never : true ≡ false = sym (found-passes (λ z. p (num z)) ys x h) ∙ ap p (sym (eqb-true (num y) (num x) f)) ∙ e in cc
+    by false false e f h rest = rest h

@@ -10,7 +10,7 @@ use Rattle.venue_rules.specs.declared.facts.RoomQuote.{RoomQuote}
 use Rattle.venue_rules.specs.declared.refusals.QuoteRefusal.TheVariants as quote
 use Rattle.venue_rules.specs.Market.{Market}
 use Rattle.venue_rules.specs.Facts.{is_quote_id_used, rooms}
-use Rattle.venue_rules.specs.Rooms.{find_room, is_open, printed}
+use Rattle.venue_rules.specs.Rooms.{find_room, is_open, printed, room_by_number}
 use Rattle.rfq_room.specs.Causes.{quote_cause, quote_cause_in, quote_causes, terms_causes}
 use Rattle.rfq_room.specs.Kept.{are_listed}
 use Rattle.rfq_room.specs.Plan.{Plan}
@@ -19,7 +19,7 @@ use Rattle.rfq_room.specs.Views.{first_cause}
 use Rattle.room_answers.specs.Counting.{trades_in}
 use Rattle.room_answers.specs.Known.{are_known}
 use Rattle.room_answers.specs.Read.{first_made}
-use Rattle.room_answers.proofs.Lists.{both, same_some}
+use Rattle.room_answers.proofs.Lists.{both, by-number, same_some}
 use Rattle.room_answers.proofs.Rooms.{below}
 
 -- a quote is planned in a room that is there
@@ -47,6 +47,16 @@ planned-maker facts who d p q count h e below = found (find_room facts d.request
     found : (x : Option Room) → MatchOption x ⊥ (λ r. p ≡ quote_plan (quote_made facts who r d)) → q.maker < count
     found None k = absurd k
     found (Some r) k = subst (λ (q : RoomQuote). q.maker < count) (sym (same_some q (quote_made facts who r d) (e ∙ ap (λ (p : Plan). first_made p.facts) k))) below
+
+-- and the room of its number is the one that is named
+pub planned-number : (facts : List Fact) (who : ℕ) (d : Quote) (p : Plan) (q : RoomQuote) → IsQuotePlanned facts who d p → Some q ≡ first_made p.facts → room_by_number facts q.room ≡ find_room facts d.request_id
+planned-number facts who d p q h e = found (find_room facts d.request_id) refl h
+  where
+    found : (x : Option Room) → find_room facts d.request_id ≡ x → MatchOption x ⊥ (λ r. p ≡ quote_plan (quote_made facts who r d)) → room_by_number facts q.room ≡ x
+    found None is k = absurd k
+    found (Some r) is k =
+        ap (λ (q : RoomQuote). room_by_number facts q.room) (same_some q (quote_made facts who r d) (e ∙ ap (λ (p : Plan). first_made p.facts) k))
+        ∙ by-number (λ (r : Room). r.number) (λ n. bytes_eq (printed 82 n) d.request_id) (rooms facts) r is
 
 -- a room that is found has recipients that are known
 pub find-known : (count : ℕ) (p : Room → Bool) (fs : List Fact) (r : Room) → are_known count fs ≡ true → find p (rooms fs) ≡ Some r → list_all (λ who. nat_lt who count) r.recipients ≡ true

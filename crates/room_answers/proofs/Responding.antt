@@ -1,4 +1,4 @@
-use Rattle.std.proofs.Common.{◌≡◌, refl, sym, ap, ◌∙◌, subst, ℕ, ◌+◌, ◌*◌, ◌<◌, ◌==◌, true, List, length, Option, Some, None, IsSome, MatchOption, option_map, Result, Ok, Err, IfOk}
+use Rattle.std.proofs.Common.{◌≡◌, refl, sym, ap, ◌∙◌, subst, ℕ, ◌+◌, ◌*◌, ◌<◌, ◌==◌, true, List, length, Option, Some, None, IsSome, MatchOption, is_some, option_map, bytes_eq, Result, Ok, Err, IfOk}
 use Rattle.fix_dictionary.specs.declared.messages.QuoteResponse.{QuoteResponse}
 use Rattle.instruments.specs.declared.instruments.Instrument.{Instrument}
 use Rattle.venue_rules.specs.declared.facts.Fact.{Fact}
@@ -6,8 +6,8 @@ use Rattle.venue_rules.specs.declared.facts.Room.{Room}
 use Rattle.venue_rules.specs.declared.facts.RoomQuote.{RoomQuote}
 use Rattle.venue_rules.specs.declared.replies.Reply.{Reply}
 use Rattle.venue_rules.specs.Market.{Market}
-use Rattle.venue_rules.specs.Facts.{History, next_trade, trades}
-use Rattle.venue_rules.specs.Rooms.{find_quote, room_by_number}
+use Rattle.venue_rules.specs.Facts.{History, next_trade, quotes, trades}
+use Rattle.venue_rules.specs.Rooms.{find_quote, printed, room_by_number}
 use Rattle.venue_rules.specs.Answer.{Answer, Sender}
 use Rattle.venue_rules.specs.Responses.{answer_response, passed, room_traded}
 use Rattle.rfq_room.specs.declared.decision.Decision.{Decision}
@@ -19,7 +19,7 @@ use Rattle.rfq_room.specs.declared.refusal.Refusal.{Refusal}
 use Rattle.rfq_room.specs.declared.refusal.ResponseCause.{ResponseCause}
 use Rattle.rfq_room.specs.Causes.{decide, refused_by}
 use Rattle.rfq_room.specs.Kept.{are_listed}
-use Rattle.rfq_room.specs.Named.{quote_room, room_with}
+use Rattle.rfq_room.specs.Named.{quote_by_number, quote_room, room_with}
 use Rattle.rfq_room.specs.Plan.{Plan}
 use Rattle.rfq_room.specs.Plans.{IsResponsePlan, IsResponsePlanned}
 use Rattle.rfq_room.specs.Refusals.{IsRefusalOf, IsResponseRefused, cause_of}
@@ -27,7 +27,9 @@ use Rattle.rfq_room.specs.RoomFacts.{room_facts}
 use Rattle.rfq_room.specs.Told.{response_told}
 use Rattle.room_answers.specs.Counting.{reports_in, trades_in}
 use Rattle.room_answers.specs.Known.{are_known}
-use Rattle.room_answers.specs.Responded.{IsResponseTold, hit_told, hits, pass_told, response_replies}
+use Rattle.room_answers.specs.Read.{first_answered}
+use Rattle.room_answers.specs.Responded.{IsAnswerTo, IsResponseTold, hit_told, hits, pass_told, response_replies}
+use Rattle.room_answers.proofs.Lists.{by-number, same_some}
 use Rattle.room_answers.proofs.Rooms.{find-listed}
 
 -- what the rooms say of the rules' answer
@@ -65,14 +67,17 @@ room-listed count facts id r h e = found count facts (find_quote facts id) r h e
     found count facts None r h e = cc
     found count facts (Some q) r h e = find-listed count (λ r. r.number == q.room) facts r h e
 
--- a plan is of a quote that is there, in a room that is there
+-- a plan is of the quote that is named, in a room that is there
 
-pub planned-quote-there : (facts : List Fact) (who : ℕ) (d : QuoteResponse) (t : ℕ) (decision : Decision) (p : Plan) → IsResponsePlanned facts who d t decision p → IsSome (find_quote facts d.quote_id)
+pub planned-quote-there : (facts : List Fact) (who : ℕ) (d : QuoteResponse) (t : ℕ) (decision : Decision) (p : Plan) → IsResponsePlanned facts who d t decision p → IsAnswerTo facts d.quote_id p.facts
 planned-quote-there facts who d t decision p h = found who t decision p (find_quote facts d.quote_id) (quote_room facts d.quote_id) h
   where
-    found : (who t : ℕ) (decision : Decision) (p : Plan) (x : Option RoomQuote) (y : Option Room) → MatchOption x ⊥ (λ q. MatchOption y ⊥ (λ r. IsResponsePlan who t q r decision p)) → IsSome x
+    found : (who t : ℕ) (decision : Decision) (p : Plan) (x : Option RoomQuote) (y : Option Room) → MatchOption x ⊥ (λ q. MatchOption y ⊥ (λ r. IsResponsePlan who t q r decision p)) → MatchOption x ⊥ (λ q. first_answered p.facts ≡ Some q.number)
     found who t decision p None y h = absurd h
-    found who t decision p (Some q) y h = refl
+    found who t decision p (Some q) None h = absurd h
+    found who t (Refuse c) p (Some q) (Some r) h = absurd h
+    found who t Pass p (Some q) (Some r) h = ap (λ (p : Plan). first_answered p.facts) h
+    found who t (Trade hit) p (Some q) (Some r) h = ap (λ (p : Plan). first_answered p.facts) h
 
 pub planned-room-there : (facts : List Fact) (who : ℕ) (d : QuoteResponse) (t : ℕ) (decision : Decision) (p : Plan) → IsResponsePlanned facts who d t decision p → IsSome (quote_room facts d.quote_id)
 planned-room-there facts who d t decision p h = found who t decision p (find_quote facts d.quote_id) (quote_room facts d.quote_id) h
@@ -81,6 +86,31 @@ planned-room-there facts who d t decision p h = found who t decision p (find_quo
     found who t decision p None y h = absurd h
     found who t decision p (Some q) None h = absurd h
     found who t decision p (Some q) (Some r) h = refl
+
+-- that quote is there, and by the plan's number
+
+pub quote-there : (facts : List Fact) (id : List ℕ) (added : List Fact) → IsAnswerTo facts id added → IsSome (find_quote facts id)
+quote-there facts id added h = found (find_quote facts id) h
+  where
+    found : (x : Option RoomQuote) → MatchOption x ⊥ (λ q. first_answered added ≡ Some q.number) → IsSome x
+    found None k = absurd k
+    found (Some q) k = refl
+
+pub number-there : (facts : List Fact) (id : List ℕ) (added : List Fact) → IsAnswerTo facts id added → IsSome (first_answered added)
+number-there facts id added h = found (find_quote facts id) h
+  where
+    found : (x : Option RoomQuote) → MatchOption x ⊥ (λ q. first_answered added ≡ Some q.number) → IsSome (first_answered added)
+    found None k = absurd k
+    found (Some q) k = ap is_some k
+
+pub answered-quote : (facts : List Fact) (id : List ℕ) (added : List Fact) (number : ℕ) → IsAnswerTo facts id added → Some number ≡ first_answered added → quote_by_number facts number ≡ find_quote facts id
+answered-quote facts id added number h e = found (find_quote facts id) refl h
+  where
+    found : (x : Option RoomQuote) → find_quote facts id ≡ x → MatchOption x ⊥ (λ q. first_answered added ≡ Some q.number) → quote_by_number facts number ≡ x
+    found None is k = absurd k
+    found (Some q) is k =
+        ap (quote_by_number facts) (same_some number q.number (e ∙ k))
+        ∙ by-number (λ (q : RoomQuote). q.number) (λ n. bytes_eq (printed 81 n) id) (quotes facts) q is
 
 -- what a plan adds is a trade where it is a hit, and else none
 one-trade : (who t : ℕ) (p : Plan) (x : Option RoomQuote) (y : Option Room) (z : Decision) → MatchOption x ⊥ (λ q. MatchOption y ⊥ (λ r. IsResponsePlan who t q r z p)) → trades_in p.facts ≡ hits p.hit

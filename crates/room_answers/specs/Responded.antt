@@ -16,6 +16,7 @@ use Rattle.rfq_room.specs.Named.{quote_room}
 use Rattle.rfq_room.specs.declared.decision.Hit.{Hit}
 use Rattle.rfq_room.specs.declared.refusal.ResponseCause.{ResponseCause}
 use Rattle.rfq_room.specs.declared.refusal.ResponseCause.TheVariants as response
+use Rattle.room_answers.specs.Read.{first_answered}
 use Rattle.room_answers.specs.Sent.{other_side, to_maker, traded_report}
 
 -- a pass is told to the sender and to the maker
@@ -39,6 +40,10 @@ response_replies instruments reports traded s d r q (Some hit) = hit_told instru
 abbrev pub IsResponseTold : List Instrument → List Fact → ℕ → ℕ → Sender → QuoteResponse → Option Hit → List Reply → Type 0
 IsResponseTold instruments facts reports traded s d hit replies =
     MatchOption (find_quote facts d.quote_id) ⊥ (λ q. MatchOption (quote_room facts d.quote_id) ⊥ (λ r. replies ≡ response_replies instruments reports traded s d r q hit))
+
+-- what is added passes or hits the quote that is named
+abbrev pub IsAnswerTo : List Fact → List ℕ → List Fact → Type 0
+IsAnswerTo facts id added = MatchOption (find_quote facts id) ⊥ (λ q. first_answered added ≡ Some q.number)
 
 -- how many trades a hit is, if there is one
 abbrev pub hits : Option Hit → ℕ

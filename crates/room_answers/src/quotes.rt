@@ -196,8 +196,8 @@ fn accepted(
     ensures facts { IfOk result (λ a. a.facts ≡ plan.facts) }
     ensures told { IfOk result (IsQuoteAnswer participants.now instruments.now rooms.now.facts book.now.facts (sent_by sender (codes "S")) quote.now) }
 {
-    let room = rooms.find_room(&quote.request_id).unwrap();
     let made = made(&plan).unwrap();
+    let room = rooms.room(made.room).unwrap();
     let quoted = rooms.has_quote(room.number);
     let symbol = symbol_of(instruments, room.instrument);
     let replies = told(

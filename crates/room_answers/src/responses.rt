@@ -4,7 +4,6 @@ ghost use Rattle.participants.specs.ParticipantFile.{ParticipantFile};
 ghost use Rattle.venue_rules.specs.Answer.{answers};
 ghost use Rattle.venue_rules.specs.Facts.{History, trades};
 ghost use Rattle.venue_rules.specs.Responses.{answer_response, response_status};
-ghost use Rattle.venue_rules.specs.Rooms.{find_quote};
 ghost use Rattle.rfq_room.specs.Kept.{are_listed};
 ghost use Rattle.rfq_room.specs.Named.{quote_room};
 ghost use Rattle.rfq_room.specs.RoomFacts.{room_facts};
@@ -12,7 +11,8 @@ ghost use Rattle.rfq_room.specs.Steps.{IsPlanOf};
 ghost use Rattle.rfq_room.specs.Told.{response_refused};
 ghost use Rattle.room_answers.specs.Counting.{trades_in};
 ghost use Rattle.room_answers.specs.Known.{are_known};
-ghost use Rattle.room_answers.specs.Responded.{IsResponseTold, hit_told, hits, is_own_room, pass_told, refused_state, response_replies};
+ghost use Rattle.room_answers.specs.Read.{first_answered, quote_at};
+ghost use Rattle.room_answers.specs.Responded.{IsAnswerTo, IsResponseTold, hit_told, hits, is_own_room, pass_told, refused_state, response_replies};
 ghost use Rattle.room_answers.specs.Senders.{market, sent_by};
 ghost use Rattle.room_answers.specs.Sent.{other_side, symbol_in, traded_report};
 
@@ -28,8 +28,8 @@ use rfq_room::{Cause, Hit, ResponseCause, RoomPlan, Rooms, rooms_decide};
 use sef_moment::Moment;
 use std::alloc::{AllocError, Global};
 use venue_rules::{
-    BusinessRefusal, QuoteState, QuoteStatus, Reply, ResponseRefusal, Room, RoomQuote, RoomReport,
-    What, opposite, symbol_of,
+    BusinessRefusal, Fact, Place, QuoteState, QuoteStatus, Reply, ResponseRefusal, Room, RoomQuote,
+    RoomReport, What, opposite, symbol_of,
 };
 
 // The requester's identifier of the request of a room, where there is one.
@@ -117,28 +117,6 @@ fn is_own_room(cause: ResponseCause) -> bool
     }
 }
 
-// An answer refused: the room is named from where it is known to be the sender's own.
-fn refused_in(
-    alloc: Global,
-    instruments: &Instruments,
-    sender: Sender,
-    response: &QuoteResponse,
-    room: Option<&Room>,
-    cause: ResponseCause,
-) -> Result<RoomAnswer, AllocError>
-    requires { IfSome room (λ r. r.now.instrument < length instruments.now) }
-    ensures quiet { IfOk result (λ a. a.facts ≡ []) }
-    ensures told { IfOk result (λ a. (participants : ParticipantFile) → a ≡ response_refused (market participants instruments.now) (sent_by sender (codes "AJ")) response.now (option_map (λ r. r.now) room.entry) cause) }
-{
-    let Some(state) = refused_state(cause) else {
-        return unprocessed(alloc, sender, b"AJ", BusinessRefusal::SideMissing);
-    };
-    if is_own_room(cause) {
-        return told(alloc, instruments, sender, response, room, state);
-    }
-    told(alloc, instruments, sender, response, None, state)
-}
-
 // Two replies.
 fn both(alloc: Global, first: Reply, second: Reply) -> Result<Vec<Reply>, AllocError>
     ensures { IfOk result (λ v. v.items ≡ first ∷ second ∷ []) }
@@ -148,7 +126,7 @@ fn both(alloc: Global, first: Reply, second: Reply) -> Result<Vec<Reply>, AllocE
     Ok(replies)
 }
 
-// An answer refused, by the room of the quote that it names.
+// An answer refused: the quote's room is named, and looked for, from where it is known to be the sender's own.
 fn refused(
     alloc: Global,
     instruments: &Instruments,
@@ -161,8 +139,14 @@ fn refused(
     ensures quiet { IfOk result (λ a. a.facts ≡ []) }
     ensures told { IfOk result (λ a. (participants : ParticipantFile) → a ≡ response_refused (market participants instruments.now) (sent_by sender (codes "AJ")) response.now (quote_room rooms.now.facts response.now.quote_id) cause) }
 {
+    let Some(state) = refused_state(cause) else {
+        return unprocessed(alloc, sender, b"AJ", BusinessRefusal::SideMissing);
+    };
+    if !is_own_room(cause) {
+        return told(alloc, instruments, sender, response, None, state);
+    }
     let room = rooms.quote_room(&response.quote_id);
-    refused_in(alloc, instruments, sender, response, room, cause)
+    told(alloc, instruments, sender, response, room, state)
 }
 
 // A pass: the sender and the maker are told.
@@ -325,7 +309,28 @@ fn accepted_in(
     Ok(RoomAnswer::of(plan, replies, 2 * trades, trades))
 }
 
-// An answer accepted, by the quote that it names and the quote's room.
+// The number of the quote at which there is a trade, where it is in a room.
+fn quote_at(place: &Place) -> Option<u64>
+    ensures { result ≡ quote_at place.now }
+{
+    match place {
+        Place::Book(_, _) => None,
+        Place::Room(_, quote) => Some(*quote),
+    }
+}
+
+// The number of the quote that a plan passes or hits.
+fn answered_quote(plan: &RoomPlan) -> Option<u64>
+    ensures { result ≡ first_answered plan.now.facts }
+{
+    match plan.facts().first() {
+        Some(Fact::Withdrawn(withdrawal)) => Some(withdrawal.quote),
+        Some(Fact::Traded(trade)) => quote_at(&trade.place),
+        _ => None,
+    }
+}
+
+// An answer accepted, by the quote that the plan passes or hits and the quote's room.
 fn accepted(
     alloc: Global,
     instruments: &Instruments,
@@ -339,13 +344,14 @@ fn accepted(
     requires listed { are_listed (length instruments.now) rooms.now.facts ≡ true }
     requires reports { reports < 2 ^ 61 }
     requires traded { traded < 2 ^ 61 }
-    requires quote { IsSome (find_quote rooms.now.facts response.now.quote_id) }
+    requires quote { IsAnswerTo rooms.now.facts response.now.quote_id plan.facts }
     requires room { IsSome (quote_room rooms.now.facts response.now.quote_id) }
     requires trade { trades_in plan.facts ≡ hits plan.hit }
     ensures facts { IfOk result (λ a. a.facts ≡ plan.facts) }
     ensures told { IfOk result (λ a. IsResponseTold instruments.now rooms.now.facts reports traded (sent_by sender (codes "AJ")) response.now plan.hit a.replies) }
 {
-    let quote = rooms.find_quote(&response.quote_id).unwrap();
+    let number = answered_quote(&plan).unwrap();
+    let quote = rooms.quote(number).unwrap();
     let room = rooms.room(quote.room).unwrap();
     accepted_in(
         alloc,

@@ -1,19 +1,21 @@
-use Rattle.std.proofs.Common.{◌≡◌, ◌∙◌, ap, sym, codes, bytes_eq, length, option_map, Some}
+use Rattle.std.proofs.Common.{◌≡◌, ◌∙◌, ap, sym, codes, ◌==◌, length, option_map, Some}
 use Rattle.venue_rules.specs.Answer.{Answer}
-use Rattle.venue_rules.specs.Rooms.{find_room, printed}
+use Rattle.venue_rules.specs.Rooms.{find_room, room_by_number}
 use Rattle.room_answers.specs.Counting.{reports_in}
 use Rattle.room_answers.specs.Quoted.{quote_replies}
 use Rattle.room_answers.specs.Read.{first_made}
 use Rattle.room_answers.specs.Senders.{sent_by}
 use Rattle.room_answers.proofs.Lists.{is-there}
-use Rattle.room_answers.proofs.Makers.{planned-made, planned-maker, planned-room, quote-untraded}
+use Rattle.room_answers.proofs.Makers.{planned-made, planned-maker, planned-number, planned-room, quote-untraded}
 use Rattle.room_answers.proofs.Quoting.{planned-answer, replies-quiet}
 use Rattle.room_answers.proofs.Rooms.{find-listed}
 use Rattle.room_answers.proofs.quotes.accepted.Goals as goal
 
 pub unwrap-room-requires : goal.unwrap-room-requires
 unwrap-room-requires c =
-    is-there (λ r. r.now) c.find_room.result (find_room c.args.rooms.now.facts c.args.quote.now.request_id) c.find_room.ensures
+    let first : Some c.unwrap-made.result.now ≡ first_made c.args.plan.facts = sym (ap (option_map (λ q. q.now)) c.unwrap-made.ensures) ∙ c.made.ensures in
+    is-there (λ r. r.now) c.room.result (find_room c.args.rooms.now.facts c.args.quote.now.request_id)
+    (c.room.ensures ∙ planned-number c.args.rooms.now.facts c.args.sender.who c.args.quote.now c.args.plan c.unwrap-made.result.now c.requires.planned first)
     (planned-room c.args.rooms.now.facts c.args.sender.who c.args.quote.now c.args.plan c.requires.planned)
 
 pub unwrap-made-requires : goal.unwrap-made-requires
@@ -23,8 +25,8 @@ unwrap-made-requires c =
 
 pub symbol_of-symbol-requires : goal.symbol_of-symbol-requires
 symbol_of-symbol-requires c =
-    let found : find_room c.args.rooms.now.facts c.args.quote.now.request_id ≡ Some c.unwrap-room.result.now = sym c.find_room.ensures ∙ ap (option_map (λ r. r.now)) c.unwrap-room.ensures in
-    find-listed (length c.args.instruments.now) (λ r. bytes_eq (printed 82 r.number) c.args.quote.now.request_id) c.args.rooms.now.facts c.unwrap-room.result.now c.requires.listed found
+    let found : room_by_number c.args.rooms.now.facts c.unwrap-made.result.now.room ≡ Some c.unwrap-room.result.now = sym c.room.ensures ∙ ap (option_map (λ r. r.now)) c.unwrap-room.ensures in
+    find-listed (length c.args.instruments.now) (λ r. r.number == c.unwrap-made.result.now.room) c.args.rooms.now.facts c.unwrap-room.result.now c.requires.listed found
 
 pub told-requires : goal.told-requires
 told-requires c =
@@ -44,8 +46,9 @@ returns-clause-facts c = ap (λ (a : Answer). a.facts) c.of.ensures
 
 pub returns-clause-told : goal.returns-clause-told
 returns-clause-told c =
-    let found : find_room c.args.rooms.now.facts c.args.quote.now.request_id ≡ Some c.unwrap-room.result.now = sym c.find_room.ensures ∙ ap (option_map (λ r. r.now)) c.unwrap-room.ensures in
     let first : Some c.unwrap-made.result.now ≡ first_made c.args.plan.facts = sym (ap (option_map (λ q. q.now)) c.unwrap-made.ensures) ∙ c.made.ensures in
+    let number = c.room.ensures ∙ planned-number c.args.rooms.now.facts c.args.sender.who c.args.quote.now c.args.plan c.unwrap-made.result.now c.requires.planned first in
+    let found : find_room c.args.rooms.now.facts c.args.quote.now.request_id ≡ Some c.unwrap-room.result.now = sym number ∙ ap (option_map (λ r. r.now)) c.unwrap-room.ensures in
     planned-answer c.args.participants.now c.args.instruments.now c.args.rooms.now.facts c.args.book.now.facts (sent_by c.args.sender (codes "S")) c.args.quote.now c.unwrap-room.result.now c.unwrap-made.result.now
     c.args.plan c.symbol_of-symbol.result c.in_ok-replies.replies.items c.of.result
     found c.requires.planned first c.symbol_of-symbol.ensures

@@ -10,7 +10,7 @@ use Rattle.rfq_room.specs.Steps.{IsPlanOf}
 use Rattle.rfq_room.specs.declared.decision.Decision.TheVariants.{Refuse}
 use Rattle.rfq_room.specs.declared.refusal.Cause.TheVariants as cause
 use Rattle.room_answers.specs.Known.{are_known}
-use Rattle.room_answers.specs.Responded.{IsResponseTold}
+use Rattle.room_answers.specs.Responded.{IsAnswerTo, IsResponseTold}
 use Rattle.room_answers.specs.Senders.{market, sent_by}
 use Rattle.room_answers.proofs.Rooms.{quiet-known, quiet-listed, quiet-made}
 use Rattle.room_answers.proofs.Responding.{accepted-answer, if-both, planned-quote-there, planned-room-there, planned-trades, response-answer, response-holds, response-known}
@@ -21,7 +21,7 @@ accepted-requires-clause-listed c = ap (are_listed (length c.args.instruments.no
 
 pub accepted-requires-clause-quote : goal.accepted-requires-clause-quote
 accepted-requires-clause-quote c =
-    subst (λ fs. IsSome (find_quote fs c.args.response.now.quote_id)) (sym c.plan_answer.ensures.kept)
+    subst (λ fs. IsAnswerTo fs c.args.response.now.quote_id c.in-Ok.plan.facts) (sym c.plan_answer.ensures.kept)
     (planned-quote-there c.args.rooms.now.facts c.args.sender.who c.args.response.now c.args.moment (decide c.args.rooms.now.facts c.args.sender.who c.args.response.now c.args.moment) c.in-Ok.plan c.in-Ok.ensures.planned)
 
 pub accepted-requires-clause-room : goal.accepted-requires-clause-room
