@@ -1,10 +1,10 @@
-"""Times book_transcript and its peers in C++ in turn, at several sizes, and prints the nanoseconds of each request and their ratio."""
+"""Times the book and the rooms by world_transcript and their peers in C++ in turn, at several sizes; prints nanoseconds and ratios."""
 
 import os
 import subprocess
 import sys
 
-PROGRAM = "crates/book_transcript/out/book_transcript"
+PROGRAM = "crates/world_transcript/out/world_transcript"
 # how many rest on each side of each instrument, how many orders came and went, how many instruments, how many orders are timed in
 # the plain book
 SIZES = (
@@ -57,13 +57,14 @@ def time_rooms(timed, place):
 
 def main():
     timed, place = int(sys.argv[1]), sys.argv[2]
-    # builds it where it is not built, and plays it
-    subprocess.run(["rt", "run"], cwd="crates/book_transcript", check=True, stdin=subprocess.DEVNULL, capture_output=True)
+    # builds it where it is not built, and plays its transcript
+    with open("crates/world_transcript/stdin", "rb") as file:
+        subprocess.run(["rt", "run"], cwd="crates/world_transcript", check=True, stdin=file, capture_output=True)
     for resting, gone, instruments, plain in SIZES:
         # (where many rest, one request is timed in each instrument)
         timed_here = min(timed, instruments) if resting * instruments > 10_000 else timed
         size = [str(resting), str(gone), str(instruments), str(timed_here)]
-        ours, theirs = in_turn([PROGRAM, *size, str(plain)], [os.path.join(place, "book_peer"), *size], TURNS)
+        ours, theirs = in_turn([PROGRAM, "book", *size, str(plain)], [os.path.join(place, "book_peer"), *size], TURNS)
         book, peer = best(ours), best(theirs)
         print(f"{resting} rest on each side, {gone} gone, {instruments} instruments:")
         for kind in KINDS:

@@ -3,19 +3,24 @@
 //!
 //! The transcript comes on standard input, in parts: a line `part NAME` begins one, of moments, frames and fields (`bytes`), of what the
 //! dictionary answers (`dictionary`), of what a session has numbered (`store`), of what a session answers (`session`), of files of
-//! participants and of instruments (`files`), of what a venue answers (`venue`), of what a world of events answers (`world`), or of
-//! frames that go through a world and beside that through its sessions alone and a venue alone (`beside`); one without parts is of a
-//! world. A line that is set in tells an answer. What is told is played, and the transcript is written anew with what is answered. Where
-//! that is the transcript that came, nothing is written; else the new one is, and the status is 1. A call that is refused for want of
-//! memory ends the program or is told; with the argument `one_refused` one call may be, which is made once more. With the argument `feed`
-//! what comes is no transcript, but what a counterparty sends: a session hears it, and what was taken is told. With the argument `timed`
-//! it is what the part `beside` has, with its bytes as they are; what came of it is told, and how long it took.
+//! participants and of instruments (`files`), of what both books answer (`book`), of what a venue answers (`venue`), of what a world of
+//! events answers (`world`), or of frames that go through a world and beside that through its sessions alone and a venue alone
+//! (`beside`); one without parts is of a world. A line that is set in tells an answer. What is told is played, and the transcript is
+//! written anew with what is answered. Where that is the transcript that came, nothing is written; else the new one is, and the status is
+//! 1. A call that is refused for want of memory ends the program or is told; with the argument `one_refused` one call may be, which is
+//! made once more.
+//!
+//! With the argument `feed` what comes is no transcript, but what a counterparty sends: a session hears it, and what was taken is told.
+//! With the argument `timed` it is what the part `beside` has, with its bytes as they are; what came of it is told, and how long it took.
+//! With the arguments of `bench/book` nothing comes: how long requests take in the book and in rooms is told.
 #![tactic(auto)]
 
 mod beside;
+mod book;
 mod bytes;
 mod dictionary;
 mod files;
+mod fixture;
 mod lines;
 mod moments;
 mod parts;
@@ -24,25 +29,18 @@ mod session;
 mod store;
 mod telling;
 mod texts;
+mod times;
 mod venue;
 mod world;
 
-use anyhow::{Result, ensure};
+use anyhow::{Result, bail, ensure};
 use beside::playing::told_of;
+use book::measuring::{Size, tell, tell_rooms};
 use parts::told_anew;
 use refusals::Refusals;
 use session::feeding::feed;
 use std::io::Write;
 use std::{env, io};
-
-fn has_argument(rt: &HostRuntime, word: &str) -> Result<bool> {
-    for argument in env::args(rt)? {
-        if argument.as_str() == word {
-            return Ok(true);
-        }
-    }
-    Ok(false)
-}
 
 fn play(rt: &HostRuntime, refusals: &mut Refusals) -> Result<()> {
     let transcript = io::read_to_string(rt.alloc(), rt.stdin())?;
@@ -70,17 +68,43 @@ fn tell_timed(rt: &HostRuntime) -> Result<()> {
     Ok(())
 }
 
+// The numbers that stand behind the first word.
+fn numbers_behind(rt: &HostRuntime) -> Result<Vec<u64>> {
+    let mut numbers = Vec::new(rt.alloc());
+    for word in env::args(rt)?.skip(2) {
+        numbers.push(word.as_str().parse::<u64>()?)?;
+    }
+    Ok(numbers)
+}
+
+fn tell_measured(rt: &HostRuntime, word: &str) -> Result<()> {
+    let numbers = numbers_behind(rt)?;
+    match (word, numbers.as_slice()) {
+        ("book", [resting, gone, instruments, timed, plain]) => {
+            let size = Size {
+                resting: *resting,
+                gone: *gone,
+                instruments: (*instruments).min(1_000) as u32,
+                timed: *timed,
+            };
+            tell(rt, size, *plain)
+        }
+        ("rooms", [gone, timed]) => tell_rooms(rt, *gone, *timed),
+        _ => bail!(
+            "usage: world_transcript [one_refused | feed | timed | book RESTING GONE INSTRUMENTS TIMED PLAIN | rooms GONE TIMED]"
+        ),
+    }
+}
+
 fn main(rt: HostRuntime) -> Result<()> {
-    if has_argument(&rt, "feed")? {
-        return tell_fed(&rt);
-    }
-    if has_argument(&rt, "timed")? {
-        return tell_timed(&rt);
-    }
-    let most = if has_argument(&rt, "one_refused")? {
-        1
-    } else {
-        0
+    let mut words = env::args(&rt)?.skip(1);
+    let Some(word) = words.next() else {
+        return play(&rt, &mut Refusals::at_most(0));
     };
-    play(&rt, &mut Refusals::at_most(most))
+    match word.as_str() {
+        "one_refused" => play(&rt, &mut Refusals::at_most(1)),
+        "feed" => tell_fed(&rt),
+        "timed" => tell_timed(&rt),
+        word => tell_measured(&rt, word),
+    }
 }

@@ -2,7 +2,7 @@
 
 use crate::refusals::Refusals;
 use crate::texts::write_again;
-use crate::{beside, bytes, dictionary, files, session, store, venue, world};
+use crate::{beside, book, bytes, dictionary, files, session, store, venue, world};
 use anyhow::{Result, bail};
 
 /// What a line begins with that begins a part; behind it stands what is played there.
@@ -23,6 +23,7 @@ fn play_part(
         "store" => store::line::play_lines(alloc, lines, told, refusals),
         "session" => session::line::play_lines(alloc, lines, told, refusals),
         "files" => files::line::play_lines(alloc, lines, told, refusals),
+        "book" => book::line::play_part(rt, lines, told),
         "venue" => venue::line::play_part(alloc, lines, told, refusals),
         "world" => world::line::play_part(alloc, lines, told, refusals),
         "beside" => beside::playing::play_part(rt, lines, told),

@@ -3,7 +3,8 @@
 use crate::beside::market::{Letter, Market};
 use crate::beside::sent::Sent;
 use crate::beside::sessions::Sessions;
-use crate::beside::times::{Spent, since};
+use crate::beside::times::Spent;
+use crate::times::since;
 use anyhow::Result;
 use sef_moment::Moment;
 use std::time::Instant;

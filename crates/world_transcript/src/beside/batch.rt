@@ -2,8 +2,9 @@
 
 use crate::beside::apart::{Apart, play as play_apart};
 use crate::beside::sent::{Sent, sent_in};
-use crate::beside::times::{Spent, Times, since};
+use crate::beside::times::{Spent, Times};
 use crate::beside::together::{Together, play as play_together};
+use crate::times::since;
 use anyhow::{Result, ensure};
 use sef_moment::Moment;
 use std::time::Instant;

@@ -6,6 +6,7 @@ use crate::beside::market::Market;
 use crate::beside::sessions::Sessions;
 use crate::beside::times::Times;
 use crate::beside::together::{Together, resume_all};
+use crate::fixture::DELAY;
 use crate::moments::start;
 use crate::texts::bytes_in;
 use anyhow::{Result, bail};
@@ -16,9 +17,6 @@ use std::str;
 use venue_core::Venue;
 use venue_rules::fixture_instruments;
 use venue_world::{ListTrail, World};
-
-/// The delay between linked orders, in milliseconds.
-const DELAY: u64 = 15_000;
 
 fn participants_of(alloc: Global, file: &str) -> Result<Participants> {
     Ok(Participants::read(alloc, file.as_bytes())?)

@@ -1,8 +1,7 @@
 //! How long it took.
 
-use anyhow::Result;
+use crate::times::median;
 use std::alloc::{AllocError, Global};
-use std::time::Instant;
 
 /// How many of the last batches are looked at.
 const LAST: usize = 11;
@@ -41,20 +40,11 @@ pub(crate) struct Times {
     venue: Vec<u64>,
 }
 
-pub(crate) fn since(rt: &HostRuntime, start: Instant) -> Result<u64> {
-    let spent = start.elapsed(rt)?;
-    Ok(u64::try_from(spent.as_nanos()).unwrap_or(u64::MAX))
-}
-
 // The middle one of the last of these times.
 fn middle(alloc: Global, times: &[u64]) -> Result<u64, AllocError> {
     let first = times.len().saturating_sub(LAST);
     let mut last = Vec::from_slice(alloc, &times[first..])?;
-    last.sort_unstable();
-    Ok(match last.get(last.len() / 2) {
-        Some(time) => *time,
-        None => 0,
-    })
+    Ok(median(&mut last))
 }
 
 impl Times {

@@ -2,6 +2,7 @@
 ghost use Rattle.std.specs.Prelude.{◌≡◌, ◌≤◌, ◌+◌, IfOk};
 ghost use Rattle.venue_core.specs.Plan.{IsPlanOf};
 
+use crate::fixture::fixture;
 use crate::venue::line::Trouble;
 use crate::venue::market::Market;
 use crate::venue::message::{Sent, taken};
@@ -9,7 +10,7 @@ use crate::venue::telling::tell_replies;
 use sef_moment::Moment;
 use std::alloc::{AllocError, Global};
 use venue_core::{Plan, Venue};
-use venue_rules::{Taken, fixture_instruments, fixture_participants};
+use venue_rules::Taken;
 
 /// How many items a transcript may give to one venue.
 const MOST_ITEMS: u32 = 1_000_000;
@@ -75,8 +76,7 @@ impl Stage {
 
     /// The venue of the fixture, before a transcript opens one of its own.
     pub fn new(alloc: Global) -> Result<Stage, AllocError> {
-        let participants = fixture_participants(alloc)?;
-        let instruments = fixture_instruments(alloc, 15_000)?;
+        let (participants, instruments) = fixture(alloc)?;
         let venue = Venue::open(alloc, participants, instruments)?;
         Ok(Stage::of(venue))
     }

@@ -1,5 +1,6 @@
 //! Calls that are made of a world.
 
+use crate::fixture::fixture;
 use crate::refusals::Refusals;
 use crate::world::call::Call;
 use crate::world::filling::fill;
@@ -8,11 +9,8 @@ use anyhow::{Result, ensure};
 use fix_session::Step;
 use sef_moment::Moment;
 use std::alloc::{AllocError, Global};
-use venue_rules::{EventFault, Who, fixture_instruments, fixture_participants};
+use venue_rules::{EventFault, Who};
 use venue_world::{Event, Piece, World};
-
-/// The delay between linked orders, in milliseconds.
-const DELAY: u64 = 15_000;
 
 /// A world whose keeper may refuse a row.
 pub type Played = World<FaultyTrail>;
@@ -32,8 +30,7 @@ pub enum Answer {
 
 /// The fixture's world, in which nothing has happened; its keeper refuses the row of this number once.
 pub fn new_world(alloc: Global, refuses: Option<u64>) -> Result<Played, AllocError> {
-    let participants = fixture_participants(alloc)?;
-    let instruments = fixture_instruments(alloc, DELAY)?;
+    let (participants, instruments) = fixture(alloc)?;
     World::new(
         alloc,
         participants,

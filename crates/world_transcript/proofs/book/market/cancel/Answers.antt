@@ -1,7 +1,7 @@
 use Rattle.std.proofs.Common.{◌≡◌, ◌∙◌, ap, sym, refl, Some, option_map}
 use Rattle.venue_rules.specs.Book.{Resting, find_order}
 use Rattle.price_book.specs.Views.{seen}
-use Rattle.book_transcript.proofs.market.cancel.Goals as goal
+use Rattle.world_transcript.proofs.book.market.cancel.Goals as goal
 
 pub plan_cancel-requires : goal.plan_cancel-requires
 plan_cancel-requires c =

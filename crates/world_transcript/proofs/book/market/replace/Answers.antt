@@ -1,7 +1,7 @@
 use Rattle.std.proofs.Common.{◌≡◌, ◌∙◌, ap, sym, refl, Some, option_map, arith}
 use Rattle.venue_rules.specs.Book.{Resting, find_order}
 use Rattle.price_book.specs.Views.{seen}
-use Rattle.book_transcript.proofs.market.replace.Goals as goal
+use Rattle.world_transcript.proofs.book.market.replace.Goals as goal
 
 pub plan_replace-requires : goal.plan_replace-requires
 plan_replace-requires c =

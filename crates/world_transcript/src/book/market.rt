@@ -1,14 +1,16 @@
 //! Who trades what, and their requests, each as a venue makes it: looked up, planned and applied.
 
-use crate::stream::quantity;
+use crate::book::stream::quantity;
+use crate::fixture::fixture;
+use crate::moments::start;
 use anyhow::{Result, anyhow};
 use fix_dictionary::{Identifier, Price};
 use instruments::Instruments;
 use participants::{Participants, Who};
 use price_book::{PriceBook, ScannedBook};
 use sef_moment::Moment;
-use std::alloc::Global;
-use venue_rules::{OrderFact, fixture_instruments, fixture_participants};
+use std::alloc::{AllocError, Global};
+use venue_rules::OrderFact;
 
 /// Who trades what, and when.
 #[derive(Drop)]
@@ -18,20 +20,13 @@ pub(crate) struct Market {
     pub(crate) moment: Moment,
 }
 
-/// The delay between linked orders, in milliseconds.
-pub(crate) const DELAY: u64 = 15_000;
-
 /// Five participants, and two instruments.
-pub(crate) fn market_of(alloc: Global) -> Result<Market> {
-    let participants = fixture_participants(alloc)?;
-    let instruments = fixture_instruments(alloc, DELAY)?;
-    let Some(moment) = Moment::of_ms(1_000) else {
-        return Err(anyhow!("no moment"));
-    };
+pub(crate) fn market_of(alloc: Global) -> Result<Market, AllocError> {
+    let (participants, instruments) = fixture(alloc)?;
     Ok(Market {
         participants,
         instruments,
-        moment,
+        moment: start(),
     })
 }
 

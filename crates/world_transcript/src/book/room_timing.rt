@@ -1,8 +1,8 @@
 //! Times requests for quotes, quotes and hits.
 
-use crate::facility::Facility;
-use crate::messages::{hit_of, quote_of, request_of};
-use crate::timing::{median, since};
+use crate::book::facility::Facility;
+use crate::book::messages::{hit_of, quote_of, request_of};
+use crate::times::{median, since};
 use anyhow::{Result, anyhow};
 use participants::Who;
 use std::alloc::Global;

@@ -1,6 +1,6 @@
-//! The requests for quotes, quotes and hits that are timed, each as a venue makes it: planned, looked up and applied.
+//! The requests for quotes, quotes and hits that are timed, each as a venue makes it: looked up, planned and applied.
 
-use crate::market::Market;
+use crate::book::market::Market;
 use anyhow::{Result, anyhow};
 use fix_dictionary::{Quote, QuoteRequest, QuoteResponse};
 use participants::Who;
@@ -54,6 +54,10 @@ impl Facility {
 
     /// A quote; tells whether it is the first in its room.
     pub(crate) fn quote(&mut self, who: Who, quote: &Quote) -> Result<bool> {
+        let Some(room) = self.rooms.find_room(&quote.request_id) else {
+            return Err(anyhow!("no room"));
+        };
+        let first = !self.rooms.has_quote(room.number);
         let market = &self.market;
         let Ok(plan) = self.rooms.plan_quote(
             &market.participants,
@@ -65,19 +69,12 @@ impl Facility {
         else {
             return Err(anyhow!("refused"));
         };
-        let Some(room) = self.rooms.find_room(&quote.request_id) else {
-            return Err(anyhow!("no room"));
-        };
-        let first = !self.rooms.has_quote(room.number);
         self.rooms.apply(plan);
         Ok(first)
     }
 
     /// A hit of a quote; tells its maker.
     pub(crate) fn hit(&mut self, who: Who, response: &QuoteResponse) -> Result<Who> {
-        let Ok(plan) = self.rooms.plan_answer(who, response, self.market.moment) else {
-            return Err(anyhow!("refused"));
-        };
         let Some(quote) = self.rooms.find_quote(&response.quote_id) else {
             return Err(anyhow!("no quote"));
         };
@@ -85,6 +82,9 @@ impl Facility {
             return Err(anyhow!("no room"));
         };
         let maker = quote.maker;
+        let Ok(plan) = self.rooms.plan_answer(who, response, self.market.moment) else {
+            return Err(anyhow!("refused"));
+        };
         self.rooms.apply(plan);
         Ok(maker)
     }

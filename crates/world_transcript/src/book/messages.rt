@@ -1,6 +1,6 @@
 //! The requests for quotes, quotes and hits that are timed.
 
-use crate::stream::{id_of, price, quantity};
+use crate::book::stream::{id_of, price, quantity};
 use anyhow::{Result, anyhow};
 use fix_dictionary::{
     FixChar, FixInt, Identifier, Parties, Party, Quote, QuoteRequest, QuoteResponse, Side,

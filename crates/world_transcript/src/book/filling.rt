@@ -1,12 +1,13 @@
 //! A book filled to the brim: what has room there is not refused.
 
-use crate::market::{Market, enter, market_of};
-use crate::stream::{order_of, quantity, standing};
+use crate::book::market::{Market, enter, market_of};
+use crate::book::stream::{order_of, quantity, standing};
+use crate::telling::tell_line;
 use anyhow::Result;
 use fix_dictionary::Side;
 use participants::Who;
 use price_book::{PriceBook, Refusal};
-use std::alloc::Global;
+use std::alloc::{AllocError, Global};
 use venue_rules::OrderFact;
 
 /// The n-th of orders of 10 that rest, of two participants.
@@ -104,18 +105,16 @@ fn fill_book(alloc: Global) -> Result<Filled> {
     fill_sides(&market, &mut book)
 }
 
+fn tell_filled(alloc: Global, filled: &Filled, told: &mut Vec<u8>) -> Result<(), AllocError> {
+    let text = format!(in alloc;
+        "200 orders on each side: {} refused\n  one more is refused as the side is full: {}\n  shown {}\n  filled by one order {}, shown then {}",
+        filled.refused, filled.is_full, filled.shown, filled.fills, filled.left
+    )?;
+    tell_line(text.as_str(), told)
+}
+
 /// Fills both sides of an instrument, shows them, and takes one side off by one order.
-pub(crate) fn fill(rt: &HostRuntime, alloc: Global) -> Result<()> {
+pub(crate) fn fill(alloc: Global, told: &mut Vec<u8>) -> Result<()> {
     let filled = fill_book(alloc)?;
-    println!(rt; "200 orders on each side: {} refused", filled.refused)?;
-    println!(rt;
-        "one more is refused as the side is full: {}",
-        filled.is_full
-    )?;
-    println!(rt; "shown {}", filled.shown)?;
-    println!(rt;
-        "filled by one order {}, shown then {}",
-        filled.fills, filled.left
-    )?;
-    Ok(())
+    Ok(tell_filled(alloc, &filled, told)?)
 }

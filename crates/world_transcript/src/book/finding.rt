@@ -1,13 +1,14 @@
 //! How many identifiers a search looks at.
 
-use crate::filling::resting;
-use crate::market::{Market, enter, market_of};
-use crate::stream::id_of;
+use crate::book::filling::resting;
+use crate::book::market::{Market, enter, market_of};
+use crate::book::stream::id_of;
+use crate::telling::tell_line;
 use anyhow::Result;
 use fix_dictionary::Side;
 use participants::Who;
 use price_book::PriceBook;
-use std::alloc::Global;
+use std::alloc::{AllocError, Global};
 use venue_rules::OrderFact;
 
 // The n-th of orders that rest, 200 on a side.
@@ -61,12 +62,21 @@ fn look_for_all(alloc: Global, orders: u64) -> Result<Looks> {
     Ok(look(&book, orders, refused))
 }
 
-/// Looks for each of so many orders that rest.
-pub(crate) fn find(rt: &HostRuntime, alloc: Global, orders: u64) -> Result<()> {
-    let looks = look_for_all(alloc, orders)?;
-    println!(rt;
+fn tell_looks(
+    alloc: Global,
+    orders: u64,
+    looks: Looks,
+    told: &mut Vec<u8>,
+) -> Result<(), AllocError> {
+    let text = format!(in alloc;
         "{orders} identifiers: {} refused, {} not found, at most {} looked at",
         looks.refused, looks.lost, looks.most
     )?;
-    Ok(())
+    tell_line(text.as_str(), told)
+}
+
+/// Looks for each of so many orders that rest.
+pub(crate) fn find(alloc: Global, orders: u64, told: &mut Vec<u8>) -> Result<()> {
+    let looks = look_for_all(alloc, orders)?;
+    Ok(tell_looks(alloc, orders, looks, told)?)
 }
