@@ -39,9 +39,16 @@ fn answer(
     ensures { venue.new.items ≤ venue.old.items + 1 }
 {
     let plan = venue.plan(taken, t)?;
-    let letters = letters_of(alloc, plan.replies())?;
-    venue.apply(plan);
-    Ok(letters)
+    match letters_of(alloc, plan.replies()) {
+        Ok(letters) => {
+            venue.apply(plan);
+            Ok(letters)
+        }
+        Err(fault) => {
+            drop(plan);
+            Err(fault)
+        }
+    }
 }
 
 /// A venue, and how many messages it may have taken.

@@ -102,7 +102,10 @@ fn fill_sides(market: &Market, book: &mut PriceBook) -> Result<Filled> {
 fn fill_book(alloc: Global) -> Result<Filled> {
     let market = market_of(alloc)?;
     let mut book = PriceBook::new(alloc);
-    fill_sides(&market, &mut book)
+    let filled = fill_sides(&market, &mut book);
+    drop(book);
+    drop(market);
+    filled
 }
 
 fn tell_filled(alloc: Global, filled: &Filled, told: &mut Vec<u8>) -> Result<(), AllocError> {

@@ -59,7 +59,10 @@ fn look_for_all(alloc: Global, orders: u64) -> Result<Looks> {
     let market = market_of(alloc)?;
     let mut book = PriceBook::new(alloc);
     let refused = enter_all(&market, &mut book, orders);
-    Ok(look(&book, orders, refused))
+    let looks = look(&book, orders, refused);
+    drop(book);
+    drop(market);
+    Ok(looks)
 }
 
 fn tell_looks(

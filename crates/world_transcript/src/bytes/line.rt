@@ -9,6 +9,7 @@ use crate::lines::{self, Part};
 use crate::refusals::Refusals;
 use anyhow::{Result, bail, ensure};
 use std::alloc::{AllocError, Global};
+use std::mem;
 
 // What a line does to the text, if it is one that does.
 fn write_text(state: &mut State, word: &str, rest: &str) -> Result<bool, Trouble> {
@@ -64,7 +65,7 @@ fn play_once(
         return Ok(true);
     }
     if line.starts_with('#') {
-        *state = State::new(alloc);
+        drop(mem::replace(state, State::new(alloc)));
         return Ok(true);
     }
     let (word, rest) = line.split_once(' ').unwrap_or((line, ""));

@@ -73,7 +73,9 @@ fn read_again(
 
 fn print_copy(alloc: Global, app: &App, text: &mut Vec<u8>) -> Result<(), AllocError> {
     let copy = app.copy(alloc)?;
-    print_app(&copy, text)
+    let printed = print_app(&copy, text);
+    drop(copy);
+    printed
 }
 
 fn print(alloc: Global, reading: &Reading, text: &mut Vec<u8>) -> Result<(), AllocError> {
@@ -110,7 +112,11 @@ fn answer_to_fields(
     refusals: &mut Refusals,
 ) -> Result<Answer> {
     match read_again(alloc, form, fields, refusals)? {
-        Ok(reading) => printed(alloc, &reading, refusals),
+        Ok(reading) => {
+            let answer = printed(alloc, &reading, refusals);
+            drop(reading);
+            answer
+        }
         Err(fault) => Ok(Answer::Fault(fault)),
     }
 }

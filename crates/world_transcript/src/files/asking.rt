@@ -109,7 +109,11 @@ fn tell_with_delays(
         return Ok(false);
     };
     match file.with_delays(alloc, &delays) {
-        Ok(other) => tell_instruments(alloc, &other, told)?,
+        Ok(other) => {
+            let is_told = tell_instruments(alloc, &other, told);
+            drop(other);
+            is_told?
+        }
         Err(DelayFault::NoMemory) => return Err(AllocError),
         Err(fault) => tell(alloc, &fault, told)?,
     }

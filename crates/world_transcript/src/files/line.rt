@@ -18,8 +18,9 @@ fn read_participants(
 ) -> Result<(), AllocError> {
     match Participants::read(alloc, &files.text) {
         Ok(file) => {
-            tell_count(alloc, file.len(), "participants", told)?;
-            files.participants = Some(file);
+            let count = file.len();
+            drop(files.participants.replace(file));
+            tell_count(alloc, count, "participants", told)?
         }
         Err(FileFault::NoMemory) => return Err(AllocError),
         Err(fault) => tell(alloc, &fault, told)?,
@@ -36,8 +37,9 @@ fn read_instruments(
 ) -> Result<(), AllocError> {
     match Instruments::read(alloc, &files.text) {
         Ok(file) => {
-            tell_count(alloc, file.len(), "instruments", told)?;
-            files.instruments = Some(file);
+            let count = file.len();
+            drop(files.instruments.replace(file));
+            tell_count(alloc, count, "instruments", told)?
         }
         Err(InstrumentFault::NoMemory) => return Err(AllocError),
         Err(fault) => tell(alloc, &fault, told)?,
@@ -187,5 +189,7 @@ pub fn play_lines(
     refusals: &mut Refusals,
 ) -> Result<()> {
     let mut files = Files::new(alloc);
-    lines::play_lines(alloc, &mut files, lines, told, refusals)
+    let played = lines::play_lines(alloc, &mut files, lines, told, refusals);
+    drop(files);
+    played
 }

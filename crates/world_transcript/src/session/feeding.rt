@@ -66,11 +66,8 @@ fn hear(session: &mut Session, piece: &[u8], t: Moment, taken: &mut Taken) -> Re
     Ok(())
 }
 
-/// What a session with a line that is up takes of all that a reader gives.
-pub fn feed<R: Read>(alloc: Global, reader: &mut R) -> Result<Taken> {
-    let t = start();
-    let mut session = new_session(alloc)?;
-    session.resume(t);
+// Hears all that a reader gives.
+fn hear_all<R: Read>(session: &mut Session, reader: &mut R, t: Moment) -> Result<Taken> {
     let mut taken = Taken {
         frames: 0,
         orders: 0,
@@ -82,7 +79,17 @@ pub fn feed<R: Read>(alloc: Global, reader: &mut R) -> Result<Taken> {
         if count == 0 {
             break;
         }
-        hear(&mut session, &buffer[..count], t, &mut taken)?;
+        hear(session, &buffer[..count], t, &mut taken)?;
     }
     Ok(taken)
+}
+
+/// What a session with a line that is up takes of all that a reader gives.
+pub fn feed<R: Read>(alloc: Global, reader: &mut R) -> Result<Taken> {
+    let t = start();
+    let mut session = new_session(alloc)?;
+    session.resume(t);
+    let taken = hear_all(&mut session, reader, t);
+    drop(session);
+    taken
 }

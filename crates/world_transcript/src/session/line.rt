@@ -9,7 +9,8 @@ use crate::session::telling::tell;
 use crate::texts::{bytes_in, times_in, write_again};
 use anyhow::{Result, anyhow};
 use fix_session::Session;
-use std::alloc::{AllocError, Global};
+use std::alloc::Global;
+use std::mem;
 
 // The call of a line, read once more where a growth was refused.
 fn read(alloc: Global, line: &str, refusals: &mut Refusals) -> Result<Call> {
@@ -52,9 +53,19 @@ fn tell_once(told: &mut Vec<u8>, start: usize, last: usize) {
     }
 }
 
-// The names of both sides, where a line begins a new session of these.
+// The names of both sides, where a line begins a new session.
 fn names_in(line: &str) -> Option<(&str, &str)> {
+    if line.starts_with('#') {
+        return Some(("SEF", "ALPHA"));
+    }
     line.strip_prefix("new ")?.split_once(' ')
+}
+
+// A new session in the place of this one.
+fn begin(alloc: Global, session: &mut Session, own: &str, peer: &str) -> Result<()> {
+    let begun = new_session(alloc, own, peer)?;
+    drop(mem::replace(session, begun));
+    Ok(())
 }
 
 fn fed(alloc: Global, text: &str) -> Result<Answer> {
@@ -81,19 +92,31 @@ fn answer_to(
     if line.is_empty() {
         return Ok(Answer::Nothing);
     }
-    if line.starts_with('#') {
-        *session = new_session(alloc, "SEF", "ALPHA")?;
-        return Ok(Answer::Nothing);
-    }
     if let Some((own, peer)) = names_in(line) {
-        *session = new_session(alloc, own, peer)?;
+        begin(alloc, session, own, peer)?;
         return Ok(Answer::Nothing);
     }
     if let Some(text) = line.strip_prefix("feed ") {
         return feed_again(alloc, text, refusals);
     }
     let call = read(alloc, line, refusals)?;
-    play(session, &call, refusals)
+    let answer = play(session, &call, refusals);
+    drop(call);
+    answer
+}
+
+// Makes the call of a line, and appends what the session answers.
+fn answer(
+    alloc: Global,
+    session: &mut Session,
+    line: &str,
+    told: &mut Vec<u8>,
+    refusals: &mut Refusals,
+) -> Result<()> {
+    let answer = answer_to(alloc, session, line, refusals)?;
+    let is_told = tell_again(alloc, &answer, told, refusals);
+    drop(answer);
+    is_told
 }
 
 impl Part for Session {
@@ -110,8 +133,7 @@ impl Part for Session {
         let (times, call) = times_in(line);
         for _ in 0..times {
             let last = told.len();
-            let answer = answer_to(alloc, self, call, refusals)?;
-            tell_again(alloc, &answer, told, refusals)?;
+            answer(alloc, self, call, told, refusals)?;
             tell_once(told, start, last);
         }
         Ok(())
@@ -126,5 +148,7 @@ pub fn play_lines(
     refusals: &mut Refusals,
 ) -> Result<()> {
     let mut session = new_session(alloc, "SEF", "ALPHA")?;
-    lines::play_lines(alloc, &mut session, lines, told, refusals)
+    let played = lines::play_lines(alloc, &mut session, lines, told, refusals);
+    drop(session);
+    played
 }

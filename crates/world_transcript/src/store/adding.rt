@@ -21,7 +21,9 @@ fn add_message(alloc: Global, store: &mut Store, text: &str) -> Result<bool, Sto
         return Ok(false);
     };
     let number = store.next_number();
-    store.add_app(number, &app, first_sent)?;
+    let added = store.add_app(number, &app, first_sent);
+    drop(app);
+    added?;
     Ok(true)
 }
 

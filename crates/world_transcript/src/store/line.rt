@@ -9,6 +9,7 @@ use crate::texts::{times_in, write_again};
 use anyhow::{Result, bail, ensure};
 use resend_store::{Store, StoreFault};
 use std::alloc::{AllocError, Global};
+use std::mem;
 
 // Makes a call, and appends what is answered; false where it is no call.
 fn ask(
@@ -70,7 +71,7 @@ impl Part for Store {
             return Ok(());
         }
         if line.starts_with('#') {
-            *self = Store::new(alloc);
+            drop(mem::replace(self, Store::new(alloc)));
             return Ok(());
         }
         let (times, call) = times_in(line);
@@ -89,5 +90,7 @@ pub fn play_lines(
     refusals: &mut Refusals,
 ) -> Result<()> {
     let mut store = Store::new(alloc);
-    lines::play_lines(alloc, &mut store, lines, told, refusals)
+    let played = lines::play_lines(alloc, &mut store, lines, told, refusals);
+    drop(store);
+    played
 }

@@ -48,7 +48,10 @@ fn step(
     ensures { venue.new.items ≤ venue.old.items + 1 }
 {
     let plan = plan(venue, input)?;
-    tell_replies(alloc, venue.participants(), plan.replies(), told)?;
+    if let Err(fault) = tell_replies(alloc, venue.participants(), plan.replies(), told) {
+        drop(plan);
+        return Err(fault);
+    }
     venue.apply(plan);
     Ok(())
 }
@@ -122,7 +125,10 @@ impl Stage {
         told: &mut Vec<u8>,
     ) -> Result<(), Trouble> {
         let taken = taken(alloc, self.venue.participants(), self.number, sent, place)?;
-        self.take(alloc, &Input::Message(taken, moment), told)?;
+        let input = Input::Message(taken, moment);
+        let is_taken = self.take(alloc, &input, told);
+        drop(input);
+        is_taken?;
         self.number = self.number.saturating_add(1);
         Ok(())
     }

@@ -16,15 +16,23 @@ pub fn name_of(participants: &Participants, who: Who) -> &[u8] {
     }
 }
 
+// The text of a reply's message.
+fn text_of(alloc: Global, reply: &Reply) -> Result<Vec<u8>, AllocError> {
+    let app = message_of(alloc, reply)?;
+    let mut text = Vec::new(alloc);
+    let printed = print_app(&app, &mut text);
+    drop(app);
+    printed?;
+    Ok(text)
+}
+
 fn tell_reply(
     alloc: Global,
     participants: &Participants,
     reply: &Reply,
     told: &mut Vec<u8>,
 ) -> Result<(), AllocError> {
-    let app = message_of(alloc, reply)?;
-    let mut text = Vec::new(alloc);
-    print_app(&app, &mut text)?;
+    let text = text_of(alloc, reply)?;
     told.extend_from_slice(b"  ")?;
     told.extend_from_slice(name_of(participants, reply.to))?;
     told.push(b' ')?;
