@@ -1,4 +1,4 @@
-use Rattle.std.proofs.Common.{◌≡◌, ◌∙◌, ap, ◌||◌, sym}
+use Rattle.std.proofs.Common.{◌∙◌, ap, ◌||◌, sym}
 use Rattle.std.specs.List.{list_any}
 use Rattle.std.specs.HashSet.{keys}
 use Rattle.std.proofs.lemmas.List.Folds.{list_any-append}
