@@ -37,6 +37,13 @@ struct Play {
 }
 
 impl Play {
+    // A market without participants and instruments, in the place of the one that is told.
+    fn begin(&mut self, alloc: Global) -> Result<(), Trouble> {
+        let market = Market::new(alloc)?;
+        drop(mem::replace(&mut self.market, market));
+        Ok(())
+    }
+
     // A new venue, on the market that is told.
     fn open(&mut self, alloc: Global) -> Result<(), Trouble> {
         let stage = Stage::open(alloc, &self.market)?;
@@ -141,19 +148,18 @@ fn call(
 ) -> Result<(), Trouble> {
     let (word, rest) = line.split_once(' ').unwrap_or((line, ""));
     match word {
-        "market" => play.market = Market::new(alloc)?,
-        "participants" => play.market.add_participants(alloc, rest)?,
-        "related" => play.market.add_related(alloc, rest)?,
-        "instrument" => play.market.add_instrument(alloc, rest)?,
-        "open" => play.open(alloc)?,
-        "number" => play.stage.number_from(rest)?,
-        "due" => tell_due(play, rest, told)?,
-        "trades" => tell_trades(alloc, play.stage.venue(), told)?,
-        "room" => tell_numbered(alloc, play, rest, told)?,
-        "times" => take_many(alloc, play, rest, told, refusals)?,
-        _ => take(alloc, play, word, rest, told)?,
+        "market" => play.begin(alloc),
+        "participants" => play.market.add_participants(alloc, rest),
+        "related" => play.market.add_related(alloc, rest),
+        "instrument" => play.market.add_instrument(alloc, rest),
+        "open" => play.open(alloc),
+        "number" => play.stage.number_from(rest),
+        "due" => tell_due(play, rest, told),
+        "trades" => Ok(tell_trades(alloc, play.stage.venue(), told)?),
+        "room" => tell_numbered(alloc, play, rest, told),
+        "times" => take_many(alloc, play, rest, told, refusals),
+        _ => take(alloc, play, word, rest, told),
     }
-    Ok(())
 }
 
 // Makes the call of a line, once more where a growth was refused.
