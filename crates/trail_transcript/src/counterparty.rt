@@ -1,13 +1,12 @@
 //! The counterparty ALPHA, and the line on which the venue SEF answers it.
 
-use crate::play::{Play, START};
+use crate::play::{Play, start_moment};
 use crate::telling::{tell_heard, tell_written};
 use anyhow::{Result, ensure};
 use fix_dictionary::{App, FixChar, Identifier, NewOrderSingle, Price, Quantity, Side};
 use gateway::line::Accept;
 use gateway::mem_line::{MemClock, MemLine, Played};
 use sef_client::{ClientFault, Heard, Script, ScriptStep};
-use sef_moment::Moment;
 use std::alloc::{AllocError, Global};
 use std::mem::drop;
 use std::sync::Wait;
@@ -104,10 +103,7 @@ fn play_over<R: Wait>(
     script: &Script,
     line: &mut MemLine,
 ) -> Result<Vec<u8>, ClientFault> {
-    let Some(start) = Moment::of_ms(START) else {
-        return Err(ClientFault::Turns);
-    };
-    let mut clock = MemClock::from(start);
+    let mut clock = MemClock::from(start_moment());
     let heard = script.run(rt, alloc, line, &mut clock, TURNS)?;
     match told_of(alloc, &heard, line) {
         Ok(told) => Ok(told),

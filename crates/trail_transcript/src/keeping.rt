@@ -2,10 +2,10 @@
 ghost use Rattle.std.specs.Prelude.{◌≡◌, ◌+◌, length, IsTrue};
 ghost use Rattle.audit_trail.specs.Trail.{is_readable, kept_rows};
 
-use crate::items::{ITEMS, Sent, row_of};
+use crate::items::{ITEMS, Sent, new_row};
 use crate::market::{empty, files};
 use crate::opening::play_opening;
-use crate::play::Play;
+use crate::play::{Play, if_told};
 use anyhow::{Result, anyhow, ensure};
 use audit_trail::{Files, Trail};
 use sqlite::{Alter, Connection};
@@ -98,16 +98,11 @@ fn record<S: Alter>(play: &mut Play, trail: &mut Trail<S>, row: &TrailRow) -> Re
 }
 
 /// Records the next item.
-pub fn record_item<S: Alter>(
-    play: &mut Play,
-    trail: &mut Trail<S>,
-    sent: &Sent,
-    era: u32,
-) -> Result<()> {
+pub fn record_item<S: Alter>(play: &mut Play, trail: &mut Trail<S>, sent: &Sent) -> Result<()> {
     let Some(n) = trail.len().checked_add(1) else {
         return Err(anyhow!("too many rows"));
     };
-    let row = row_of(play, n, sent, era)?;
+    let row = new_row(play, n, sent)?;
     let recorded = record(play, trail, &row);
     drop(row);
     recorded
@@ -136,8 +131,8 @@ pub fn tell_rows(play: &mut Play, rows: &[TrailRow]) -> Result<()> {
     Ok(())
 }
 
-/// Tells what is seen of a trail: its last row, how often it refused, its delays and its rows.
-pub fn tell_trail<S: Alter>(play: &mut Play, trail: &mut Trail<S>, files: &Files) -> Result<()> {
+/// Tells what is seen of a trail but its rows: its last row, how often it refused, its files and its delays.
+pub fn tell_seen<S: Alter>(play: &mut Play, trail: &Trail<S>, files: &Files) -> Result<()> {
     let seen = seen_of(trail);
     play.tell("rows", seen.rows)?;
     play.tell("last", seen.last)?;
@@ -147,6 +142,12 @@ pub fn tell_trail<S: Alter>(play: &mut Play, trail: &mut Trail<S>, files: &Files
     for ms in trail.delays() {
         play.tell("delay", *ms)?;
     }
+    Ok(())
+}
+
+/// The same, and its rows.
+pub fn tell_trail<S: Alter>(play: &mut Play, trail: &mut Trail<S>, files: &Files) -> Result<()> {
+    tell_seen(play, trail, files)?;
     let rows = rows(play, trail)?;
     let told = tell_rows(play, rows.as_slice());
     drop(rows);
@@ -157,7 +158,7 @@ pub fn tell_trail<S: Alter>(play: &mut Play, trail: &mut Trail<S>, files: &Files
 fn record_items<S: Alter>(play: &mut Play, trail: &mut Trail<S>) -> Result<()> {
     for (place, sent) in ITEMS.iter().enumerate() {
         let era = if place == 6 { 2 } else { 1 };
-        record_item(play, trail, sent, era)?;
+        record_item(play, trail, &Sent { era, ..*sent })?;
         play.tell("recorded", trail.len())?;
     }
     Ok(())
@@ -178,14 +179,7 @@ pub fn keep<S: Alter + Drop>(
 ) -> Result<Connection<S>> {
     let mut trail = create(play, conn, files)?;
     let filled = fill(play, &mut trail, files);
-    let conn = trail.into_connection();
-    match filled {
-        Ok(()) => Ok(conn),
-        Err(error) => {
-            drop(conn);
-            Err(error)
-        }
-    }
+    if_told(filled, trail.into_connection())
 }
 
 /// A trail is made, kept, and opened again.

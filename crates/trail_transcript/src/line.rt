@@ -2,16 +2,29 @@
 
 use crate::boards::play_board;
 use crate::counterparty::play_script;
+use crate::eras::play_eras;
 use crate::keeping::play_keeping;
 use crate::older::play_older;
 use crate::play::Play;
 use crate::starting::play_starting;
+use crate::steps::{play_file, play_steps};
+use crate::stops::play_stops;
 use crate::working::play_working;
 use anyhow::{Result, bail};
 use std::sync::Wait;
 
+// Plays what a line names by its first word, with the others.
+fn play_by(play: &mut Play, word: &str, rest: &str) -> Result<()> {
+    match word {
+        "trail" => play_steps(play, rest),
+        "eras" => play_eras(play, rest),
+        "stop" => play_stops(play, rest),
+        _ => bail!("no play: {word}"),
+    }
+}
+
 // Plays what a line names.
-fn play_named<R: Wait>(rt: &R, play: &mut Play, line: &str) -> Result<()> {
+fn play_named<R: Wait>(host: &HostRuntime, rt: &R, play: &mut Play, line: &str) -> Result<()> {
     match line {
         "keep" => play_keeping(play),
         "migrate 1" => play_older(play, 1),
@@ -20,12 +33,16 @@ fn play_named<R: Wait>(rt: &R, play: &mut Play, line: &str) -> Result<()> {
         "board" => play_board(play),
         "work" => play_working(play),
         "script" => play_script(rt, play),
-        _ => bail!("no play: {line}"),
+        "file" => play_file(host, play),
+        _ => {
+            let (word, rest) = line.split_once(' ').unwrap_or((line, ""));
+            play_by(play, word, rest)
+        }
     }
 }
 
 // Plays a line, and appends it with what is seen; a line that tells an answer is passed over.
-fn play_line<R: Wait>(rt: &R, play: &mut Play, line: &str) -> Result<()> {
+fn play_line<R: Wait>(host: &HostRuntime, rt: &R, play: &mut Play, line: &str) -> Result<()> {
     if line.starts_with("  ") {
         return Ok(());
     }
@@ -33,13 +50,18 @@ fn play_line<R: Wait>(rt: &R, play: &mut Play, line: &str) -> Result<()> {
     if line.is_empty() || line.starts_with('#') {
         return Ok(());
     }
-    play_named(rt, play, line)
+    play_named(host, rt, play, line)
 }
 
-/// Plays all lines.
-pub fn play_lines<R: Wait>(rt: &R, play: &mut Play, transcript: &str) -> Result<()> {
+/// Plays all lines: what may wait by one of the two, and what has a file by the other.
+pub fn play_lines<R: Wait>(
+    host: &HostRuntime,
+    rt: &R,
+    play: &mut Play,
+    transcript: &str,
+) -> Result<()> {
     for line in transcript.lines() {
-        play_line(rt, play, line)?;
+        play_line(host, rt, play, line)?;
     }
     Ok(())
 }

@@ -1,5 +1,5 @@
 //! Plays a trail, a venue that begins from it, boards of seats, a worker over it and a counterparty's script, and sees whether they answer
-//! as it is written.
+//! as it is written; of a trail also what bad files, other eras and a stop at each call leave of it.
 //!
 //! The transcript comes on standard input. A line that is set in tells an answer, an empty line and one that begins with `#` are passed
 //! over, and any other line names a play. The plays are played, and the transcript is written anew with what is seen. Where that is the
@@ -10,6 +10,8 @@
 
 mod boards;
 mod counterparty;
+mod day;
+mod eras;
 mod items;
 mod keeping;
 mod line;
@@ -17,7 +19,10 @@ mod market;
 mod older;
 mod opening;
 mod play;
+mod seats;
 mod starting;
+mod steps;
+mod stops;
 mod telling;
 mod timing;
 mod working;
@@ -73,6 +78,6 @@ fn main(rt: HostRuntime) -> Result<()> {
     };
     let transcript = io::read_to_string(rt.alloc(), rt.stdin())?;
     let mut play = Play::new(rt.alloc(), refusals);
-    play_lines(&rt, &mut play, transcript.as_str())?;
+    play_lines(&rt, &rt, &mut play, transcript.as_str())?;
     tell(&rt, &play, transcript.as_str())
 }

@@ -15,6 +15,10 @@ const PARTICIPANTS: &str =
 const INSTRUMENTS: &str =
     "[[instrument]]\nsymbol = \"IRS5Y\"\ntick = 2500\nleast = 1\nrfq_life = 30\n[[instrument]]\nsymbol = \"BASIS1Y\"\ntick = 2500\nleast = 1\nrfq_life = 30\n";
 
+/// The second of two instruments has a delay of its own.
+const OWN_DELAY: &str =
+    "[[instrument]]\nsymbol = \"IRS5Y\"\ntick = 2500\nleast = 1\nrfq_life = 30\n[[instrument]]\nsymbol = \"BASIS1Y\"\ntick = 2500\nleast = 1\nrfq_life = 30\ndelay_ms = 1000\n";
+
 /// The usual delay between linked orders, in milliseconds.
 const USUAL_DELAY: u64 = 15_000;
 
@@ -26,6 +30,38 @@ pub fn make_files(alloc: Global) -> Result<Files, AllocError> {
         participants: FileText::from_vec(participants),
         instruments: FileText::from_vec(instruments),
     })
+}
+
+// A file's text, filled up with a comment to so many bytes.
+fn filled(alloc: Global, text: &str, length: usize) -> Result<FileText, AllocError> {
+    let mut bytes = Vec::from_slice(alloc, text.as_bytes())?;
+    for _ in text.len()..length {
+        bytes.push(b'#')?;
+    }
+    Ok(FileText::from_vec(bytes))
+}
+
+// The texts of both files, each filled up to so many bytes.
+fn filled_files(alloc: Global, instruments: &str, length: usize) -> Result<Files, AllocError> {
+    let participants = filled(alloc, PARTICIPANTS, length)?;
+    let instruments = filled(alloc, instruments, length)?;
+    Ok(Files {
+        participants,
+        instruments,
+    })
+}
+
+/// The texts of both files that a word names: the usual ones, with no instruments, with a delay of an instrument's own, with instruments
+/// that their reader refuses, or filled up with a comment to so many bytes.
+pub fn files_named(alloc: Global, name: &str) -> Result<Files> {
+    let (instruments, length) = match name {
+        "usual" => (INSTRUMENTS, 0),
+        "none" => ("", 0),
+        "own_delay" => (OWN_DELAY, 0),
+        "misread" => ("instrument = 1", 0),
+        _ => (INSTRUMENTS, name.parse::<usize>()?),
+    };
+    Ok(filled_files(alloc, instruments, length)?)
 }
 
 /// The texts of both files, made once more where a growth was refused.
@@ -44,7 +80,8 @@ pub struct Market {
     pub instruments: Instruments,
 }
 
-fn make_market(alloc: Global) -> Result<Market, AllocError> {
+/// What both files tell.
+pub fn make_market(alloc: Global) -> Result<Market, AllocError> {
     let participants = fixture_participants(alloc)?;
     let instruments = fixture_instruments(alloc, USUAL_DELAY)?;
     Ok(Market {

@@ -1,6 +1,6 @@
 //! Trails of versions 1 and 2, and what is made of them.
 
-use crate::items::{ITEMS, Sent, moment_of};
+use crate::items::{ITEMS, Sent};
 use crate::keeping::tell_trail;
 use crate::market::files;
 use crate::opening::{looked_at, open};
@@ -27,15 +27,12 @@ const ITEM: &str = "INSERT INTO item (n, who, number, moment, text) VALUES (?1, 
 
 // Writes an item as older venues did; `false` where it is refused.
 fn write_item<S: Alter>(conn: &mut Connection<S>, n: i64, sent: &Sent) -> bool {
-    let Ok(moment) = moment_of(sent) else {
-        return false;
-    };
-    let (Ok(from), Ok(moment)) = (i64::try_from(sent.from), i64::try_from(moment.ms())) else {
+    let Ok(moment) = i64::try_from(sent.moment().ms()) else {
         return false;
     };
     let values = [
         ValueRef::Int(n),
-        ValueRef::Int(from.saturating_add(1)),
+        ValueRef::Int(i64::from(sent.who)),
         ValueRef::Int(i64::from(sent.number)),
         ValueRef::Int(moment),
         ValueRef::Blob(sent.text.as_bytes()),
@@ -64,8 +61,8 @@ fn write_head<S: Alter>(conn: &mut Connection<S>, files: &Files, version: i64) -
     conn.execute(HEAD, &values).is_ok()
 }
 
-// Writes a trail of version 1 or 2; `false` where a statement is refused.
-fn write_older<S: Alter>(conn: &mut Connection<S>, files: &Files, version: i64) -> bool {
+/// Writes a trail of version 1 or 2; `false` where a statement is refused.
+pub fn write_older<S: Alter>(conn: &mut Connection<S>, files: &Files, version: i64) -> bool {
     if conn.execute_batch(FIRST).is_err() {
         return false;
     }

@@ -1,7 +1,7 @@
 //! A trail that is opened again.
 
 use crate::keeping::tell_trail;
-use crate::play::Play;
+use crate::play::{Play, if_told};
 use anyhow::{Result, anyhow};
 use audit_trail::{Files, Trail};
 use sqlite::{Alter, Connection, Error};
@@ -65,14 +65,7 @@ fn open_and_tell<S: Alter + Drop>(
 ) -> Result<Connection<S>> {
     let mut trail = open(play, conn, given)?;
     let told = tell_trail(play, &mut trail, files);
-    let conn = trail.into_connection();
-    match told {
-        Ok(()) => Ok(conn),
-        Err(error) => {
-            drop(conn);
-            Err(error)
-        }
-    }
+    if_told(told, trail.into_connection())
 }
 
 /// A trail is opened with no files, and then with its own.

@@ -1,11 +1,18 @@
 //! What a run tells, and the refusals that it may meet.
 
 use anyhow::{Result, bail, ensure};
+use sef_moment::Moment;
 use std::alloc::{AllocError, Global};
+use std::mem::drop;
 use venue_rules::{TrailFault, TrailRow};
 
 /// 3 March 2025, 14:30 UTC, in milliseconds.
-pub const START: u64 = 1_741_012_200_000;
+const START: u64 = 1_741_012_200_000;
+
+/// The same as a moment.
+pub fn start_moment() -> Moment {
+    Moment::of_ms(START).unwrap()
+}
 
 /// The transcript as it is written anew, and how many calls may still be refused for want of memory: as many as growths are, so that
 /// none is refused without that cause.
@@ -49,6 +56,17 @@ fn write_row(alloc: Global, row: &TrailRow, told: &mut Vec<u8>) -> Result<(), Al
         write_byte(*byte, told)?;
     }
     told.extend_from_slice(b"\n")
+}
+
+/// What it is told of, unless telling it failed.
+pub fn if_told<T: Drop>(told: Result<()>, value: T) -> Result<T> {
+    match told {
+        Ok(()) => Ok(value),
+        Err(error) => {
+            drop(value);
+            Err(error)
+        }
+    }
 }
 
 impl Play {
@@ -113,6 +131,12 @@ impl Play {
         self.refused()?;
         self.told.truncate(before);
         Ok(write_number(self.alloc, words, number, &mut self.told)?)
+    }
+
+    /// Tells a fault. No growth may be refused.
+    pub fn tell_fault(&mut self, fault: &TrailFault) -> Result<()> {
+        let line = format!(in self.alloc; "  {fault}")?;
+        self.echo(line.as_str())
     }
 
     /// Tells a row, once more where a growth was refused.

@@ -4,7 +4,7 @@ ghost use Rattle.trail_keeper.specs.Written.{LeadsTo};
 
 use crate::keeping::{keep, tell_rows};
 use crate::market::{both_read, empty, files};
-use crate::play::Play;
+use crate::play::{Play, if_told};
 use anyhow::{Result, anyhow};
 use audit_trail::Files;
 use sqlite::{Alter, Connection};
@@ -118,13 +118,9 @@ pub fn tell_begun<S: Alter + Drop>(
     let trades = venue.trades().len() as u64;
     drop(venue);
     let told = tell_journal(play, &mut journal);
-    let conn = journal.into_connection();
-    if let Err(error) = told {
-        drop(conn);
-        return Err(error);
-    }
-    play.tell("trades", trades)?;
-    Ok(conn)
+    let conn = if_told(told, journal.into_connection())?;
+    let told = play.tell("trades", trades);
+    if_told(told, conn)
 }
 
 // A venue begins over a database, and is told.

@@ -3,10 +3,9 @@
 ghost use Rattle.std.specs.Prelude.{◌≡◌, IfOk};
 
 use crate::market::make_files;
-use crate::play::START;
+use crate::play::start_moment;
 use anyhow::{Result, anyhow};
 use audit_trail::Trail;
-use sef_moment::Moment;
 use sqlite::{Alter, Connection};
 use std::alloc::Global;
 use std::mem::drop;
@@ -21,16 +20,13 @@ const TEXT: &[u8] =
 fn row(alloc: Global, n: u64) -> Result<TrailRow>
     ensures { IfOk result (λ row. row.n ≡ n) }
 {
-    let Some(moment) = Moment::of_ms(START) else {
-        return Err(anyhow!("no moment"));
-    };
     let text = Vec::from_slice(alloc, TEXT)?;
     Ok(TrailRow {
         n,
         who: 1,
         era: 1,
         number: 2,
-        moment,
+        moment: start_moment(),
         text: RowText::from_vec(text),
     })
 }

@@ -3,67 +3,31 @@ ghost use Rattle.std.specs.Prelude.{◌≡◌, IfOk, length};
 ghost use Rattle.intake_seats.specs.Ends.{AreHands, AreTakes, AreUnusedHands, AreUnusedTakes};
 ghost use Rattle.trail_keeper.specs.Written.{LeadsTo};
 
-use crate::items::{CROSS, ITEMS, Sent, item_of, moment_of};
+use crate::items::{CROSS, ITEMS, Sent, new_message};
 use crate::market::{empty, files};
 use crate::play::Play;
+use crate::seats::{Boards, COUNT, Ends, hand_over, make_boards};
 use crate::starting::{start, tell_begun};
 use anyhow::{Result, anyhow, ensure};
 use fix_dictionary::Item;
-use intake_seats::{Board, HandSeat, TakeSeat};
+use intake_seats::{Board, HandSeat};
 use sef_moment::Moment;
 use sqlite::Alter;
-use std::alloc::{AllocError, Global};
 use std::mem::drop;
 use trail_keeper::Journal;
 use venue_core::Venue;
 use venue_rules::EventFault;
-use venue_worker::{Outgoing, Parts, Queue, Worker};
-
-/// So many participants.
-const COUNT: usize = 5;
+use venue_worker::{Parts, Queue, Worker};
 
 /// The delay of a cross, in milliseconds.
 const DELAY: u64 = 15_000;
-
-/// Both boards.
-#[derive(Drop)]
-struct Boards {
-    intake: Board<Item>,
-    replies: Board<Outgoing>,
-}
-
-/// The worker's ends of both boards, and the sessions' ends of the intake board.
-#[derive(Drop)]
-struct Ends {
-    takes: Vec<TakeSeat<Item>>,
-    hands: Vec<HandSeat<Outgoing>>,
-    session_hands: Vec<HandSeat<Item>>,
-}
-
-fn make_boards(alloc: Global) -> Result<(Boards, Ends), AllocError>
-    ensures takes { IfOk result (λ r. AreTakes r.0.intake r.1.takes.items × AreUnusedTakes r.1.takes.items) }
-    ensures hands { IfOk result (λ r. AreHands r.0.replies r.1.hands.items × AreUnusedHands r.1.hands.items) }
-    ensures count { IfOk result (λ r. (length r.1.takes.items ≡ 5) × (length r.1.hands.items ≡ 5)) }
-    ensures sessions { IfOk result (λ r. AreHands r.0.intake r.1.session_hands.items) }
-{
-    let (intake, session_hands, takes) = Board::<Item>::new(alloc, COUNT)?;
-    let (replies, hands, session_takes) = Board::<Outgoing>::new(alloc, COUNT)?;
-    drop(session_takes);
-    let boards = Boards { intake, replies };
-    let ends = Ends {
-        takes,
-        hands,
-        session_hands,
-    };
-    Ok((boards, ends))
-}
 
 // Both boards with their ends, made once more where a growth was refused.
 fn new_boards(play: &mut Play) -> Result<(Boards, Ends)>
     ensures takes { IfOk result (λ r. AreTakes r.0.intake r.1.takes.items × AreUnusedTakes r.1.takes.items) }
     ensures hands { IfOk result (λ r. AreHands r.0.replies r.1.hands.items × AreUnusedHands r.1.hands.items) }
     ensures count { IfOk result (λ r. (length r.1.takes.items ≡ 5) × (length r.1.hands.items ≡ 5)) }
-    ensures sessions { IfOk result (λ r. AreHands r.0.intake r.1.session_hands.items) }
+    ensures sessions { IfOk result (λ r. AreHands r.0.intake r.1.session_hands.items × AreTakes r.0.replies r.1.session_takes.items) }
 {
     if let Ok(made) = make_boards(play.alloc) {
         return Ok(made);
@@ -80,17 +44,6 @@ struct Desk<'a, S: Alter + Drop> {
     hands: Vec<HandSeat<Item>>,
     ghost five: { length worker.takes ≡ 5 },
     ghost own: { AreHands intake.now hands.items },
-}
-
-// Hands a message over on this seat; `false` where it comes back, or there is no such seat.
-fn hand_over(board: &Board<Item>, hands: &mut Vec<HandSeat<Item>>, place: usize, item: Item) -> bool
-    requires { AreHands board.now hands.old.items }
-    ensures { AreHands board.now hands.new.items }
-{
-    if hands.len() <= place {
-        return false;
-    }
-    hands[place].hand(board, item).is_ok()
 }
 
 /// What a take or a tick came to.
@@ -136,13 +89,13 @@ fn take_anew<S: Alter + Drop>(
     moment: Moment,
 ) -> Result<()> {
     play.refused()?;
-    let other = item_of(play, sent)?;
+    let other = new_message(play, sent)?;
     ensure!(
-        !desk.hand(sent.from, other),
+        !desk.hand(sent.place(), other),
         "a refused call emptied a seat"
     );
     ensure!(
-        desk.take(sent.from, moment) == Took::Done,
+        desk.take(sent.place(), moment) == Took::Done,
         "a message is not taken at the second time"
     );
     Ok(())
@@ -154,15 +107,15 @@ fn hand_and_take<S: Alter + Drop>(
     desk: &mut Desk<'_, S>,
     sent: &Sent,
 ) -> Result<()> {
-    let moment = moment_of(sent)?;
-    let item = item_of(play, sent)?;
-    ensure!(desk.hand(sent.from, item), "a seat is not empty");
-    match desk.take(sent.from, moment) {
+    let moment = sent.moment();
+    let item = new_message(play, sent)?;
+    ensure!(desk.hand(sent.place(), item), "a seat is not empty");
+    match desk.take(sent.place(), moment) {
         Took::Done => {}
         Took::NoMemory => take_anew(play, desk, sent, moment)?,
         Took::Other => return Err(anyhow!("no message is taken")),
     }
-    play.tell("taken", sent.from as u64)
+    play.tell("taken", sent.place() as u64)
 }
 
 fn take_all<S: Alter + Drop>(play: &mut Play, desk: &mut Desk<'_, S>) -> Result<()> {
@@ -174,7 +127,7 @@ fn take_all<S: Alter + Drop>(play: &mut Play, desk: &mut Desk<'_, S>) -> Result<
 
 // Enters the side of the cross that is due, once more where a growth was refused.
 fn tick<S: Alter + Drop>(play: &mut Play, desk: &mut Desk<'_, S>) -> Result<()> {
-    let moment = moment_of(&CROSS)?.plus(DELAY);
+    let moment = CROSS.moment().plus(DELAY);
     match desk.enter(moment) {
         Took::Done => {}
         Took::NoMemory => {
@@ -239,7 +192,9 @@ fn work_over<S: Alter + Drop>(
         takes,
         hands,
         session_hands,
+        session_takes,
     } = ends;
+    drop(session_takes);
     let Ok(worker) = Worker::new(
         play.alloc,
         venue,

@@ -1,5 +1,5 @@
-//! Tests above what they call: of the seats, of the trail and a worker over it, and of a venue that runs, played by counterparties. They
-//! stand apart, since a crate with tests is proved twice, and in one crate, since a check reads the libraries below anew for each.
+//! Tests above what they call: of the seats, and of a venue that runs, played by counterparties. They stand apart, since a crate with tests
+//! is proved twice, and in one crate, since a check reads the libraries below anew for each.
 #![tactic(auto)]
 
 #[cfg(test)]
@@ -8,5 +8,3 @@ mod messages;
 mod seats;
 #[cfg(test)]
 mod served;
-#[cfg(test)]
-mod trail;

@@ -3,8 +3,10 @@ ghost use Rattle.std.specs.Prelude.{◌≡◌, length};
 ghost use Rattle.intake_seats.specs.Ends.{AreHands, AreTakes, AreUnusedHands, AreUnusedTakes};
 ghost use Rattle.trail_keeper.specs.Written.{LeadsTo};
 
-use super::items::{COUNT, ITEMS, LINE, Sent, TRADES, items_in, message_of, moment_of};
-use super::sessions::{Boards, Ends, NOTHING, Sessions, make_boards};
+use crate::items::{ITEMS, Sent, items_in, message_of};
+use crate::market::make_market;
+use crate::seats::{Boards, COUNT, Ends, NOTHING, Sessions, make_boards};
+use anyhow::{Result, anyhow};
 use audit_trail::Files;
 use gateway::mem_line::MemClock;
 use intake_seats::Board;
@@ -12,15 +14,29 @@ use sef_moment::Moment;
 use sqlite::{Alter, Connection};
 use std::alloc::{AllocError, Global};
 use std::mem::drop;
-use std::test::Fail;
 use trade_lines::print_trades;
 use trail_keeper::{Journal, start_trail};
 use venue_core::Venue;
-use venue_rules::{Keep, fixture_instruments, fixture_participants};
+use venue_rules::Keep;
 use venue_worker::{Parts, Queue, Worker};
 
-/// The usual delay between linked orders, in milliseconds.
-const USUAL_DELAY: u64 = 15_000;
+/// So many replies each item owes each participant, in order.
+const REPLIES: [[usize; COUNT]; 7] = [
+    [0, 1, 1, 1, 1],
+    [0, 1, 0, 0, 0],
+    [2, 1, 0, 0, 0],
+    [1, 0, 0, 1, 0],
+    [1, 0, 0, 0, 0],
+    [1, 0, 0, 1, 0],
+    [1, 0, 0, 0, 0],
+];
+
+/// The trade is made by the item of this number, counted from 1.
+const TRADES: usize = 6;
+
+/// The line that tells it.
+const LINE: &str =
+    "T1 rfq IRS5Y 100 @ 2.5 buyer ALPHA seller DELTA room R1 asked BETA,GAMMA,DELTA,EPSILON first Q1 shown none\n";
 
 /// So many times the sessions collect what is in their seats: none is owed more replies in a day, and its mark behind
 /// them.
@@ -50,6 +66,26 @@ pub const NOT_BEGUN: Day = Day {
     answered: Some(0),
 };
 
+// So many replies the items between two places owe the participant at a place.
+fn owed_to(participant: usize, first: usize, last: usize) -> usize {
+    let mut count = 0usize;
+    for (place, replies) in REPLIES.iter().enumerate() {
+        if first <= place && place < last {
+            count = count.saturating_add(replies.get(participant).copied().unwrap_or(0));
+        }
+    }
+    count
+}
+
+// Whether each session collected what it was owed for the items between two places, and behind that its mark where it was to end.
+fn have_all(sessions: &Sessions<'_>, first: usize, last: usize, are_cut: bool) -> bool {
+    let mut have = true;
+    for place in 0..COUNT {
+        have &= sessions.collected[place].is_all(owed_to(place, first, last), are_cut);
+    }
+    have
+}
+
 // Gives the worker one turn at this moment; `false` where the trail refused.
 fn takes_a_turn<K: Keep + Drop>(
     alloc: Global,
@@ -68,12 +104,13 @@ fn takes<K: Keep + Drop>(
     sessions: &mut Sessions<'_>,
     sent: &Sent,
 ) -> Option<bool> {
-    let message = message_of(alloc, sent)?;
-    let place = (sent.who as usize).saturating_sub(1);
-    if !sessions.hand(place, message) {
+    let Ok(Some(message)) = message_of(alloc, sent) else {
+        return None;
+    };
+    if !sessions.hand(sent.place(), message) {
         return None;
     }
-    takes_a_turn(alloc, worker, moment_of(sent)).ok()
+    takes_a_turn(alloc, worker, sent.moment()).ok()
 }
 
 // Hands the items behind the first so many over, one by one, up to the first that the trail refuses: how many there are
@@ -103,7 +140,7 @@ fn give_all<K: Keep + Drop>(
     sessions: &mut Sessions<'_>,
     is_stopped: bool,
 ) {
-    let moment = moment_of(&ITEMS[ITEMS.len() - 1]);
+    let moment = ITEMS[ITEMS.len() - 1].moment();
     for _ in 0..COLLECTIONS {
         if is_stopped {
             worker.dismiss(&mut MemClock::from(moment), ROUNDS);
@@ -125,7 +162,7 @@ fn answer_each<K: Keep + Drop>(
     let answered = take_each(alloc, worker, sessions, first)?;
     let is_stopped = answered < ITEMS.len();
     give_all(alloc, worker, sessions, is_stopped);
-    if sessions.have_all(first, answered, is_stopped) {
+    if have_all(sessions, first, answered, is_stopped) {
         Some(answered)
     } else {
         None
@@ -159,11 +196,11 @@ fn answer_over<S: Alter + Drop>(
     boards: &Boards,
     ends: Ends,
     first: usize,
-) -> Result<(Journal<S>, Option<usize>), Fail>
+) -> Result<(Journal<S>, Option<usize>)>
     requires leads { LeadsTo journal.rows venue }
     requires takes { AreTakes boards.now.intake ends.takes.items × AreUnusedTakes ends.takes.items }
     requires hands { AreHands boards.now.replies ends.hands.items × AreUnusedHands ends.hands.items }
-    requires count { length ends.takes.items ≡ length ends.hands.items }
+    requires count { (length ends.takes.items ≡ 5) × (length ends.hands.items ≡ 5) }
     requires sessions { AreHands boards.now.intake ends.session_hands.items × AreTakes boards.now.replies ends.session_takes.items }
 {
     let Ends {
@@ -188,7 +225,7 @@ fn answer_over<S: Alter + Drop>(
         hands,
     ) else {
         drop(sessions);
-        return Err(Fail::new("no worker"));
+        return Err(anyhow!("no worker"));
     };
     let answered = answer_each(alloc, &mut worker, &mut sessions, first);
     drop(sessions);
@@ -201,13 +238,13 @@ fn answer_rest<S: Alter + Drop>(
     journal: Journal<S>,
     venue: Venue,
     first: usize,
-) -> Result<(Journal<S>, Option<usize>), Fail>
+) -> Result<(Journal<S>, Option<usize>)>
     requires leads { LeadsTo journal.rows venue }
 {
     let Ok((boards, ends)) = make_boards(alloc) else {
         drop(venue);
         drop(journal);
-        return Err(Fail::new("no boards"));
+        return Err(anyhow!("no boards"));
     };
     let answered = answer_over(alloc, journal, venue, &boards, ends, first);
     drop(boards);
@@ -226,12 +263,12 @@ fn go_on<S: Alter + Drop>(
     alloc: Global,
     journal: Journal<S>,
     venue: Venue,
-) -> Result<(Connection<S>, Day), Fail>
+) -> Result<(Connection<S>, Day)>
     requires leads { LeadsTo journal.rows venue }
 {
     let mut journal = journal;
     let found = match journal.rows() {
-        Ok(rows) => items_in(rows.as_slice(), &[]).map(|items| items as usize),
+        Ok(rows) => items_in(rows.as_slice()).map(|items| items as usize),
         Err(_) => None,
     };
     let items = found.unwrap_or(0);
@@ -247,16 +284,21 @@ fn go_on<S: Alter + Drop>(
     ))
 }
 
-/// Plays a day over a database, up to the first item that is not answered: a venue begins where its trail leads, or
+/// Spends a day over a database, up to the first item that is not answered: a venue begins where its trail leads, or
 /// with an empty one.
-pub fn play<S: Alter + Drop>(
+pub fn spend<S: Alter + Drop>(
     alloc: Global,
     conn: Connection<S>,
     files: &Files,
-) -> Result<(Connection<S>, Day), Fail> {
-    let participants = fixture_participants(alloc)?;
-    let instruments = fixture_instruments(alloc, USUAL_DELAY)?;
-    match start_trail(alloc, conn, files, participants, instruments) {
+) -> Result<(Connection<S>, Day)> {
+    let market = match make_market(alloc) {
+        Ok(market) => market,
+        Err(error) => {
+            drop(conn);
+            return Err(error.into());
+        }
+    };
+    match start_trail(alloc, conn, files, market.participants, market.instruments) {
         Ok((journal, venue)) => go_on(alloc, journal, venue),
         Err((_, conn)) => Ok((conn, NOT_BEGUN)),
     }

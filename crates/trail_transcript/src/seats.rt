@@ -1,12 +1,14 @@
-//! The sessions' ends of the two boards of a venue, all on one thread.
+//! The two boards of a venue, and the sessions' ends of them, all on one thread.
 ghost use Rattle.std.specs.Prelude.{◌≡◌, [], None, IfOk, length};
 ghost use Rattle.intake_seats.specs.Ends.{AreHands, AreTakes, AreUnusedHands, AreUnusedTakes, IsSameTaker};
 
-use super::items::{COUNT, owed_to};
 use fix_dictionary::Item;
 use intake_seats::{Board, HandSeat, TakeSeat};
 use std::alloc::{AllocError, Global};
 use venue_worker::Outgoing;
+
+/// So many participants.
+pub const COUNT: usize = 5;
 
 /// Both boards.
 #[derive(Drop)]
@@ -28,7 +30,7 @@ pub struct Ends {
 pub fn make_boards(alloc: Global) -> Result<(Boards, Ends), AllocError>
     ensures takes { IfOk result (λ r. AreTakes r.0.intake r.1.takes.items × AreUnusedTakes r.1.takes.items) }
     ensures hands { IfOk result (λ r. AreHands r.0.replies r.1.hands.items × AreUnusedHands r.1.hands.items) }
-    ensures count { IfOk result (λ r. length r.1.takes.items ≡ length r.1.hands.items) }
+    ensures count { IfOk result (λ r. (length r.1.takes.items ≡ 5) × (length r.1.hands.items ≡ 5)) }
     ensures sessions { IfOk result (λ r. AreHands r.0.intake r.1.session_hands.items × AreTakes r.0.replies r.1.session_takes.items) }
 {
     let (intake, session_hands, takes) = Board::<Item>::new(alloc, COUNT)?;
@@ -80,8 +82,8 @@ impl Collected {
         }
     }
 
-    // Whether these are so many replies, and behind them a mark where the session was to end.
-    fn is_all(&self, replies: usize, is_cut: bool) -> bool {
+    /// Whether these are so many replies, and behind them a mark where the session was to end.
+    pub fn is_all(&self, replies: usize, is_cut: bool) -> bool {
         let marks = if is_cut { 1 } else { 0 };
         self.replies == replies && self.marks == marks && !self.is_late
     }
@@ -98,8 +100,13 @@ pub struct Sessions<'a> {
     ghost own_takes: { AreTakes boards.now.replies takes.items },
 }
 
-// Hands a message over on this seat; `false` where it comes back, or there is no such seat.
-fn hand_over(board: &Board<Item>, hands: &mut Vec<HandSeat<Item>>, place: usize, item: Item) -> bool
+/// Hands a message over on this seat; `false` where it comes back, or there is no such seat.
+pub fn hand_over(
+    board: &Board<Item>,
+    hands: &mut Vec<HandSeat<Item>>,
+    place: usize,
+    item: Item,
+) -> bool
     requires { AreHands board.now hands.old.items }
     ensures { AreHands board.now hands.new.items }
 {
@@ -150,15 +157,5 @@ impl<'a> Sessions<'a> {
             let found = collect_at(&self.boards.replies, &mut self.takes, place);
             self.collected[place].add(found);
         }
-    }
-
-    /// Whether each session collected what it was owed for the items between two places, and behind that its mark where
-    /// it was to end.
-    pub fn have_all(&self, first: usize, last: usize, are_cut: bool) -> bool {
-        let mut have = true;
-        for place in 0..COUNT {
-            have &= self.collected[place].is_all(owed_to(place, first, last), are_cut);
-        }
-        have
     }
 }

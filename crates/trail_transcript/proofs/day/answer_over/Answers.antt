@@ -1,4 +1,4 @@
-use Rattle.venue_tests.proofs.trail.playing.answer_over.Goals as goal
+use Rattle.trail_transcript.proofs.day.answer_over.Goals as goal
 
 -- a venue that stands where its rows lead may go on from them
 pub new-requires-clause-history : goal.new-requires-clause-history

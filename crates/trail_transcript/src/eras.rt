@@ -1,0 +1,75 @@
+//! The eras that a trail keeps and refuses.
+
+use crate::items::{Sent, item, new_row};
+use crate::keeping::{create, tell_trail};
+use crate::market::{empty, files};
+use crate::play::{Play, if_told};
+use anyhow::{Result, anyhow};
+use audit_trail::{Files, Trail};
+use sqlite::{Alter, Connection};
+use std::mem::drop;
+use venue_rules::Keep;
+
+// Who sends an item, and in which era, as `1.2`.
+fn sender_named(word: &str) -> Result<(u32, u32)> {
+    let Some((who, era)) = word.split_once('.') else {
+        return Err(anyhow!("no sender: {word}"));
+    };
+    Ok((who.parse::<u32>()?, era.parse::<u32>()?))
+}
+
+// Records the next item as of this sender, by the trait that a worker uses, and tells the fault, if there is one.
+fn record_as<S: Alter>(play: &mut Play, trail: &mut Trail<S>, word: &str) -> Result<()> {
+    let (who, era) = sender_named(word)?;
+    let Some(n) = trail.len().checked_add(1) else {
+        return Err(anyhow!("too many rows"));
+    };
+    let row = new_row(
+        play,
+        n,
+        &Sent {
+            who,
+            era,
+            ..item(n)
+        },
+    )?;
+    match Keep::record(trail, row) {
+        Ok(()) => Ok(()),
+        Err(fault) => play.tell_fault(&fault),
+    }
+}
+
+fn record_each<S: Alter>(play: &mut Play, trail: &mut Trail<S>, words: &str) -> Result<()> {
+    for word in words.split(' ') {
+        record_as(play, trail, word)?;
+    }
+    Ok(())
+}
+
+// Opens a trail, and tells it, or the fault.
+fn open_again<S: Alter + Drop>(play: &mut Play, conn: Connection<S>, files: &Files) -> Result<()> {
+    match Trail::open(play.alloc, conn, None) {
+        Ok(mut trail) => {
+            let told = tell_trail(play, &mut trail, files);
+            drop(trail);
+            told
+        }
+        Err((fault, conn)) => {
+            drop(conn);
+            play.tell_fault(&fault)
+        }
+    }
+}
+
+/// The items are recorded as of these senders; what is seen is told, and again once the trail was opened anew.
+pub fn play_eras(play: &mut Play, words: &str) -> Result<()> {
+    let files = files(play)?;
+    let conn = empty(play)?;
+    let mut trail = create(play, conn, &files)?;
+    let recorded = record_each(play, &mut trail, words);
+    let mut trail = if_told(recorded, trail)?;
+    let told = tell_trail(play, &mut trail, &files);
+    let conn = if_told(told, trail.into_connection())?;
+    play.echo("  opened again")?;
+    open_again(play, conn, &files)
+}
