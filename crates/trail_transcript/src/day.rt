@@ -201,7 +201,8 @@ fn answer_over<S: Alter + Drop>(
     requires takes { AreTakes boards.now.intake ends.takes.items × AreUnusedTakes ends.takes.items }
     requires hands { AreHands boards.now.replies ends.hands.items × AreUnusedHands ends.hands.items }
     requires count { (length ends.takes.items ≡ 5) × (length ends.hands.items ≡ 5) }
-    requires sessions { AreHands boards.now.intake ends.session_hands.items × AreTakes boards.now.replies ends.session_takes.items }
+    requires sessions { AreHands boards.now.intake ends.session_hands.items }
+    requires collects { AreTakes boards.now.replies ends.session_takes.items }
 {
     let Ends {
         takes,

@@ -31,7 +31,8 @@ pub fn make_boards(alloc: Global) -> Result<(Boards, Ends), AllocError>
     ensures takes { IfOk result (λ r. AreTakes r.0.intake r.1.takes.items × AreUnusedTakes r.1.takes.items) }
     ensures hands { IfOk result (λ r. AreHands r.0.replies r.1.hands.items × AreUnusedHands r.1.hands.items) }
     ensures count { IfOk result (λ r. (length r.1.takes.items ≡ 5) × (length r.1.hands.items ≡ 5)) }
-    ensures sessions { IfOk result (λ r. AreHands r.0.intake r.1.session_hands.items × AreTakes r.0.replies r.1.session_takes.items) }
+    ensures sessions { IfOk result (λ r. AreHands r.0.intake r.1.session_hands.items) }
+    ensures collects { IfOk result (λ r. AreTakes r.0.replies r.1.session_takes.items) }
 {
     let (intake, session_hands, takes) = Board::<Item>::new(alloc, COUNT)?;
     let (replies, hands, session_takes) = Board::<Outgoing>::new(alloc, COUNT)?;

@@ -27,7 +27,7 @@ fn new_boards(play: &mut Play) -> Result<(Boards, Ends)>
     ensures takes { IfOk result (λ r. AreTakes r.0.intake r.1.takes.items × AreUnusedTakes r.1.takes.items) }
     ensures hands { IfOk result (λ r. AreHands r.0.replies r.1.hands.items × AreUnusedHands r.1.hands.items) }
     ensures count { IfOk result (λ r. (length r.1.takes.items ≡ 5) × (length r.1.hands.items ≡ 5)) }
-    ensures sessions { IfOk result (λ r. AreHands r.0.intake r.1.session_hands.items × AreTakes r.0.replies r.1.session_takes.items) }
+    ensures sessions { IfOk result (λ r. AreHands r.0.intake r.1.session_hands.items) }
 {
     if let Ok(made) = make_boards(play.alloc) {
         return Ok(made);

@@ -7,7 +7,7 @@ use sef_moment::Moment;
 use std::alloc::{AllocError, Global};
 
 /// 20250303-14:30:00, in milliseconds since 1970.
-pub const START: u64 = 1_741_012_200_000;
+const START: u64 = 1_741_012_200_000;
 
 pub fn start() -> Moment {
     Moment::of_ms(START).unwrap()
