@@ -4,9 +4,29 @@ use crate::book::market::Market;
 use anyhow::{Result, anyhow};
 use fix_dictionary::{Quote, QuoteRequest, QuoteResponse};
 use participants::Who;
-use rfq_room::Rooms;
+use rfq_room::{RoomPlan, Rooms};
 use std::alloc::Global;
 use std::marker::Model;
+use venue_rules::{Fact, Place};
+
+// The number of the room in which a plan makes a quote.
+fn room_quoted(plan: &RoomPlan) -> Option<u64> {
+    match plan.facts().first() {
+        Some(Fact::Quoted(quote)) => Some(quote.room),
+        _ => None,
+    }
+}
+
+// The number of the quote that a plan hits.
+fn quote_hit(plan: &RoomPlan) -> Option<u64> {
+    match plan.facts().first() {
+        Some(Fact::Traded(trade)) => match &trade.place {
+            Place::Room(_, quote) => Some(*quote),
+            Place::Book(_, _) => None,
+        },
+        _ => None,
+    }
+}
 
 /// The rooms of a market, which are for its instruments alone.
 #[derive(Drop)]
@@ -54,10 +74,6 @@ impl Facility {
 
     /// A quote; tells whether it is the first in its room.
     pub(crate) fn quote(&mut self, who: Who, quote: &Quote) -> Result<bool> {
-        let Some(room) = self.rooms.find_room(&quote.request_id) else {
-            return Err(anyhow!("no room"));
-        };
-        let first = !self.rooms.has_quote(room.number);
         let market = &self.market;
         let Ok(plan) = self.rooms.plan_quote(
             &market.participants,
@@ -69,22 +85,32 @@ impl Facility {
         else {
             return Err(anyhow!("refused"));
         };
+        let Some(number) = room_quoted(&plan) else {
+            return Err(anyhow!("no quote"));
+        };
+        let Some(room) = self.rooms.room(number) else {
+            return Err(anyhow!("no room"));
+        };
+        let first = !self.rooms.has_quote(room.number);
         self.rooms.apply(plan);
         Ok(first)
     }
 
     /// A hit of a quote; tells its maker.
     pub(crate) fn hit(&mut self, who: Who, response: &QuoteResponse) -> Result<Who> {
-        let Some(quote) = self.rooms.find_quote(&response.quote_id) else {
+        let Ok(plan) = self.rooms.plan_answer(who, response, self.market.moment) else {
+            return Err(anyhow!("refused"));
+        };
+        let Some(number) = quote_hit(&plan) else {
+            return Err(anyhow!("no hit"));
+        };
+        let Some(quote) = self.rooms.quote(number) else {
             return Err(anyhow!("no quote"));
         };
         let Some(_room) = self.rooms.room(quote.room) else {
             return Err(anyhow!("no room"));
         };
         let maker = quote.maker;
-        let Ok(plan) = self.rooms.plan_answer(who, response, self.market.moment) else {
-            return Err(anyhow!("refused"));
-        };
         self.rooms.apply(plan);
         Ok(maker)
     }
