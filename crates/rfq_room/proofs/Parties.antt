@@ -1,12 +1,13 @@
-use Rattle.std.proofs.Common.{◌≡◌, refl, ap, ◌∙◌, ℕ, ◌+◌, ◌<◌, Bool, true, false, cond, get_or, List, [], ◌∷◌, ◌++◌, ◌&&◌, ◌||◌, ◌==◌, length, take, drop, filter, filter_map, map, is_none, Some, None}
+use Rattle.std.proofs.Common.{◌≡◌, refl, sym, ap, ◌∙◌, ℕ, ◌+◌, ◌<◌, ◌≤◌, true, false, get_or, List, [], ◌∷◌, ◌++◌, ◌==◌, length, take, drop, filter, filter_map, map, is_none, nat_lt, Option, Some, None, arith}
+use Rattle.std.proofs.lemmas.Bool.Decides.{nat_tests}
 use Rattle.std.specs.List.{list_any}
-use Rattle.std.proofs.lemmas.List.{map-append}
+use Rattle.std.proofs.lemmas.List.{length-map, map-append}
 use Rattle.std.proofs.lemmas.List.Elements.{filter_map-append, filter-append}
 use Rattle.fix_dictionary.specs.declared.messages.Party.{Party}
 use Rattle.participants.specs.ParticipantFile.{ParticipantFile}
 use Rattle.participants.specs.Relations.{find_participant}
 use Rattle.venue_rules.specs.Requests.{has_twice}
-use Rattle.rfq_room.specs.Views.{is_recipient, is_unknown, recipients_of}
+use Rattle.rfq_room.specs.Views.{is_recipient, places_of, recipients_of}
 use Rattle.rfq_room.proofs.Readings.{drop-read, take-read}
 
 recipients_of-append : (file : ParticipantFile) (ps qs : List Party) → recipients_of file (ps ++ qs) ≡ recipients_of file ps ++ recipients_of file qs
@@ -41,11 +42,20 @@ twice-passed rs i r h e k = rw (drop-read rs i r h e) (rw (k, has_twice) refl)
 
 pub ruleset parties = (recipient-known, recipient-unknown, recipient-other, twice-found, twice-passed)
 
--- whether a recipient is not in the file, by its party
-pub any_unknown : (file : ParticipantFile) (ps : List Party) → list_any (is_unknown file) ps ≡ list_any is_none (map (λ p. find_participant file p.id) (filter is_recipient ps))
-any_unknown file [] = refl
-any_unknown file (p ∷ ps) = one file (is_recipient p) p (filter is_recipient ps) (any_unknown file ps)
-  where
-    one : (file : ParticipantFile) (b : Bool) (p : Party) (ps : List Party) {c : Bool} → c ≡ list_any is_none (map (λ q. find_participant file q.id) ps) → ((b && is_none (find_participant file p.id)) || c) ≡ list_any is_none (map (λ q. find_participant file q.id) (cond b (p ∷ ps) ps))
-    one file true p ps h = ap (λ b. is_none (find_participant file p.id) || b) h
-    one file false p ps h = h
+-- a recipient is not in the file where fewer are found than are named
+
+found-few : (places : List (Option ℕ)) → length (filter_map (λ r. r) places) ≤ length places
+found-few [] = omega arith
+found-few (None ∷ places) = omega (arith, found-few places)
+found-few (Some who ∷ places) = omega (arith, found-few places)
+
+fewer : (places : List (Option ℕ)) → nat_lt (length (filter_map (λ r. r) places)) (length places) ≡ list_any is_none places
+fewer [] = refl
+fewer (None ∷ places) = let few = found-few places in grind (arith, nat_tests)
+fewer (Some who ∷ places) = grind (arith, nat_tests, fewer places)
+
+pub fewer_found : (file : ParticipantFile) (ps : List Party) (rs : List ℕ) → rs ≡ recipients_of file ps → nat_lt (length rs) (length (filter is_recipient ps)) ≡ list_any is_none (places_of file ps)
+fewer_found file ps rs e =
+    ap (λ xs. nat_lt (length xs) (length (filter is_recipient ps))) e
+    ∙ ap (λ n. nat_lt (length (recipients_of file ps)) n) (sym (length-map (filter is_recipient ps) (λ p. find_participant file p.id)))
+    ∙ fewer (places_of file ps)

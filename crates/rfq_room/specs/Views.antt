@@ -1,4 +1,4 @@
-use Rattle.std.specs.Prelude.{ℕ, Bool, true, false, ◌&&◌, ◌==◌, List, [], ◌∷◌, map, filter, filter_map, Option, Some, None, is_none, bytes_eq}
+use Rattle.std.specs.Prelude.{ℕ, Bool, true, false, ◌&&◌, ◌==◌, List, [], ◌∷◌, map, filter, filter_map, Option, Some, None, bytes_eq}
 use Rattle.fix_dictionary.specs.declared.messages.Party.{Party}
 use Rattle.participants.specs.ParticipantFile.{ParticipantFile}
 use Rattle.participants.specs.Relations.{find_participant}
@@ -45,12 +45,9 @@ is_taken all maker t named q = (q.maker == maker && is_live all t q) && is_named
 abbrev pub taken_of : List Fact → ℕ → ℕ → Option (List ℕ) → List Fact → List RoomQuote
 taken_of all maker t named facts = filter (is_taken all maker t named) (quotes facts)
 
--- a party with source D and role 35, and whether it is not in the file
+-- a party with source D and role 35
 abbrev pub is_recipient : Party → Bool
 is_recipient p = p.source == 68 && p.role == 35
-
-abbrev pub is_unknown : ParticipantFile → Party → Bool
-is_unknown file p = is_recipient p && is_none (find_participant file p.id)
 
 -- the places of these parties' recipients: of each if it is in the file, and those that are
 abbrev pub places_of : ParticipantFile → List Party → List (Option ℕ)

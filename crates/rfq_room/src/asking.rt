@@ -1,13 +1,14 @@
 //! A request for quotes (QuoteRequest, R).
-ghost use Rattle.std.specs.Prelude.{◌≡◌, None, IfOk, IfErr, false};
+ghost use Rattle.std.specs.Prelude.{◌≡◌, ◌<◌, length, None, Some, is_none, IfOk, IfErr};
+ghost use Rattle.std.specs.List.{list_any};
 ghost use Rattle.rfq_room.specs.Refusals.{IsRequestRefused};
-ghost use Rattle.rfq_room.specs.Views.{first_cause, recipients_of};
-ghost use Rattle.instruments.specs.Listing.{is_unknown_instrument};
+ghost use Rattle.rfq_room.specs.Views.{first_cause, places_of, recipients_of};
+ghost use Rattle.instruments.specs.Listing.{instrument_of};
 ghost use Rattle.rfq_room.specs.Causes.{recipient_causes, request_cause};
 ghost use Rattle.rfq_room.specs.Plans.{request_plan, room_asked};
 
 use crate::kept::Kept;
-use crate::listing::{instrument_of, is_below_least, listed_instrument};
+use crate::listing::{instrument_of, is_below_least};
 use crate::plan::RoomPlan;
 use crate::recipients::{has_twice, has_unknown, is_among, recipients};
 use crate::refusal::{Refusal, request_refusal};
@@ -32,12 +33,14 @@ fn recipients_cause(
     who: Who,
     request: &QuoteRequest,
     recipients: &[Who],
+    unknown: bool,
     moment: Moment,
 ) -> Option<RequestRefusal>
-    requires { recipients.now ≡ recipients_of participants.now request.now.parties }
+    requires recipients { recipients.now ≡ recipients_of participants.now request.now.parties }
+    requires unknown { unknown ≡ list_any is_none (places_of participants.now request.now.parties) }
     ensures { result ≡ first_cause (recipient_causes (record { participants = participants.now; instruments = instruments.now }) kept.now.facts who request.now moment) }
 {
-    if has_unknown(participants, request.parties.as_slice()) {
+    if unknown {
         return Some(RequestRefusal::UnknownParticipant);
     }
     if is_among(recipients, who) {
@@ -61,37 +64,46 @@ fn recipients_cause(
     None
 }
 
-/// Why a request is refused.
-fn request_cause(
+/// The instrument that a request is for, by its place in the file, or why the request is refused.
+fn instrument_asked(
     participants: &Participants,
     instruments: &Instruments,
     kept: &Kept,
     who: Who,
     request: &QuoteRequest,
     recipients: &[Who],
+    unknown: bool,
     moment: Moment,
-) -> Option<RequestRefusal>
-    requires { recipients.now ≡ recipients_of participants.now request.now.parties }
-    ensures { result ≡ request_cause (record { participants = participants.now; instruments = instruments.now }) kept.now.facts who request.now moment }
+) -> Result<u32, RequestRefusal>
+    requires recipients { recipients.now ≡ recipients_of participants.now request.now.parties }
+    requires unknown { unknown ≡ list_any is_none (places_of participants.now request.now.parties) }
+    ensures free { IfOk result (λ x. request_cause (record { participants = participants.now; instruments = instruments.now }) kept.now.facts who request.now moment ≡ None) }
+    ensures value { IfOk result (λ x. x ≡ instrument_of instruments.now request.now.symbol) }
+    ensures listed { IfOk result (λ x. x < length instruments.now) }
+    ensures refused { IfErr result (λ cause. request_cause (record { participants = participants.now; instruments = instruments.now }) kept.now.facts who request.now moment ≡ Some cause) }
 {
     if kept.marks().is_request_id_used(who, &request.request_id) {
-        return Some(RequestRefusal::DuplicateRequest);
+        return Err(RequestRefusal::DuplicateRequest);
     }
     let Some(instrument) = instrument_of(instruments, &request.symbol) else {
-        return Some(RequestRefusal::UnknownInstrument);
+        return Err(RequestRefusal::UnknownInstrument);
     };
     if is_below_least(instruments, instrument, request.quantity) {
-        return Some(RequestRefusal::QuantityBelowLeast);
+        return Err(RequestRefusal::QuantityBelowLeast);
     }
-    recipients_cause(
+    match recipients_cause(
         participants,
         instruments,
         kept,
         who,
         request,
         recipients,
+        unknown,
         moment,
-    )
+    ) {
+        Some(cause) => Err(cause),
+        None => Ok(instrument),
+    }
 }
 
 /// The room that a request opens.
@@ -101,14 +113,15 @@ fn room_asked(
     kept: &Kept,
     who: Who,
     request: &QuoteRequest,
+    instrument: u32,
     recipients: Vec<Who>,
     moment: Moment,
 ) -> Room
-    requires known { is_unknown_instrument instruments.now request.now.symbol ≡ false }
+    requires value { instrument ≡ instrument_of instruments.now request.now.symbol }
+    requires listed { instrument < length instruments.now }
     requires recipients { recipients.items ≡ recipients_of participants.now request.now.parties }
     ensures { result ≡ room_asked (record { participants = participants.now; instruments = instruments.now }) kept.now.facts who request.now moment }
 {
-    let instrument = listed_instrument(instruments, &request.symbol);
     let life = 1_000 * instruments.get(instrument).request_life;
     Room {
         number: kept.next_room(),
@@ -135,26 +148,31 @@ pub(crate) fn draft_ask(
     ensures planned { IfOk result (λ p. (request_cause (record { participants = participants.now; instruments = instruments.now }) kept.now.facts who request.now moment ≡ None) × (p ≡ request_plan (room_asked (record { participants = participants.now; instruments = instruments.now }) kept.now.facts who request.now moment))) }
     ensures refused { IfErr result (IsRequestRefused (request_cause (record { participants = participants.now; instruments = instruments.now }) kept.now.facts who request.now moment)) }
 {
-    let Ok(recipients) = recipients(alloc, participants, request.parties.as_slice()) else {
+    let parties = request.parties.as_slice();
+    let Ok(recipients) = recipients(alloc, participants, parties) else {
         return Err(Refusal::NoMemory);
     };
-    if let Some(cause) = request_cause(
+    let unknown = has_unknown(parties, &recipients);
+    let instrument = match instrument_asked(
         participants,
         instruments,
         kept,
         who,
         request,
         &recipients,
+        unknown,
         moment,
     ) {
-        return Err(request_refusal(cause));
-    }
+        Ok(instrument) => instrument,
+        Err(cause) => return Err(request_refusal(cause)),
+    };
     let room = room_asked(
         participants,
         instruments,
         kept,
         who,
         request,
+        instrument,
         recipients,
         moment,
     );

@@ -12,15 +12,6 @@ pub(crate) fn instrument_of(instruments: &Instruments, symbol: &Identifier) -> O
     instruments.find(symbol.as_slice())
 }
 
-/// The instrument of a symbol that is listed.
-pub(crate) fn listed_instrument(instruments: &Instruments, symbol: &Identifier) -> u32
-    requires { is_unknown_instrument instruments.now symbol.now ≡ false }
-    ensures value { result ≡ instrument_of instruments.now symbol.now }
-    ensures listed { result < length instruments.now }
-{
-    instrument_of(instruments, symbol).unwrap()
-}
-
 /// Whether a quantity is below the instrument's least.
 pub(crate) fn is_below_least(instruments: &Instruments, instrument: u32, quantity: Quantity) -> bool
     requires { instrument < length instruments.now }

@@ -1,8 +1,9 @@
 //! The recipients of a request.
-ghost use Rattle.std.specs.Prelude.{◌≡◌, ◌==◌, is_none, IfOk};
+ghost use Rattle.std.specs.Prelude.{◌≡◌, ◌==◌, filter, length, is_none, IfOk};
 ghost use Rattle.std.specs.List.{list_any};
 ghost use Rattle.venue_rules.specs.Requests.{has_twice};
-ghost use Rattle.rfq_room.specs.Views.{is_recipient, is_unknown, places_of, recipients_of};
+ghost use Rattle.participants.specs.ParticipantFile.{ParticipantFile};
+ghost use Rattle.rfq_room.specs.Views.{is_recipient, places_of, recipients_of};
 
 use fix_dictionary::Party;
 use participants::{Participants, Who};
@@ -15,25 +16,19 @@ fn is_recipient(party: &Party) -> bool
     party.source.get() == b'D' && party.role.get() == 35
 }
 
-// Whether the party is a recipient that is not in the file.
-fn is_unknown(participants: &Participants, party: &Party) -> bool
-    ensures { result ≡ is_unknown participants.now party.now }
+// How many recipients are named, in the file or not.
+fn count_named(parties: &[Party]) -> usize
+    ensures { result ≡ length (filter is_recipient parties.now) }
 {
-    is_recipient(party) && participants.find(party.id.as_slice()).is_none()
+    parties.iter().filter(|party| is_recipient(party)).count()
 }
 
-fn any_unknown(participants: &Participants, parties: &[Party]) -> bool
-    ensures { result ≡ list_any (is_unknown participants.now) parties.now }
+/// Whether a recipient is not in the file: then fewer were found than are named.
+#[tactic(auto, using(crate::proofs::Parties::fewer_found))]
+pub(crate) fn has_unknown(parties: &[Party], recipients: &[Who]) -> bool
+    ensures { (file : ParticipantFile) → recipients.now ≡ recipients_of file parties.now → result ≡ list_any is_none (places_of file parties.now) }
 {
-    parties.iter().any(|party| is_unknown(participants, party))
-}
-
-/// Whether a recipient is not in the file.
-#[tactic(auto, using(crate::proofs::Parties::any_unknown))]
-pub(crate) fn has_unknown(participants: &Participants, parties: &[Party]) -> bool
-    ensures { result ≡ list_any is_none (places_of participants.now parties.now) }
-{
-    any_unknown(participants, parties)
+    recipients.len() < count_named(parties)
 }
 
 /// Whether this participant is among the recipients.
