@@ -1,10 +1,21 @@
 //! What the venue answers of its rooms to one message, before it does.
-ghost use Rattle.std.specs.Prelude.{◌≡◌, ◌≤◌};
+ghost use Rattle.std.specs.Prelude.{◌≡◌, ◌≤◌, option_map};
 ghost use Rattle.room_answers.specs.Counting.{reports_in, trades_in};
+ghost use Rattle.room_answers.specs.Read.{first_made};
 
 use rfq_room::RoomPlan;
 use std::marker::Model;
-use venue_rules::Reply;
+use venue_rules::{Fact, Reply, RoomQuote};
+
+/// The quote that a plan makes.
+pub(crate) fn made(plan: &RoomPlan) -> Option<&RoomQuote>
+    ensures { option_map (λ q. q.now) result ≡ first_made plan.now.facts }
+{
+    match plan.facts().first() {
+        Some(Fact::Quoted(quote)) => Some(quote),
+        _ => None,
+    }
+}
 
 /// The facts that the rooms gain, and the replies, in order.
 #[derive(Drop)]
@@ -49,6 +60,13 @@ impl RoomAnswer {
         ensures { result.now ≡ self.now.replies }
     {
         &self.replies
+    }
+
+    /// The quote that the rooms gain.
+    pub fn made(&self) -> Option<&RoomQuote>
+        ensures { option_map (λ q. q.now) result ≡ first_made self.now.facts }
+    {
+        made(&self.plan)
     }
 
     /// How many of the replies are execution reports (message 8).

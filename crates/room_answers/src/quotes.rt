@@ -17,7 +17,7 @@ ghost use Rattle.room_answers.specs.Read.{first_made};
 ghost use Rattle.room_answers.specs.Senders.{market, sent_by};
 ghost use Rattle.room_answers.specs.Sent.{prices_sent, quote_sent, rests, shown_unless, symbol_in};
 
-use crate::answer::RoomAnswer;
+use crate::answer::{RoomAnswer, made};
 use crate::listing::symbol_in;
 use crate::sender::Sender;
 use fix_dictionary::{Identifier, Quote};
@@ -133,16 +133,6 @@ fn show(
     let entries = rests(book, room.instrument)?;
     replies.push(prices_sent(room, symbol, entries))?;
     Ok(())
-}
-
-// The quote that a plan makes.
-fn made(plan: &RoomPlan) -> Option<&RoomQuote>
-    ensures { option_map (λ q. q.now) result ≡ first_made plan.now.facts }
-{
-    match plan.facts().first() {
-        Some(Fact::Quoted(quote)) => Some(quote),
-        _ => None,
-    }
 }
 
 // What is replied to the maker of a quote that is made.

@@ -1,4 +1,4 @@
-use Rattle.std.proofs.Common.{◌≡◌, refl, sym, ap, ◌∙◌, subst, ℕ, ◌==◌, Bool, true, false, ◌&&◌, cond, List, [], ◌∷◌, ◌++◌, map, find, Option, Some, None, is_some, slice_get, bytes_eq, arith}
+use Rattle.std.proofs.Common.{◌≡◌, refl, sym, ap, ◌∙◌, subst, ℕ, ◌==◌, Bool, true, false, ◌&&◌, cond, List, [], ◌∷◌, ◌++◌, map, find, Option, Some, None, is_some, bytes_eq, arith}
 use Rattle.std.proofs.lemmas.Bool.Decides.{nat_tests}
 use Rattle.fix_dictionary.specs.declared.messages.Quote.{Quote}
 use Rattle.fix_dictionary.specs.declared.messages.QuoteCancel.{QuoteCancel}
@@ -11,9 +11,9 @@ use Rattle.venue_rules.specs.declared.facts.RoomQuote.{RoomQuote}
 use Rattle.venue_rules.specs.declared.refusals.QuoteRefusal.{QuoteRefusal}
 use Rattle.venue_rules.specs.declared.refusals.RequestRefusal.{RequestRefusal}
 use Rattle.venue_rules.specs.declared.replies.QuoteState.TheVariants as state
-use Rattle.venue_rules.specs.declared.trail.RoomFact.{RoomFact}
 use Rattle.instruments.specs.Listing.{symbol_of}
 use Rattle.venue_rules.specs.Answer.{Answer, Sender}
+use Rattle.venue_rules.specs.Book.{picture}
 use Rattle.venue_rules.specs.Facts.{History, rooms}
 use Rattle.venue_rules.specs.Market.{Market}
 use Rattle.venue_rules.specs.Quotes.{answer_quote, quote_sent, quote_status, quoted, shown_with}
@@ -32,7 +32,7 @@ use Rattle.rfq_room.specs.Named.{named_quotes, quote_room}
 use Rattle.rfq_room.specs.RoomFacts.{room_facts}
 use Rattle.rfq_room.specs.Told.{quote_told, request_told, response_refused, response_told, withdrawal_told}
 use Rattle.read_back.specs.ReadOf.{are_later}
-use Rattle.venue_core.specs.Read.{IsReadWith, in_reply, number_in, picture_in, quote_read, read_in}
+use Rattle.venue_core.specs.Read.{IsReadWith, quote_read, read_in}
 
 -- What is found by one test is found by one that passes less, if it passes that.
 
@@ -74,10 +74,6 @@ QuoteLaw = (m : Market) (h : History) (s : Sender) (d : Quote) (t : ℕ) → ans
 abbrev pub FirstLaw : Type 0
 FirstLaw = (fs : List Fact) (room : ℕ) → first_quote fs room ≡ first_quote (room_facts fs) room
 
--- what is read off an answer, in a room if there is one
-abbrev read_off : Answer → Option Room → Option RoomFact
-read_off a room = read_in (in_reply picture_in (slice_get a.replies 1)) (in_reply number_in (slice_get a.replies 2)) room
-
 -- the answer to a quote that is accepted, by the first quote of the room
 abbrev accepted_after : Market → History → Sender → Room → Quote → Option RoomQuote → Answer
 accepted_after m h s r d first =
@@ -85,21 +81,23 @@ accepted_after m h s r d first =
     record { facts = Quoted q ∷ []; replies = quote_status s d (Some (symbol_of m.instruments r.instrument)) state.Accepted ∷ shown_with m h r first ++ quote_sent m r q ∷ [] }
 
 accepted-read : FirstLaw → (m : Market) (h : History) (s : Sender) (r : Room) (d : Quote) (first : Option RoomQuote) → first_quote h.facts r.number ≡ first → room_by_number (room_facts h.facts) r.number ≡ Some r
-    → IsReadWith h.facts (accepted_after m h s r d first).facts (read_off (accepted_after m h s r d first) (Some r))
+    → IsReadWith h.facts (accepted_after m h s r d first).facts (quote_read (room_facts h.facts) (accepted_after m h s r d first))
 accepted-read law m h s r d (Some q) e here = ap (λ (o : Option RoomQuote). is_some o && true) (sym (law h.facts r.number) ∙ e)
-accepted-read law m h s r d None e here = record { asked = r; quote = quoted h s r d; made = refl; room = here; first = sym (law h.facts r.number) ∙ e; shown = refl }
+accepted-read law m h s r d None e here =
+    subst (λ (o : Option Room). IsReadWith h.facts (Quoted (quoted h s r d) ∷ []) (read_in (Some (picture h.facts r.instrument)) (Some (quoted h s r d)) o)) (sym here)
+    (record { asked = r; quote = quoted h s r d; made = refl; room = here; first = sym (law h.facts r.number) ∙ e; shown = refl })
 
 told-read : FirstLaw → (m : Market) (h : History) (s : Sender) (d : Quote) (room : Option Room) (cause : Option QuoteRefusal) → find_room (room_facts h.facts) d.request_id ≡ room
-    → IsReadWith h.facts (quote_told m h s d room cause).facts (read_off (quote_told m h s d room cause) room)
+    → IsReadWith h.facts (quote_told m h s d room cause).facts (quote_read (room_facts h.facts) (quote_told m h s d room cause))
 told-read law m h s d None (Some cause) e = refl
 told-read law m h s d (Some r) (Some cause) e = refl
 told-read law m h s d None None e = refl
 told-read law m h s d (Some r) None e = accepted-read law m h s r d (first_quote h.facts r.number) refl (room-named (room_facts h.facts) d.request_id r e)
 
-pub quote-is-read : QuoteLaw → FirstLaw → (m : Market) (h : History) (s : Sender) (d : Quote) (t : ℕ) (kept : List Fact) (a : Answer) → room_facts h.facts ≡ kept → a ≡ answer_quote m h s d t → IsReadWith h.facts a.facts (quote_read kept d.request_id a.replies)
+pub quote-is-read : QuoteLaw → FirstLaw → (m : Market) (h : History) (s : Sender) (d : Quote) (t : ℕ) (kept : List Fact) (a : Answer) → room_facts h.facts ≡ kept → a ≡ answer_quote m h s d t → IsReadWith h.facts a.facts (quote_read kept a)
 quote-is-read law first m h s d t kept a same is =
-    subst (λ (fs : List Fact). IsReadWith h.facts a.facts (quote_read fs d.request_id a.replies)) same
-    (subst (λ (b : Answer). IsReadWith h.facts b.facts (quote_read (room_facts h.facts) d.request_id b.replies)) (sym (is ∙ law m h s d t))
+    subst (λ (fs : List Fact). IsReadWith h.facts a.facts (quote_read fs a)) same
+    (subst (λ (b : Answer). IsReadWith h.facts b.facts (quote_read (room_facts h.facts) b)) (sym (is ∙ law m h s d t))
     (told-read first m h s d (find_room (room_facts h.facts) d.request_id) (quote_cause m (room_facts h.facts) s.who d t) refl))
 
 -- The other messages of rooms add no quote.

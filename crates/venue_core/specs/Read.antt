@@ -6,11 +6,14 @@ use Rattle.venue_rules.specs.declared.facts.RoomQuote.{RoomQuote}
 use Rattle.venue_rules.specs.declared.replies.PictureEntry.{PictureEntry}
 use Rattle.venue_rules.specs.declared.replies.Reply.{Reply}
 use Rattle.venue_rules.specs.declared.replies.What.{What}
-use Rattle.venue_rules.specs.declared.replies.What.TheVariants.{Prices, QuoteSent}
+use Rattle.venue_rules.specs.declared.replies.What.TheVariants.{Prices}
 use Rattle.venue_rules.specs.declared.trail.RoomFact.{RoomFact}
+use Rattle.venue_rules.specs.Answer.{Answer}
 use Rattle.venue_rules.specs.Book.{picture}
-use Rattle.venue_rules.specs.Rooms.{find_room, first_quote, room_by_number}
+use Rattle.venue_rules.specs.Rooms.{first_quote, room_by_number}
+use Rattle.rfq_room.specs.Named.{room_with}
 use Rattle.rfq_room.specs.RoomFacts.{room_facts}
+use Rattle.room_answers.specs.Read.{first_made}
 use Rattle.read_back.specs.Quoted.{room_shown}
 use Rattle.read_back.specs.ReadOf.{are_later}
 
@@ -39,26 +42,22 @@ abbrev pub rooms_of : Option RoomFact → List RoomFact
 rooms_of None = []
 rooms_of (Some read) = read ∷ []
 
--- Read off the replies to a quote: the first of a room is answered to its maker, then come the picture of the book and the quote itself.
+-- Read off the answer to a quote: the first of a room is answered to its maker, then come the picture of the book and the quote itself.
 
-abbrev pub picture_in : What → Option (List PictureEntry)
-picture_in (Prices p) = Some p.entries
-picture_in _ = None
+abbrev pub picture_of : What → Option (List PictureEntry)
+picture_of (Prices p) = Some p.entries
+picture_of _ = None
 
-abbrev pub number_in : What → Option ℕ
-number_in (QuoteSent q) = Some q.quote
-number_in _ = None
+abbrev pub picture_in : Option Reply → Option (List PictureEntry)
+picture_in None = None
+picture_in (Some r) = picture_of r.what
 
-abbrev pub in_reply : {X : Type 0} → (What → Option X) → Option Reply → Option X
-in_reply f None = None
-in_reply f (Some r) = f r.what
-
-abbrev pub read_in : Option (List PictureEntry) → Option ℕ → Option Room → Option RoomFact
-read_in None number room = None
+abbrev pub read_in : Option (List PictureEntry) → Option RoomQuote → Option Room → Option RoomFact
+read_in None quote room = None
 read_in (Some entries) None room = None
-read_in (Some entries) (Some number) None = None
-read_in (Some entries) (Some number) (Some r) = Some (room_shown r number entries)
+read_in (Some entries) (Some q) None = None
+read_in (Some entries) (Some q) (Some r) = Some (room_shown r q.number entries)
 
--- what is read back of a quote that names a room by this identifier, by the replies to it
-abbrev pub quote_read : List Fact → List ℕ → List Reply → Option RoomFact
-quote_read rooms id replies = read_in (in_reply picture_in (slice_get replies 1)) (in_reply number_in (slice_get replies 2)) (find_room rooms id)
+-- what is read back of a quote, by the answer to it
+abbrev pub quote_read : List Fact → Answer → Option RoomFact
+quote_read rooms a = read_in (picture_in (slice_get a.replies 1)) (first_made a.facts) (room_with rooms (first_made a.facts))

@@ -7,7 +7,7 @@ ghost use Rattle.venue_rules.specs.Withdrawals.{answer_withdrawal};
 ghost use Rattle.room_answers.specs.Senders.{sent_by};
 ghost use Rattle.venue_core.specs.Files.{market_of};
 ghost use Rattle.venue_core.specs.Plan.{AreFew, IsListed, IsMade, IsPlanned};
-ghost use Rattle.venue_core.specs.Read.{in_reply, number_in, picture_in, quote_read};
+ghost use Rattle.venue_core.specs.Read.{picture_in, quote_read};
 ghost use Rattle.venue_core.specs.State.{standing};
 
 use crate::day::{Day, counts};
@@ -17,7 +17,7 @@ use fix_dictionary::{Quote, QuoteCancel, QuoteRequest, QuoteResponse};
 use price_book::book_is_read_alone;
 use read_back::quoted_room;
 use rfq_room::{Rooms, rooms_decide};
-use room_answers::Sender;
+use room_answers::{RoomAnswer, Sender};
 use sef_moment::Moment;
 use std::alloc::{AllocError, Global};
 use venue_rules::{PictureEntries, Reply, RoomFact, Taken, What};
@@ -62,9 +62,9 @@ pub(crate) fn plan_request(
     Ok(Plan::of_rooms(answer, None))
 }
 
-// The picture of the book that a reply is, and the number of the quote that it sends on.
+// The picture of the book that a reply is.
 fn picture_in(reply: Option<&Reply>) -> Option<&PictureEntries>
-    ensures { option_map (λ e. e.now) result ≡ in_reply picture_in (option_map (λ r. r.now) reply.entry) }
+    ensures { option_map (λ e. e.now) result ≡ picture_in (option_map (λ r. r.now) reply.entry) }
 {
     match &reply?.what {
         What::Prices(prices) => Some(&prices.entries),
@@ -72,35 +72,24 @@ fn picture_in(reply: Option<&Reply>) -> Option<&PictureEntries>
     }
 }
 
-fn number_in(reply: Option<&Reply>) -> Option<u64>
-    ensures { result ≡ in_reply number_in (option_map (λ r. r.now) reply.entry) }
-{
-    match &reply?.what {
-        What::QuoteSent(sent) => Some(sent.quote),
-        _ => None,
-    }
-}
-
-// What is read back of a quote, if it is the first of its room: then the replies have the picture of the book, and after
-// it the quote.
+// What is read back of a quote, if it is the first of its room: then the second reply is the picture of the book.
 fn quote_read(
     alloc: Global,
     rooms: &Rooms,
-    quote: &Quote,
-    replies: &[Reply],
+    answer: &RoomAnswer,
 ) -> Result<Option<RoomFact>, AllocError>
-    ensures { IfOk result (λ read. read ≡ quote_read rooms.now.facts quote.now.request_id replies.now) }
+    ensures { IfOk result (λ read. read ≡ quote_read rooms.now.facts answer.now) }
 {
-    let Some(entries) = picture_in(replies.get(1)) else {
+    let Some(entries) = picture_in(answer.replies().get(1)) else {
         return Ok(None);
     };
-    let Some(number) = number_in(replies.get(2)) else {
+    let Some(quote) = answer.made() else {
         return Ok(None);
     };
-    let Some(room) = rooms.find_room(&quote.request_id) else {
+    let Some(room) = rooms.room(quote.room) else {
         return Ok(None);
     };
-    let read = quoted_room(alloc, room, number, entries.as_slice())?;
+    let read = quoted_room(alloc, room, quote.number, entries.as_slice())?;
     Ok(Some(read))
 }
 
@@ -132,7 +121,7 @@ pub(crate) fn plan_quote(
         quote,
         moment,
     )?;
-    let read = quote_read(alloc, &day.rooms, quote, answer.replies())?;
+    let read = quote_read(alloc, &day.rooms, &answer)?;
     day.quoted.reserve()?;
     day.traded.reserve(answer.trades() as usize)?;
     Ok(Plan::of_rooms(answer, read))

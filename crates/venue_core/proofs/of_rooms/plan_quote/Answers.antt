@@ -1,8 +1,8 @@
-use Rattle.std.proofs.Common.{◌∙◌, ap, sym, subst, ℕ, ◌≤◌, Option, Some, None, codes, length, arith}
+use Rattle.std.proofs.Common.{◌∙◌, sym, subst, ℕ, ◌≤◌, Option, Some, None, codes, length, arith}
 use Rattle.venue_rules.specs.declared.trail.RoomFact.{RoomFact}
 use Rattle.room_answers.specs.Senders.{sent_by}
 use Rattle.venue_core.specs.Files.{market_of}
-use Rattle.venue_core.specs.Read.{IsReadWith, quote_read, read_count}
+use Rattle.venue_core.specs.Read.{IsReadWith, read_count}
 use Rattle.venue_core.proofs.FirstQuotes.{quote-is-read}
 use Rattle.venue_core.proofs.of_rooms.plan_quote.Goals as goal
 
@@ -18,6 +18,6 @@ returns-clause-made c = rw c.of_rooms.ensures (record {
   known = c.in_ok-answer.ensures.known (length c.args.market.now.participants.names);
   read = record {
     room = at-most (c.in_ok-read.read) c.in_ok-reserve.ensures.room;
-    right = λ h s. subst (IsReadWith h.facts c.in_ok-answer.answer.facts) (sym (c.in_ok-read.ensures ∙ ap (λ rs. quote_read c.plan_quote.new.rooms.facts c.args.quote.now.request_id rs) c.replies.ensures)) (quote-is-read c.rooms_decide.ensures.quote c.rooms_decide.ensures.first (market_of c.args.market.now) h (sent_by c.sender-sender.result (codes "S")) c.args.quote.now c.args.moment c.plan_quote.new.rooms.facts c.in_ok-answer.answer s.rooms (c.in_ok-answer.ensures.planned h (s.rooms ∙ c.plan_quote.ensures.kept) s.book));
+    right = λ h s. subst (IsReadWith h.facts c.in_ok-answer.answer.facts) (sym c.in_ok-read.ensures) (quote-is-read c.rooms_decide.ensures.quote c.rooms_decide.ensures.first (market_of c.args.market.now) h (sent_by c.sender-sender.result (codes "S")) c.args.quote.now c.args.moment c.plan_quote.new.rooms.facts c.in_ok-answer.answer s.rooms (c.in_ok-answer.ensures.planned h (s.rooms ∙ c.plan_quote.ensures.kept) s.book));
   };
 })
