@@ -1,6 +1,6 @@
 //! A quote in a room (Quote, S): with the room's first quote the requester is shown what rests in the book
 //! (17 CFR 37.9(a)(3)).
-ghost use Rattle.std.specs.Prelude.{◌≡◌, ◌<◌, ℕ, [], ◌∷◌, ◌++◌, true, codes, length, Some, option_map, IfOk};
+ghost use Rattle.std.specs.Prelude.{◌≡◌, ◌<◌, ℕ, [], ◌∷◌, ◌++◌, true, codes, length, Some, IfOk};
 ghost use Rattle.venue_rules.specs.Answer.{answers};
 ghost use Rattle.venue_rules.specs.Facts.{History};
 ghost use Rattle.venue_rules.specs.Quotes.{answer_quote, quote_status};
@@ -13,7 +13,6 @@ ghost use Rattle.rfq_room.specs.RoomFacts.{room_facts};
 ghost use Rattle.rfq_room.specs.Steps.{IsPlanOf};
 ghost use Rattle.room_answers.specs.Known.{are_known};
 ghost use Rattle.room_answers.specs.Quoted.{IsQuoteAnswer, quote_replies};
-ghost use Rattle.room_answers.specs.Read.{first_made};
 ghost use Rattle.room_answers.specs.Senders.{market, sent_by};
 ghost use Rattle.room_answers.specs.Sent.{prices_sent, quote_sent, rests, shown_unless, symbol_in};
 
@@ -28,7 +27,7 @@ use rfq_room::{Cause, RoomPlan, Rooms, rooms_decide};
 use sef_moment::Moment;
 use std::alloc::{AllocError, Global};
 use venue_rules::{
-    Fact, PictureEntries, Prices, QuoteRefusal, QuoteSent, QuoteState, QuoteStatus, Reply, Room,
+    PictureEntries, Prices, QuoteRefusal, QuoteSent, QuoteState, QuoteStatus, Reply, Room,
     RoomQuote, What, name_identifier, symbol_of,
 };
 
