@@ -7,7 +7,7 @@ use crate::keeping::play_keeping;
 use crate::older::play_older;
 use crate::play::Play;
 use crate::starting::play_starting;
-use crate::steps::{play_file, play_steps};
+use crate::steps::play_steps;
 use crate::stops::play_stops;
 use crate::working::play_working;
 use anyhow::{Result, bail};
@@ -24,7 +24,7 @@ fn play_by(play: &mut Play, word: &str, rest: &str) -> Result<()> {
 }
 
 // Plays what a line names.
-fn play_named<R: Wait>(host: &HostRuntime, rt: &R, play: &mut Play, line: &str) -> Result<()> {
+fn play_named<R: Wait>(rt: &R, play: &mut Play, line: &str) -> Result<()> {
     match line {
         "keep" => play_keeping(play),
         "migrate 1" => play_older(play, 1),
@@ -33,7 +33,6 @@ fn play_named<R: Wait>(host: &HostRuntime, rt: &R, play: &mut Play, line: &str) 
         "board" => play_board(play),
         "work" => play_working(play),
         "script" => play_script(rt, play),
-        "file" => play_file(host, play),
         _ => {
             let (word, rest) = line.split_once(' ').unwrap_or((line, ""));
             play_by(play, word, rest)
@@ -42,7 +41,7 @@ fn play_named<R: Wait>(host: &HostRuntime, rt: &R, play: &mut Play, line: &str) 
 }
 
 // Plays a line, and appends it with what is seen; a line that tells an answer is passed over.
-fn play_line<R: Wait>(host: &HostRuntime, rt: &R, play: &mut Play, line: &str) -> Result<()> {
+fn play_line<R: Wait>(rt: &R, play: &mut Play, line: &str) -> Result<()> {
     if line.starts_with("  ") {
         return Ok(());
     }
@@ -50,18 +49,13 @@ fn play_line<R: Wait>(host: &HostRuntime, rt: &R, play: &mut Play, line: &str) -
     if line.is_empty() || line.starts_with('#') {
         return Ok(());
     }
-    play_named(host, rt, play, line)
+    play_named(rt, play, line)
 }
 
-/// Plays all lines: what may wait by one of the two, and what has a file by the other.
-pub fn play_lines<R: Wait>(
-    host: &HostRuntime,
-    rt: &R,
-    play: &mut Play,
-    transcript: &str,
-) -> Result<()> {
+/// Plays all lines.
+pub fn play_lines<R: Wait>(rt: &R, play: &mut Play, transcript: &str) -> Result<()> {
     for line in transcript.lines() {
-        play_line(host, rt, play, line)?;
+        play_line(rt, play, line)?;
     }
     Ok(())
 }

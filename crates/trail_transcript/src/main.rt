@@ -4,8 +4,8 @@
 //! The transcript comes on standard input. A line that is set in tells an answer, an empty line and one that begins with `#` are passed
 //! over, and any other line names a play. The plays are played, and the transcript is written anew with what is seen. Where that is the
 //! transcript that came, nothing is written; else the new one is, and the status is 1. A call that is refused for want of memory ends the
-//! program; with the argument `one_refused` one call may be, which is made once more. With the words `time PATH ROWS` nothing is played:
-//! a trail is made in a new file, and it is told how long that many rows take, one transaction each.
+//! program; with the argument `one_refused` one call may be, which is made once more. With the words `time ROWS` nothing is played: a trail
+//! is made in memory, and it is told how long that many rows take, one transaction each.
 #![tactic(auto)]
 
 mod boards;
@@ -44,14 +44,14 @@ fn tell(rt: &HostRuntime, play: &Play, transcript: &str) -> Result<()> {
     Ok(())
 }
 
-/// Times so many rows in a new file, where both words are there.
-fn time_rows(rt: &HostRuntime, path: Option<String>, rows: Option<String>) -> Result<()> {
-    let (Some(path), Some(rows)) = (path, rows) else {
-        return Err(anyhow!("usage: trail_transcript time PATH ROWS"));
+/// Times so many rows, where the word is there.
+fn time_rows(rt: &HostRuntime, rows: Option<String>) -> Result<()> {
+    let Some(rows) = rows else {
+        return Err(anyhow!("usage: trail_transcript time ROWS"));
     };
     let rows = rows.as_str().parse::<u64>()?;
-    let milliseconds = time(rt, path.as_str(), rows)?;
-    println!(rt; "{rows} rows in {milliseconds} ms")?;
+    let microseconds = time(rt, rows)?;
+    println!(rt; "{rows} rows in {microseconds} us")?;
     Ok(())
 }
 
@@ -65,10 +65,10 @@ fn refusals_asked(rt: &HostRuntime) -> Result<Option<u32>> {
     match word.as_str() {
         "one_refused" => Ok(Some(1)),
         "time" => {
-            time_rows(rt, words.next(), words.next())?;
+            time_rows(rt, words.next())?;
             Ok(None)
         }
-        _ => Err(anyhow!("usage: trail_transcript [one_refused | time PATH ROWS]")),
+        _ => Err(anyhow!("usage: trail_transcript [one_refused | time ROWS]")),
     }
 }
 
@@ -78,6 +78,6 @@ fn main(rt: HostRuntime) -> Result<()> {
     };
     let transcript = io::read_to_string(rt.alloc(), rt.stdin())?;
     let mut play = Play::new(rt.alloc(), refusals);
-    play_lines(&rt, &rt, &mut play, transcript.as_str())?;
+    play_lines(&rt, &mut play, transcript.as_str())?;
     tell(&rt, &play, transcript.as_str())
 }

@@ -9,7 +9,6 @@ use anyhow::{Result, anyhow, ensure};
 use audit_trail::{Files, Trail};
 use sqlite::{Alter, Connection};
 use std::alloc::Global;
-use std::fs;
 use std::mem::drop;
 use venue_rules::TrailFault;
 
@@ -234,27 +233,4 @@ pub fn play_steps(play: &mut Play, line: &str) -> Result<()> {
     let conn = act_each(play, conn, &files, words, statements)?;
     drop(conn);
     Ok(())
-}
-
-/// A folder for a trail in a file, and the file.
-const FOLDER: &str = "kept_trail";
-
-const FILE: &str = "kept_trail/t.db";
-
-// Opens the file, does what these words name, and closes it.
-fn act_in_file(rt: &HostRuntime, play: &mut Play, words: &str) -> Result<()> {
-    let files = files_named(play.alloc, "usual")?;
-    let conn = Connection::open(rt, FILE)?;
-    let conn = act_each(play, conn, &files, words, "")?;
-    drop(files);
-    Ok(conn.close()?)
-}
-
-/// A trail is made in a new file, which is closed and opened again, and removed.
-pub fn play_file(rt: &HostRuntime, play: &mut Play) -> Result<()> {
-    let _ = fs::remove_dir_all(rt, FOLDER);
-    fs::create_dir(rt, FOLDER)?;
-    act_in_file(rt, play, "keep=7 open")?;
-    act_in_file(rt, play, "open")?;
-    Ok(fs::remove_dir_all(rt, FOLDER)?)
 }

@@ -1,4 +1,4 @@
-//! How fast a trail records rows into a file, one transaction each.
+//! How fast a trail records rows in memory, one transaction each.
 
 ghost use Rattle.std.specs.Prelude.{◌≡◌, IfOk};
 
@@ -42,7 +42,7 @@ fn record_next<S: Alter>(alloc: Global, trail: &mut Trail<S>) -> Result<()> {
     Ok(())
 }
 
-// How many milliseconds it takes to record so many rows in a trail, which is dropped.
+// How many microseconds it takes to record so many rows in a trail, which is dropped.
 fn time_over<S: Alter + Drop>(rt: &HostRuntime, mut trail: Trail<S>, rows: u64) -> Result<u64> {
     let start = Instant::now(rt)?;
     for _ in 0..rows {
@@ -53,16 +53,16 @@ fn time_over<S: Alter + Drop>(rt: &HostRuntime, mut trail: Trail<S>, rows: u64) 
     Ok(
         taken
             .as_secs()
-            .saturating_mul(1000)
-            .saturating_add(u64::from(taken.subsec_millis())),
+            .saturating_mul(1_000_000)
+            .saturating_add(u64::from(taken.subsec_micros())),
     )
 }
 
-/// Makes a trail in a new file, and says how many milliseconds it takes to record so many rows in it.
-pub fn time(rt: &HostRuntime, path: &str, rows: u64) -> Result<u64> {
+/// Makes a trail in memory, and says how many microseconds it takes to record so many rows in it.
+pub fn time(rt: &HostRuntime, rows: u64) -> Result<u64> {
     let alloc = rt.alloc();
     let files = make_files(alloc)?;
-    let conn = Connection::open(rt, path)?;
+    let conn = Connection::open_in_memory(alloc)?;
     let Ok(trail) = Trail::create(alloc, conn, &files) else {
         return Err(anyhow!("no trail was made"));
     };
