@@ -5,19 +5,18 @@ import subprocess
 import sys
 
 PROGRAM = "crates/world_transcript/out/world_transcript"
-# how many rest on each side of each instrument, how many orders came and went, how many instruments, how many orders are timed in
-# the plain book
+# how many rest on each side of each instrument, how many orders came and went, how many instruments
 SIZES = (
-    (10, 1_000, 1, 20),
-    (10, 10_000, 1, 0),
-    (10, 100_000, 1, 0),
-    (10, 1_000_000, 1, 0),
-    (199, 1_000, 1, 20),
-    (199, 100_000, 1, 0),
-    (10, 1_000, 256, 0),
-    (100, 1_000, 256, 0),
+    (10, 1_000, 1),
+    (10, 10_000, 1),
+    (10, 100_000, 1),
+    (10, 1_000_000, 1),
+    (199, 1_000, 1),
+    (199, 100_000, 1),
+    (10, 1_000, 256),
+    (100, 1_000, 256),
 )
-KINDS = ("rest", "replace", "cancel", "fill", "picture", "plain")
+KINDS = ("rest", "replace", "cancel", "fill", "picture")
 # how many rooms came and went
 ROOMS_GONE = (1_000, 10_000, 100_000, 1_000_000)
 ROOM_KINDS = ("request", "quote", "hit")
@@ -60,18 +59,15 @@ def main():
     # builds it where it is not built, and plays its transcript
     with open("crates/world_transcript/stdin", "rb") as file:
         subprocess.run(["rt", "run"], cwd="crates/world_transcript", check=True, stdin=file, capture_output=True)
-    for resting, gone, instruments, plain in SIZES:
+    for resting, gone, instruments in SIZES:
         # (where many rest, one request is timed in each instrument)
         timed_here = min(timed, instruments) if resting * instruments > 10_000 else timed
         size = [str(resting), str(gone), str(instruments), str(timed_here)]
-        ours, theirs = in_turn([PROGRAM, "book", *size, str(plain)], [os.path.join(place, "book_peer"), *size], TURNS)
+        ours, theirs = in_turn([PROGRAM, "book", *size], [os.path.join(place, "book_peer"), *size], TURNS)
         book, peer = best(ours), best(theirs)
         print(f"{resting} rest on each side, {gone} gone, {instruments} instruments:")
         for kind in KINDS:
-            if kind in peer:
-                print(f"  {kind}: {book[kind]} ns, C++ {peer[kind]} ns, ratio {book[kind] / max(peer[kind], 1):.1f}")
-            elif kind in book and book[kind]:
-                print(f"  {kind}: {book[kind]} ns an order", flush=True)
+            print(f"  {kind}: {book[kind]} ns, C++ {peer[kind]} ns, ratio {book[kind] / max(peer[kind], 1):.2f}", flush=True)
     time_rooms(timed, place)
 
 

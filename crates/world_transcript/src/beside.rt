@@ -6,5 +6,4 @@ mod market;
 pub mod playing;
 mod sent;
 mod sessions;
-mod times;
 mod together;

@@ -80,18 +80,18 @@ fn numbers_behind(rt: &HostRuntime) -> Result<Vec<u64>> {
 fn tell_measured(rt: &HostRuntime, word: &str) -> Result<()> {
     let numbers = numbers_behind(rt)?;
     match (word, numbers.as_slice()) {
-        ("book", [resting, gone, instruments, timed, plain]) => {
+        ("book", [resting, gone, instruments, timed]) => {
             let size = Size {
                 resting: *resting,
                 gone: *gone,
                 instruments: (*instruments).min(1_000) as u32,
                 timed: *timed,
             };
-            tell(rt, size, *plain)
+            tell(rt, size)
         }
         ("rooms", [gone, timed]) => tell_rooms(rt, *gone, *timed),
         _ => bail!(
-            "usage: world_transcript [one_refused | feed | timed | book RESTING GONE INSTRUMENTS TIMED PLAIN | rooms GONE TIMED]"
+            "usage: world_transcript [one_refused | feed | timed | book RESTING GONE INSTRUMENTS TIMED | rooms GONE TIMED]"
         ),
     }
 }

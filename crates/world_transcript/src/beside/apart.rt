@@ -3,11 +3,17 @@
 use crate::beside::market::{Letter, Market};
 use crate::beside::sent::Sent;
 use crate::beside::sessions::Sessions;
-use crate::beside::times::Spent;
-use crate::times::since;
+use crate::times::{Turn, since};
 use anyhow::Result;
 use sef_moment::Moment;
 use std::time::Instant;
+
+/// What a message takes in the world, in the sessions alone and in the venue alone, by their places in a turn.
+pub(crate) const WORLD: usize = 0;
+
+pub(crate) const SESSIONS: usize = 1;
+
+pub(crate) const VENUE: usize = 2;
 
 /// The sessions and the venue, without seats, queues and trail.
 #[derive(Drop)]
@@ -42,20 +48,20 @@ pub(crate) fn play(
     sent: &mut Sent,
     t: Moment,
     written: &mut Vec<u8>,
-    spent: &mut Spent,
+    spent: &mut Turn,
 ) -> Result<()> {
     let start = Instant::now(rt)?;
     let heard = apart.sessions.hear(sent, t)?;
-    spent.add_sessions(since(rt, start)?);
+    spent[SESSIONS] = spent[SESSIONS].saturating_add(since(rt, start)?);
     let Some(taken) = heard else {
         return Ok(());
     };
     let start = Instant::now(rt)?;
     let letters = apart.market.answer(rt.alloc(), &taken, t)?;
-    spent.add_venue(since(rt, start)?);
+    spent[VENUE] = spent[VENUE].saturating_add(since(rt, start)?);
     note_told(&letters, sent)?;
     let start = Instant::now(rt)?;
     send_all(&mut apart.sessions, letters, t, written)?;
-    spent.add_sessions(since(rt, start)?);
+    spent[SESSIONS] = spent[SESSIONS].saturating_add(since(rt, start)?);
     Ok(())
 }

@@ -1,10 +1,9 @@
 //! Messages in batches.
 
-use crate::beside::apart::{Apart, play as play_apart};
+use crate::beside::apart::{Apart, SESSIONS, VENUE, WORLD, play as play_apart};
 use crate::beside::sent::{Sent, sent_in};
-use crate::beside::times::{Spent, Times};
 use crate::beside::together::{Together, play as play_together};
-use crate::times::since;
+use crate::times::{Turn, since};
 use anyhow::{Result, ensure};
 use sef_moment::Moment;
 use std::time::Instant;
@@ -19,7 +18,8 @@ pub(crate) struct Stage {
     pub(crate) apart: Apart,
     pub(crate) moment: Moment,
     pub(crate) played: Played,
-    pub(crate) times: Times,
+    /// What a message took, by batches.
+    pub(crate) times: Vec<Turn>,
 }
 
 /// How much was played.
@@ -37,7 +37,7 @@ fn apart(
     stage: &mut Stage,
     batch: &mut Vec<Sent>,
     written: &mut Vec<u8>,
-    spent: &mut Spent,
+    spent: &mut Turn,
 ) -> Result<()> {
     for place in 0..batch.len() {
         play_apart(
@@ -58,13 +58,13 @@ fn together(
     stage: &mut Stage,
     batch: &[Sent],
     written: &mut Vec<u8>,
-    spent: &mut Spent,
+    spent: &mut Turn,
 ) -> Result<()> {
     let start = Instant::now(rt)?;
     for sent in batch {
         play_together(&mut stage.together, sent, stage.moment, written)?;
     }
-    spent.world = since(rt, start)?;
+    spent[WORLD] = since(rt, start)?;
     Ok(())
 }
 
@@ -76,16 +76,28 @@ fn count(played: &mut Played, batch: &[Sent], written: &[u8]) {
     }
 }
 
+// What each of so many messages took.
+fn each(spent: Turn, messages: usize) -> Turn {
+    let messages = messages.max(1) as u64;
+    [
+        spent[WORLD] / messages,
+        spent[SESSIONS] / messages,
+        spent[VENUE] / messages,
+        0,
+        0,
+    ]
+}
+
 // A batch goes apart and then through the world, which must write the same.
 fn play(rt: &HostRuntime, stage: &mut Stage, batch: &mut Vec<Sent>) -> Result<()> {
-    let mut spent = Spent::nothing();
+    let mut spent: Turn = [0; 5];
     let mut wanted = Vec::new(rt.alloc());
     apart(rt, stage, batch, &mut wanted, &mut spent)?;
     let mut written = Vec::new(rt.alloc());
     together(rt, stage, batch, &mut written, &mut spent)?;
     ensure!(written == wanted, "the world wrote otherwise");
     count(&mut stage.played, batch, &written);
-    stage.times.add(spent, batch.len())?;
+    stage.times.push(each(spent, batch.len()))?;
     Ok(())
 }
 

@@ -1,14 +1,14 @@
 //! Frames through the world, and beside that through the sessions alone and the venue alone.
 
-use crate::beside::apart::Apart;
+use crate::beside::apart::{Apart, SESSIONS, VENUE, WORLD};
 use crate::beside::batch::{Played, Stage, play_all};
 use crate::beside::market::Market;
 use crate::beside::sessions::Sessions;
-use crate::beside::times::Times;
 use crate::beside::together::{Together, resume_all};
 use crate::fixture::DELAY;
 use crate::moments::start;
 use crate::texts::bytes_in;
+use crate::times::{Turn, middle_of};
 use anyhow::{Result, bail};
 use participants::Participants;
 use sef_moment::Moment;
@@ -17,6 +17,9 @@ use std::str;
 use venue_core::Venue;
 use venue_rules::fixture_instruments;
 use venue_world::{ListTrail, World};
+
+/// How many of the last batches are looked at.
+const LAST: usize = 11;
 
 fn participants_of(alloc: Global, file: &str) -> Result<Participants> {
     Ok(Participants::read(alloc, file.as_bytes())?)
@@ -68,7 +71,7 @@ fn stage_of(alloc: Global, file: &str) -> Result<Stage> {
             replies: 0,
             written: 0,
         },
-        times: Times::new(alloc),
+        times: Vec::new(alloc),
     })
 }
 
@@ -79,12 +82,12 @@ fn counts_of(alloc: Global, played: Played) -> Result<String, AllocError> {
     )
 }
 
-fn with_times(alloc: Global, counts: &str, times: &Times) -> Result<String, AllocError> {
-    let middle = times.middle(alloc)?;
-    format!(in alloc;
-        "{counts}\nworld {} sessions {} venue {}",
-        middle.world, middle.sessions, middle.venue
-    )
+fn with_times(alloc: Global, counts: &str, times: &[Turn]) -> Result<String, AllocError> {
+    let last = &times[times.len().saturating_sub(LAST)..];
+    let world = middle_of(alloc, last, WORLD)?;
+    let sessions = middle_of(alloc, last, SESSIONS)?;
+    let venue = middle_of(alloc, last, VENUE)?;
+    format!(in alloc; "{counts}\nworld {world} sessions {sessions} venue {venue}")
 }
 
 // Plays these lines, and says what came of it.

@@ -7,7 +7,7 @@ use anyhow::{Result, anyhow};
 use fix_dictionary::{Identifier, Price};
 use instruments::Instruments;
 use participants::{Participants, Who};
-use price_book::{PriceBook, ScannedBook};
+use price_book::PriceBook;
 use sef_moment::Moment;
 use std::alloc::{AllocError, Global};
 use venue_rules::OrderFact;
@@ -31,26 +31,6 @@ pub(crate) fn market_of(alloc: Global) -> Result<Market, AllocError> {
 }
 
 pub(crate) fn enter(market: &Market, book: &mut PriceBook, order: &OrderFact) -> Result<()> {
-    if book.used(order.who, &order.id) {
-        return Err(anyhow!("used"));
-    }
-    let Ok(plan) = book.plan_entry(
-        &market.participants,
-        &market.instruments,
-        order,
-        market.moment,
-    ) else {
-        return Err(anyhow!("refused"));
-    };
-    book.apply(plan);
-    Ok(())
-}
-
-pub(crate) fn enter_plain(
-    market: &Market,
-    book: &mut ScannedBook,
-    order: &OrderFact,
-) -> Result<()> {
     if book.used(order.who, &order.id) {
         return Err(anyhow!("used"));
     }

@@ -2,48 +2,13 @@
 
 use crate::book::facility::Facility;
 use crate::book::messages::{hit_of, quote_of, request_of};
-use crate::times::{median, since};
+use crate::times::{Turn, since};
 use anyhow::{Result, anyhow};
 use participants::Who;
-use std::alloc::Global;
 use std::time::Instant;
 
 /// How many rooms are open before each request.
 const OPEN: u64 = 4;
-
-/// What each took, by its kind, in nanoseconds.
-#[derive(Drop)]
-pub(crate) struct RoomSpent {
-    pub(crate) request: Vec<u64>,
-    pub(crate) quote: Vec<u64>,
-    pub(crate) hit: Vec<u64>,
-}
-
-/// The middle times of each kind, in nanoseconds.
-#[derive(Clone, Copy)]
-pub(crate) struct RoomMiddle {
-    pub(crate) request: u64,
-    pub(crate) quote: u64,
-    pub(crate) hit: u64,
-}
-
-impl RoomSpent {
-    fn new(alloc: Global) -> RoomSpent {
-        RoomSpent {
-            request: Vec::new(alloc),
-            quote: Vec::new(alloc),
-            hit: Vec::new(alloc),
-        }
-    }
-
-    fn middle(&mut self) -> RoomMiddle {
-        RoomMiddle {
-            request: median(&mut self.request),
-            quote: median(&mut self.quote),
-            hit: median(&mut self.hit),
-        }
-    }
-}
 
 fn time_request(rt: &HostRuntime, facility: &mut Facility, n: u64) -> Result<u64> {
     let request = request_of(rt.alloc(), n)?;
@@ -75,7 +40,7 @@ fn time_hit(rt: &HostRuntime, facility: &mut Facility, n: u64) -> Result<u64> {
 }
 
 // The n-th request, the quote in the room of the second before it, and the hit that ends the room of the fourth before it.
-fn play(rt: &HostRuntime, facility: &mut Facility, n: u64) -> Result<RoomMiddle> {
+fn play(rt: &HostRuntime, facility: &mut Facility, n: u64) -> Result<Turn> {
     let request = time_request(rt, facility, n)?;
     let quote = if OPEN / 2 < n {
         time_quote(rt, facility, n - OPEN / 2)?
@@ -87,29 +52,23 @@ fn play(rt: &HostRuntime, facility: &mut Facility, n: u64) -> Result<RoomMiddle>
     } else {
         0
     };
-    Ok(RoomMiddle {
-        request,
-        quote,
-        hit,
-    })
+    Ok([request, quote, hit, 0, 0])
 }
 
-/// The middle times of a request, a quote and a hit, of so many that are timed after so many rooms came and went.
+/// The times of a request, a quote and a hit, of so many that are timed after so many rooms came and went.
 pub(crate) fn time_rooms(
     rt: &HostRuntime,
     facility: &mut Facility,
     gone: u64,
     timed: u64,
-) -> Result<RoomMiddle> {
-    let mut spent = RoomSpent::new(rt.alloc());
+) -> Result<Vec<Turn>> {
+    let mut turns = Vec::new(rt.alloc());
     let before = gone.saturating_add(OPEN);
     for turn in 0..before.saturating_add(timed) {
         let took = play(rt, facility, turn.saturating_add(1))?;
         if before <= turn {
-            spent.request.push(took.request)?;
-            spent.quote.push(took.quote)?;
-            spent.hit.push(took.hit)?;
+            turns.push(took)?;
         }
     }
-    Ok(spent.middle())
+    Ok(turns)
 }
