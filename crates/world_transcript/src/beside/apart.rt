@@ -8,11 +8,13 @@ use anyhow::Result;
 use sef_moment::Moment;
 use std::time::Instant;
 
-/// What a message takes in the world, in the sessions alone and in the venue alone, by their places in a turn.
+/// The place in a turn of what a message takes in the world.
 pub(crate) const WORLD: usize = 0;
 
+/// Of what it takes in the sessions alone.
 pub(crate) const SESSIONS: usize = 1;
 
+/// Of what it takes in the venue alone.
 pub(crate) const VENUE: usize = 2;
 
 /// The sessions and the venue, without seats, queues and trail.
