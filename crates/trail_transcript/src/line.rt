@@ -1,7 +1,6 @@
 //! The lines of a transcript.
 
 use crate::boards::play_board;
-use crate::counterparty::play_script;
 use crate::eras::play_eras;
 use crate::keeping::play_keeping;
 use crate::older::play_older;
@@ -11,7 +10,6 @@ use crate::steps::play_steps;
 use crate::stops::play_stops;
 use crate::working::play_working;
 use anyhow::{Result, bail};
-use std::sync::Wait;
 
 // Plays what a line names by its first word, with the others.
 fn play_by(play: &mut Play, word: &str, rest: &str) -> Result<()> {
@@ -24,7 +22,7 @@ fn play_by(play: &mut Play, word: &str, rest: &str) -> Result<()> {
 }
 
 // Plays what a line names.
-fn play_named<R: Wait>(rt: &R, play: &mut Play, line: &str) -> Result<()> {
+fn play_named(play: &mut Play, line: &str) -> Result<()> {
     match line {
         "keep" => play_keeping(play),
         "migrate 1" => play_older(play, 1),
@@ -32,7 +30,6 @@ fn play_named<R: Wait>(rt: &R, play: &mut Play, line: &str) -> Result<()> {
         "start" => play_starting(play),
         "board" => play_board(play),
         "work" => play_working(play),
-        "script" => play_script(rt, play),
         _ => {
             let (word, rest) = line.split_once(' ').unwrap_or((line, ""));
             play_by(play, word, rest)
@@ -41,7 +38,7 @@ fn play_named<R: Wait>(rt: &R, play: &mut Play, line: &str) -> Result<()> {
 }
 
 // Plays a line, and appends it with what is seen; a line that tells an answer is passed over.
-fn play_line<R: Wait>(rt: &R, play: &mut Play, line: &str) -> Result<()> {
+fn play_line(play: &mut Play, line: &str) -> Result<()> {
     if line.starts_with("  ") {
         return Ok(());
     }
@@ -49,13 +46,13 @@ fn play_line<R: Wait>(rt: &R, play: &mut Play, line: &str) -> Result<()> {
     if line.is_empty() || line.starts_with('#') {
         return Ok(());
     }
-    play_named(rt, play, line)
+    play_named(play, line)
 }
 
 /// Plays all lines.
-pub fn play_lines<R: Wait>(rt: &R, play: &mut Play, transcript: &str) -> Result<()> {
+pub fn play_lines(play: &mut Play, transcript: &str) -> Result<()> {
     for line in transcript.lines() {
-        play_line(rt, play, line)?;
+        play_line(play, line)?;
     }
     Ok(())
 }

@@ -1,5 +1,5 @@
-//! Plays a trail, a venue that begins from it, boards of seats, a worker over it and a counterparty's script, and sees whether they answer
-//! as it is written; of a trail also what bad files, other eras and a stop at each call leave of it.
+//! Plays a trail, a venue that begins from it, boards of seats and a worker over it, and sees whether they answer as it is written; of a
+//! trail also what bad files, other eras and a stop at each call leave of it.
 //!
 //! The transcript comes on standard input. A line that is set in tells an answer, an empty line and one that begins with `#` are passed
 //! over, and any other line names a play. The plays are played, and the transcript is written anew with what is seen. Where that is the
@@ -9,7 +9,6 @@
 #![tactic(auto)]
 
 mod boards;
-mod counterparty;
 mod day;
 mod eras;
 mod items;
@@ -23,7 +22,6 @@ mod seats;
 mod starting;
 mod steps;
 mod stops;
-mod telling;
 mod timing;
 mod working;
 
@@ -56,7 +54,6 @@ fn time_rows(rt: &HostRuntime, rows: Option<String>) -> Result<()> {
 }
 
 /// How many growths may be refused in the play that the words ask for; none where they ask for no play, and what they ask for is done.
-/// The play is left to `main`, since `main` alone may wait.
 fn refusals_asked(rt: &HostRuntime) -> Result<Option<u32>> {
     let mut words = env::args(rt)?.skip(1);
     let Some(word) = words.next() else {
@@ -78,6 +75,6 @@ fn main(rt: HostRuntime) -> Result<()> {
     };
     let transcript = io::read_to_string(rt.alloc(), rt.stdin())?;
     let mut play = Play::new(rt.alloc(), refusals);
-    play_lines(&rt, &mut play, transcript.as_str())?;
+    play_lines(&mut play, transcript.as_str())?;
     tell(&rt, &play, transcript.as_str())
 }

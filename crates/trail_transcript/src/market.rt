@@ -22,16 +22,6 @@ const OWN_DELAY: &str =
 /// The usual delay between linked orders, in milliseconds.
 const USUAL_DELAY: u64 = 15_000;
 
-/// The texts of both files.
-pub fn make_files(alloc: Global) -> Result<Files, AllocError> {
-    let participants = Vec::from_slice(alloc, PARTICIPANTS.as_bytes())?;
-    let instruments = Vec::from_slice(alloc, INSTRUMENTS.as_bytes())?;
-    Ok(Files {
-        participants: FileText::from_vec(participants),
-        instruments: FileText::from_vec(instruments),
-    })
-}
-
 // A file's text, filled up with a comment to so many bytes.
 fn filled(alloc: Global, text: &str, length: usize) -> Result<FileText, AllocError> {
     let mut bytes = Vec::from_slice(alloc, text.as_bytes())?;
@@ -49,6 +39,11 @@ fn filled_files(alloc: Global, instruments: &str, length: usize) -> Result<Files
         participants,
         instruments,
     })
+}
+
+/// The texts of both files.
+pub fn make_files(alloc: Global) -> Result<Files, AllocError> {
+    filled_files(alloc, INSTRUMENTS, 0)
 }
 
 /// The texts of both files that a word names: the usual ones, with no instruments, with a delay of an instrument's own, with instruments

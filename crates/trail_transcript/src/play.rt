@@ -40,8 +40,8 @@ fn write_number(
     write(line.as_str(), told)
 }
 
-/// Appends a byte, with `|` for SOH.
-pub fn write_byte(byte: u8, told: &mut Vec<u8>) -> Result<(), AllocError> {
+// Appends a byte, with `|` for SOH.
+fn write_byte(byte: u8, told: &mut Vec<u8>) -> Result<(), AllocError> {
     told.push(if byte == 1 { b'|' } else { byte })?;
     Ok(())
 }
@@ -98,17 +98,6 @@ impl Play {
         }
         ensure!(is_as_before, "a refused call changed what is seen");
         self.refused()
-    }
-
-    /// Appends lines, once more where a growth was refused.
-    pub fn append(&mut self, lines: &[u8]) -> Result<()> {
-        let before = self.told.len();
-        if self.told.extend_from_slice(lines).is_ok() {
-            return Ok(());
-        }
-        self.refused()?;
-        self.told.truncate(before);
-        Ok(self.told.extend_from_slice(lines)?)
     }
 
     /// Appends a line, once more where a growth was refused.

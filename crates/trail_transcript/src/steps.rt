@@ -1,6 +1,6 @@
 //! What is done to a database, step by step, and what is found in it then.
 
-use crate::items::{item, items_in, row_of};
+use crate::items::{Sent, item, items_in, row_of};
 use crate::keeping::tell_seen;
 use crate::market::{empty, files_named};
 use crate::older::write_older;
@@ -33,21 +33,21 @@ pub fn items_of<S: Alter>(trail: &mut Trail<S>) -> Option<u64> {
     }
 }
 
-// Records the next of the items; `false` where it is refused.
-fn record_next<S: Alter>(alloc: Global, trail: &mut Trail<S>) -> bool {
+/// Records the next row; `false` where it is refused.
+pub fn record_next<S: Alter>(alloc: Global, trail: &mut Trail<S>, sent: &Sent) -> bool {
     let Some(n) = trail.len().checked_add(1) else {
         return false;
     };
-    let Ok(row) = row_of(alloc, n, &item(n)) else {
+    let Ok(row) = row_of(alloc, n, sent) else {
         return false;
     };
     trail.record(&row).is_ok()
 }
 
-// Records items up to the first that is refused, and says how many were kept.
+// Records items in a new trail up to the first that is refused, and says how many were kept.
 fn fill<S: Alter>(alloc: Global, trail: &mut Trail<S>, items: u64) -> u64 {
     for done in 0..items {
-        if !record_next(alloc, trail) {
+        if !record_next(alloc, trail, &item(done.saturating_add(1))) {
             return done;
         }
     }

@@ -1,52 +1,31 @@
 //! How fast a trail records rows in memory, one transaction each.
 
-ghost use Rattle.std.specs.Prelude.{◌≡◌, IfOk};
-
+use crate::items::Sent;
 use crate::market::make_files;
-use crate::play::start_moment;
-use anyhow::{Result, anyhow};
+use crate::steps::record_next;
+use anyhow::{Result, anyhow, ensure};
 use audit_trail::Trail;
 use sqlite::{Alter, Connection};
-use std::alloc::Global;
 use std::mem::drop;
 use std::time::Instant;
-use venue_rules::{RowText, TrailRow};
 
 /// An order of 95 bytes, which is near the mean.
-const TEXT: &[u8] =
-    b"35=D\x0111=order-0001\x01583=link-0001\x0155=IRS5Y\x0154=1\x0138=100\x0140=2\x0144=2.5\x0159=0\x0160=20250303-14:30:00.000\x01";
-
-// The row with this number.
-fn row(alloc: Global, n: u64) -> Result<TrailRow>
-    ensures { IfOk result (λ row. row.n ≡ n) }
-{
-    let text = Vec::from_slice(alloc, TEXT)?;
-    Ok(TrailRow {
-        n,
-        who: 1,
-        era: 1,
-        number: 2,
-        moment: start_moment(),
-        text: RowText::from_vec(text),
-    })
-}
-
-fn record_next<S: Alter>(alloc: Global, trail: &mut Trail<S>) -> Result<()> {
-    let Some(n) = trail.len().checked_add(1) else {
-        return Err(anyhow!("too many rows"));
-    };
-    let next = row(alloc, n)?;
-    if trail.record(&next).is_err() {
-        return Err(anyhow!("a row was refused"));
-    }
-    Ok(())
-}
+const ORDER: Sent = Sent {
+    who: 1,
+    era: 1,
+    number: 2,
+    later: 0,
+    text: "35=D\x0111=order-0001\x01583=link-0001\x0155=IRS5Y\x0154=1\x0138=100\x0140=2\x0144=2.5\x0159=0\x0160=20250303-14:30:00.000\x01",
+};
 
 // How many microseconds it takes to record so many rows in a trail, which is dropped.
 fn time_over<S: Alter + Drop>(rt: &HostRuntime, mut trail: Trail<S>, rows: u64) -> Result<u64> {
     let start = Instant::now(rt)?;
     for _ in 0..rows {
-        record_next(rt.alloc(), &mut trail)?;
+        ensure!(
+            record_next(rt.alloc(), &mut trail, &ORDER),
+            "a row was refused"
+        );
     }
     let taken = start.elapsed(rt)?;
     drop(trail);
