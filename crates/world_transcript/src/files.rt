@@ -1,6 +1,6 @@
 //! Files of participants and of instruments.
 
 mod asking;
-pub mod line;
+mod line;
 mod telling;
-mod texts;
+pub mod texts;

@@ -1,9 +1,16 @@
 //! The parts of a transcript.
 
+use crate::bytes::state::State;
+use crate::dictionary::Dictionary;
+use crate::files::texts::Files;
 use crate::refusals::Refusals;
 use crate::texts::write_again;
-use crate::{beside, book, bytes, dictionary, files, session, store, venue, world};
+use crate::venue::line::Play;
+use crate::world::playing::Played;
+use crate::{beside, book, lines};
 use anyhow::{Result, bail};
+use fix_session::Session;
+use resend_store::Store;
 
 /// What a line begins with that begins a part; behind it stands what is played there.
 const BEGINS: &str = "part ";
@@ -18,14 +25,14 @@ fn play_part(
 ) -> Result<()> {
     let alloc = rt.alloc();
     match name {
-        "bytes" => bytes::line::play_lines(alloc, lines, told, refusals),
-        "dictionary" => dictionary::line::play_lines(alloc, lines, told, refusals),
-        "store" => store::line::play_lines(alloc, lines, told, refusals),
-        "session" => session::line::play_lines(alloc, lines, told, refusals),
-        "files" => files::line::play_lines(alloc, lines, told, refusals),
+        "bytes" => lines::play_part::<State>(alloc, lines, told, refusals),
+        "dictionary" => lines::play_part::<Dictionary>(alloc, lines, told, refusals),
+        "store" => lines::play_part::<Store>(alloc, lines, told, refusals),
+        "session" => lines::play_part::<Session>(alloc, lines, told, refusals),
+        "files" => lines::play_part::<Files>(alloc, lines, told, refusals),
         "book" => book::line::play_part(rt, lines, told),
-        "venue" => venue::line::play_part(alloc, lines, told, refusals),
-        "world" => world::line::play_part(alloc, lines, told, refusals),
+        "venue" => lines::play_part::<Play>(alloc, lines, told, refusals),
+        "world" => lines::play_part::<Played>(alloc, lines, told, refusals),
         "beside" => beside::playing::play_part(rt, lines, told),
         _ => bail!("no part: {name}"),
     }
@@ -50,7 +57,7 @@ pub fn told_anew(rt: &HostRuntime, transcript: &str, refusals: &mut Refusals) ->
     let mut told = Vec::new(rt.alloc());
     match transcript.strip_prefix(BEGINS) {
         Some(parts) => append_parts(rt, parts, &mut told, refusals)?,
-        None => world::line::play_part(rt.alloc(), transcript, &mut told, refusals)?,
+        None => lines::play_part::<Played>(rt.alloc(), transcript, &mut told, refusals)?,
     }
     Ok(told)
 }

@@ -1,6 +1,7 @@
 //! The refusals for want of memory that a run may meet.
 
 use anyhow::{Result, ensure};
+use std::alloc::AllocError;
 
 /// How many calls may still be refused for want of memory: as many as growths are, so that none is refused without that cause.
 #[derive(Drop)]
@@ -24,5 +25,20 @@ impl Refusals {
     pub fn one_more(&mut self) -> Result<()> {
         ensure!(self.admit(), "a call was refused, and no growth");
         Ok(())
+    }
+}
+
+/// Why a call came to no answer.
+#[derive(Clone, Copy, Drop)]
+pub enum Trouble {
+    /// A growth was refused, and the call changed nothing but the text and what is told.
+    NoMemory,
+    /// A growth was refused, and what should have stayed did not.
+    Changed,
+}
+
+impl From<AllocError> for Trouble {
+    fn from(_error: AllocError) -> Trouble {
+        Trouble::NoMemory
     }
 }

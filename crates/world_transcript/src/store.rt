@@ -1,5 +1,5 @@
 //! What a session has numbered.
 
 mod adding;
-pub mod line;
+mod line;
 mod looking;

@@ -1,5 +1,6 @@
 //! Answers as lines of a transcript.
 
+use crate::refusals::Refusals;
 use crate::texts::append_with;
 use fix_session::{Step, Why};
 use std::alloc::{AllocError, Global};
@@ -25,6 +26,11 @@ pub fn tell_count(
     told: &mut Vec<u8>,
 ) -> Result<(), AllocError> {
     tell_line(format!(in alloc; "{count} {things}")?.as_str(), told)
+}
+
+/// Appends yes or no.
+pub fn tell_whether(answer: bool, told: &mut Vec<u8>) -> Result<(), AllocError> {
+    tell_line(if answer { "yes" } else { "no" }, told)
 }
 
 /// Appends bytes with `|` for SOH, and the end of a line.
@@ -66,5 +72,39 @@ pub fn tell_step(alloc: Global, step: Step, told: &mut Vec<u8>) -> Result<(), Al
             let why = reason(why);
             tell_line(format!(in alloc; "dropped: {why}")?.as_str(), told)
         }
+    }
+}
+
+/// An answer that can be told.
+pub trait Answered {
+    /// Appends the lines that tell it, if there is something to tell.
+    fn tell(&self, alloc: Global, told: &mut Vec<u8>) -> Result<(), AllocError>;
+}
+
+/// Appends the lines that tell an answer, once more where a growth was refused.
+pub fn tell_again<A: Answered>(
+    alloc: Global,
+    answer: &A,
+    told: &mut Vec<u8>,
+    refusals: &mut Refusals,
+) -> anyhow::Result<()> {
+    let before = told.len();
+    if answer.tell(alloc, told).is_ok() {
+        return Ok(());
+    }
+    refusals.one_more()?;
+    told.truncate(before);
+    Ok(answer.tell(alloc, told)?)
+}
+
+/// Takes back the last answer, which begins at `last`, where the one before it is the same; `start` is where the first begins.
+pub fn tell_once(told: &mut Vec<u8>, start: usize, last: usize) {
+    let answers = told.get(start..).unwrap_or(&[]);
+    let (before, answer) = match answers.split_at_checked(last.saturating_sub(start)) {
+        Some(parts) => parts,
+        None => return,
+    };
+    if before.ends_with(answer) {
+        told.truncate(last);
     }
 }

@@ -1,8 +1,8 @@
 //! Texts that stand in more than one part of a transcript.
 
 use crate::refusals::Refusals;
-use anyhow::Result;
-use fix_dictionary::App;
+use anyhow::{Result, bail};
+use fix_dictionary::{App, Identifier};
 use fix_fields::{FieldFault, split};
 use fix_reading::read_app;
 use fix_tables::DictFault;
@@ -74,4 +74,17 @@ pub fn write_again(
     refusals.one_more()?;
     told.truncate(before);
     Ok(write(words, line, told)?)
+}
+
+/// The first word of a text, and what stands behind it.
+pub fn word_in(text: &str) -> (&str, &str) {
+    text.split_once(' ').unwrap_or((text, ""))
+}
+
+/// The identifier with this text. It is an error where it is empty, too long, or has a byte that is not printed.
+pub fn identifier_in(text: &str) -> Result<Identifier> {
+    match Identifier::read(text.as_bytes()) {
+        Some(identifier) => Ok(identifier),
+        None => bail!("no name: {text}"),
+    }
 }

@@ -10,29 +10,26 @@ pub fn since(rt: &HostRuntime, start: Instant) -> Result<u64> {
     Ok(u64::try_from(spent.as_nanos()).unwrap_or(u64::MAX))
 }
 
-/// The middle one of these times, so that what the machine does beside does not count.
-pub fn median(times: &mut Vec<u64>) -> u64 {
-    times.sort_unstable();
-    match times.get(times.len() / 2) {
-        Some(time) => *time,
-        None => 0,
-    }
-}
-
-/// What a turn took, by kinds; 0 where there is no such kind.
-pub type Turn = [u64; 5];
-
-/// The middle time of a kind.
-pub fn middle_of(alloc: Global, turns: &[Turn], kind: usize) -> Result<u64, AllocError> {
+/// The middle time of a kind, so that what the machine does beside does not count. A turn is what each kind took, by its place.
+pub fn middle_of<const N: usize>(
+    alloc: Global,
+    turns: &[[u64; N]],
+    kind: usize,
+) -> Result<u64, AllocError> {
     let mut times = Vec::new(alloc);
     for turn in turns {
         times.push(turn.get(kind).copied().unwrap_or(0))?;
     }
-    Ok(median(&mut times))
+    times.sort_unstable();
+    Ok(times.get(times.len() / 2).copied().unwrap_or(0))
 }
 
 /// Prints the middle time of each kind, by these names.
-pub fn tell_middles(rt: &HostRuntime, turns: &[Turn], names: &[&str]) -> Result<()> {
+pub fn tell_middles<const N: usize>(
+    rt: &HostRuntime,
+    turns: &[[u64; N]],
+    names: &[&str],
+) -> Result<()> {
     for (kind, name) in names.iter().enumerate() {
         let middle = middle_of(rt.alloc(), turns, kind)?;
         println!(rt; "{} {middle}", *name)?;

@@ -1,9 +1,8 @@
 //! The events of a world, and what it answers.
 
-mod call;
 mod filling;
 mod keeper;
-pub mod line;
-mod playing;
+mod line;
+pub mod playing;
 mod reading;
 mod telling;

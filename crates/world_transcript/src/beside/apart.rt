@@ -3,19 +3,11 @@
 use crate::beside::market::{Letter, Market};
 use crate::beside::sent::Sent;
 use crate::beside::sessions::Sessions;
-use crate::times::{Turn, since};
+use crate::beside::{SESSIONS, Turn, VENUE};
+use crate::times::since;
 use anyhow::Result;
 use sef_moment::Moment;
 use std::time::Instant;
-
-/// The place in a turn of what a message takes in the world.
-pub(crate) const WORLD: usize = 0;
-
-/// Of what it takes in the sessions alone.
-pub(crate) const SESSIONS: usize = 1;
-
-/// Of what it takes in the venue alone.
-pub(crate) const VENUE: usize = 2;
 
 /// The sessions and the venue, without seats, queues and trail.
 #[derive(Drop)]

@@ -1,9 +1,10 @@
 //! Messages in batches.
 
-use crate::beside::apart::{Apart, SESSIONS, VENUE, WORLD, play as play_apart};
+use crate::beside::apart::{Apart, play as play_apart};
 use crate::beside::sent::{Sent, sent_in};
 use crate::beside::together::{Together, play as play_together};
-use crate::times::{Turn, since};
+use crate::beside::{SESSIONS, Turn, VENUE, WORLD};
+use crate::times::since;
 use anyhow::{Result, ensure};
 use sef_moment::Moment;
 use std::time::Instant;
@@ -83,14 +84,12 @@ fn each(spent: Turn, messages: usize) -> Turn {
         spent[WORLD] / messages,
         spent[SESSIONS] / messages,
         spent[VENUE] / messages,
-        0,
-        0,
     ]
 }
 
 // A batch goes apart and then through the world, which must write the same.
 fn play(rt: &HostRuntime, stage: &mut Stage, batch: &mut Vec<Sent>) -> Result<()> {
-    let mut spent: Turn = [0; 5];
+    let mut spent: Turn = [0; 3];
     let mut wanted = Vec::new(rt.alloc());
     apart(rt, stage, batch, &mut wanted, &mut spent)?;
     let mut written = Vec::new(rt.alloc());
@@ -101,16 +100,12 @@ fn play(rt: &HostRuntime, stage: &mut Stage, batch: &mut Vec<Sent>) -> Result<()
     Ok(())
 }
 
-fn is_full(batch: &[Sent]) -> bool {
-    batch.len() >= BATCH
-}
-
 /// Plays the frames of these lines, so many at a time.
 pub(crate) fn play_all(rt: &HostRuntime, stage: &mut Stage, lines: &str) -> Result<()> {
     let mut batch = Vec::new(rt.alloc());
     for line in lines.lines() {
         batch.push(sent_in(rt.alloc(), line)?)?;
-        if is_full(&batch) {
+        if batch.len() >= BATCH {
             play(rt, stage, &mut batch)?;
             batch.clear();
         }

@@ -1,14 +1,15 @@
 //! Frames through the world, and beside that through the sessions alone and the venue alone.
 
-use crate::beside::apart::{Apart, SESSIONS, VENUE, WORLD};
+use crate::beside::apart::Apart;
 use crate::beside::batch::{Played, Stage, play_all};
 use crate::beside::market::Market;
 use crate::beside::sessions::Sessions;
 use crate::beside::together::{Together, resume_all};
+use crate::beside::{SESSIONS, Turn, VENUE, WORLD};
 use crate::fixture::DELAY;
 use crate::moments::start;
 use crate::texts::bytes_in;
-use crate::times::{Turn, middle_of};
+use crate::times::middle_of;
 use anyhow::{Result, bail};
 use participants::Participants;
 use sef_moment::Moment;
@@ -21,10 +22,6 @@ use venue_world::{ListTrail, World};
 /// How many of the last batches are looked at.
 const LAST: usize = 11;
 
-fn participants_of(alloc: Global, file: &str) -> Result<Participants> {
-    Ok(Participants::read(alloc, file.as_bytes())?)
-}
-
 fn new_world(alloc: Global, participants: Participants) -> Result<Together, AllocError> {
     let instruments = fixture_instruments(alloc, DELAY)?;
     World::new(alloc, participants, instruments, ListTrail::new(alloc))
@@ -32,7 +29,8 @@ fn new_world(alloc: Global, participants: Participants) -> Result<Together, Allo
 
 // A world of these participants, with each line up.
 fn together_of(alloc: Global, file: &str, t: Moment) -> Result<Together> {
-    let mut world = new_world(alloc, participants_of(alloc, file)?)?;
+    let participants = Participants::read(alloc, file.as_bytes())?;
+    let mut world = new_world(alloc, participants)?;
     if let Err(fault) = resume_all(&mut world, t) {
         drop(world);
         return Err(fault);
@@ -42,7 +40,7 @@ fn together_of(alloc: Global, file: &str, t: Moment) -> Result<Together> {
 
 // Their sessions, with each line up, and a venue.
 fn apart_of(alloc: Global, file: &str, t: Moment) -> Result<Apart> {
-    let participants = participants_of(alloc, file)?;
+    let participants = Participants::read(alloc, file.as_bytes())?;
     let sessions = Sessions::open(alloc, &participants, t)?;
     let instruments = fixture_instruments(alloc, DELAY)?;
     let venue = Venue::open(alloc, participants, instruments)?;
@@ -75,13 +73,6 @@ fn stage_of(alloc: Global, file: &str) -> Result<Stage> {
     })
 }
 
-fn counts_of(alloc: Global, played: Played) -> Result<String, AllocError> {
-    format!(in alloc;
-        "frames: {}, replies: {}, bytes written: {}",
-        played.frames, played.replies, played.written
-    )
-}
-
 fn with_times(alloc: Global, counts: &str, times: &[Turn]) -> Result<String, AllocError> {
     let last = &times[times.len().saturating_sub(LAST)..];
     let world = middle_of(alloc, last, WORLD)?;
@@ -93,7 +84,11 @@ fn with_times(alloc: Global, counts: &str, times: &[Turn]) -> Result<String, All
 // Plays these lines, and says what came of it.
 fn play(rt: &HostRuntime, stage: &mut Stage, lines: &str, is_timed: bool) -> Result<String> {
     play_all(rt, stage, lines)?;
-    let counts = counts_of(rt.alloc(), stage.played)?;
+    let played = stage.played;
+    let counts = format!(in rt.alloc();
+        "frames: {}, replies: {}, bytes written: {}",
+        played.frames, played.replies, played.written
+    )?;
     if !is_timed {
         return Ok(counts);
     }

@@ -7,23 +7,32 @@ use anyhow::Result;
 use fix_dictionary::Side;
 use participants::Who;
 use price_book::{PriceBook, Refusal};
-use std::alloc::{AllocError, Global};
+use std::alloc::Global;
 use venue_rules::OrderFact;
 
-/// The n-th of orders of 10 that rest, of two participants.
-pub(crate) fn resting(n: u64, instrument: u32, side: Side) -> OrderFact {
+// The n-th of orders of 10 that rest, of two participants.
+fn resting(n: u64, instrument: u32, side: Side) -> OrderFact {
     let mut order = standing(n, instrument, side);
     order.who = Who::of((n % 2) as u32);
     order.quantity = quantity(9);
     order
 }
 
-// How many of 200 bids and 200 offers are refused.
-fn refused_sides(market: &Market, book: &mut PriceBook) -> u64 {
+// The n-th of orders that rest, 200 on a side of each instrument.
+fn spread(n: u64) -> OrderFact {
+    let side = if n / 200 % 2 == 0 {
+        Side::Buy
+    } else {
+        Side::Sell
+    };
+    resting(n, (n / 400 % 4) as u32, side)
+}
+
+/// Enters so many orders that rest, and tells how many are refused.
+pub(crate) fn enter_all(market: &Market, book: &mut PriceBook, orders: u64) -> u64 {
     let mut refused: u64 = 0;
-    for n in 0..400u64 {
-        let side = if n < 200 { Side::Buy } else { Side::Sell };
-        if enter(market, book, &resting(n, 0, side)).is_err() {
+    for n in 0..orders {
+        if enter(market, book, &spread(n)).is_err() {
             refused = refused.saturating_add(1);
         }
     }
@@ -44,14 +53,7 @@ fn refuses_more(market: &Market, book: &mut PriceBook) -> bool {
     }
 }
 
-// A bid for all the offers.
-fn bid_for_all() -> OrderFact {
-    let mut order = order_of(401, 3, 0, Side::Buy, 600);
-    order.quantity = quantity(1_999);
-    order
-}
-
-// How many orders it fills; none where it is refused.
+// How many orders an order fills; none where it is refused.
 fn fills_of(market: &Market, book: &mut PriceBook, order: &OrderFact) -> usize {
     match book.plan_entry(
         &market.participants,
@@ -85,10 +87,12 @@ struct Filled {
 }
 
 fn fill_sides(market: &Market, book: &mut PriceBook) -> Result<Filled> {
-    let refused = refused_sides(market, book);
+    let refused = enter_all(market, book, 400);
     let is_full = refuses_more(market, book);
     let shown_first = shown(book)?;
-    let fills = fills_of(market, book, &bid_for_all());
+    let mut bid_for_all = order_of(401, 3, 0, Side::Buy, 600);
+    bid_for_all.quantity = quantity(1_999);
+    let fills = fills_of(market, book, &bid_for_all);
     let left = shown(book)?;
     Ok(Filled {
         refused,
@@ -108,16 +112,12 @@ fn fill_book(alloc: Global) -> Result<Filled> {
     filled
 }
 
-fn tell_filled(alloc: Global, filled: &Filled, told: &mut Vec<u8>) -> Result<(), AllocError> {
+/// Fills both sides of an instrument, shows them, and takes one side off by one order.
+pub(crate) fn fill(alloc: Global, told: &mut Vec<u8>) -> Result<()> {
+    let filled = fill_book(alloc)?;
     let text = format!(in alloc;
         "200 orders on each side: {} refused\n  one more is refused as the side is full: {}\n  shown {}\n  filled by one order {}, shown then {}",
         filled.refused, filled.is_full, filled.shown, filled.fills, filled.left
     )?;
-    tell_line(text.as_str(), told)
-}
-
-/// Fills both sides of an instrument, shows them, and takes one side off by one order.
-pub(crate) fn fill(alloc: Global, told: &mut Vec<u8>) -> Result<()> {
-    let filled = fill_book(alloc)?;
-    Ok(tell_filled(alloc, &filled, told)?)
+    Ok(tell_line(text.as_str(), told)?)
 }

@@ -6,18 +6,6 @@ use crate::book::measuring::try_all;
 use crate::book::playing::play;
 use anyhow::{Result, bail};
 
-// Plays a line, and appends what is answered.
-fn answer(rt: &HostRuntime, line: &str, told: &mut Vec<u8>) -> Result<()> {
-    let alloc = rt.alloc();
-    match line.split_once(' ').unwrap_or((line, "")) {
-        ("play", requests) => play(alloc, requests.parse::<u64>()?, told),
-        ("fill", _) => fill(alloc, told),
-        ("find", orders) => find(alloc, orders.parse::<u64>()?, told),
-        ("time", _) => try_all(rt),
-        _ => bail!("no call: {line}"),
-    }
-}
-
 // Appends a line with what is answered, where it does not tell an answer itself.
 fn play_line(rt: &HostRuntime, line: &str, told: &mut Vec<u8>) -> Result<()> {
     if line.starts_with("  ") {
@@ -28,7 +16,14 @@ fn play_line(rt: &HostRuntime, line: &str, told: &mut Vec<u8>) -> Result<()> {
     if line.starts_with('#') {
         return Ok(());
     }
-    answer(rt, line, told)
+    let alloc = rt.alloc();
+    match line.split_once(' ').unwrap_or((line, "")) {
+        ("play", requests) => play(alloc, requests.parse::<u64>()?, told),
+        ("fill", _) => fill(alloc, told),
+        ("find", orders) => find(alloc, orders.parse::<u64>()?, told),
+        ("time", _) => try_all(rt),
+        _ => bail!("no call: {line}"),
+    }
 }
 
 /// Appends the lines of a part, with what both books answer.

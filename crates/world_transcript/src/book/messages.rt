@@ -1,24 +1,16 @@
 //! The requests for quotes, quotes and hits that are timed.
 
 use crate::book::stream::{id_of, price, quantity};
-use anyhow::{Result, anyhow};
-use fix_dictionary::{
-    FixChar, FixInt, Identifier, Parties, Party, Quote, QuoteRequest, QuoteResponse, Side,
-};
+use crate::texts::identifier_in;
+use anyhow::Result;
+use fix_dictionary::{FixChar, FixInt, Parties, Party, Quote, QuoteRequest, QuoteResponse, Side};
 use std::alloc::Global;
 use venue_rules::printed_identifier;
 
-fn named(text: &[u8]) -> Result<Identifier> {
-    match Identifier::read(text) {
-        Some(id) => Ok(id),
-        None => Err(anyhow!("no identifier")),
-    }
-}
-
 // A liquidity provider that is asked.
-fn recipient(name: &[u8]) -> Result<Party> {
+fn recipient(name: &str) -> Result<Party> {
     Ok(Party {
-        id: named(name)?,
+        id: identifier_in(name)?,
         source: FixChar::new(b'D'),
         role: FixInt::new(35),
     })
@@ -27,13 +19,13 @@ fn recipient(name: &[u8]) -> Result<Party> {
 /// The n-th request: for an offer of 50, to three.
 pub(crate) fn request_of(alloc: Global, n: u64) -> Result<QuoteRequest> {
     let parties = vec![in alloc;
-        recipient(b"BETA")?,
-        recipient(b"DELTA")?,
-        recipient(b"EPSILON")?,
+        recipient("BETA")?,
+        recipient("DELTA")?,
+        recipient("EPSILON")?,
     ]?;
     Ok(QuoteRequest {
         request_id: id_of(n),
-        symbol: named(b"IRS5Y")?,
+        symbol: identifier_in("IRS5Y")?,
         side: Some(Side::Buy),
         quantity: quantity(49),
         parties: Parties::from_vec(parties),
@@ -47,7 +39,7 @@ pub(crate) fn quote_of(alloc: Global, n: u64) -> Result<Quote> {
         request_id: printed_identifier(b'R', n),
         quote_type: None,
         parties: Parties::from_vec(Vec::new(alloc)),
-        symbol: named(b"IRS5Y")?,
+        symbol: identifier_in("IRS5Y")?,
         bid_price: Some(price(499)),
         offer_price: Some(price(501)),
         bid_size: Some(quantity(49)),

@@ -2,7 +2,7 @@
 
 use crate::book::facility::Facility;
 use crate::book::messages::{hit_of, quote_of, request_of};
-use crate::times::{Turn, since};
+use crate::times::since;
 use anyhow::{Result, anyhow};
 use participants::Who;
 use std::time::Instant;
@@ -40,7 +40,7 @@ fn time_hit(rt: &HostRuntime, facility: &mut Facility, n: u64) -> Result<u64> {
 }
 
 // The n-th request, the quote in the room of the second before it, and the hit that ends the room of the fourth before it.
-fn play(rt: &HostRuntime, facility: &mut Facility, n: u64) -> Result<Turn> {
+fn play(rt: &HostRuntime, facility: &mut Facility, n: u64) -> Result<[u64; 3]> {
     let request = time_request(rt, facility, n)?;
     let quote = if OPEN / 2 < n {
         time_quote(rt, facility, n - OPEN / 2)?
@@ -52,7 +52,7 @@ fn play(rt: &HostRuntime, facility: &mut Facility, n: u64) -> Result<Turn> {
     } else {
         0
     };
-    Ok([request, quote, hit, 0, 0])
+    Ok([request, quote, hit])
 }
 
 /// The times of a request, a quote and a hit, of so many that are timed after so many rooms came and went.
@@ -61,7 +61,7 @@ pub(crate) fn time_rooms(
     facility: &mut Facility,
     gone: u64,
     timed: u64,
-) -> Result<Vec<Turn>> {
+) -> Result<Vec<[u64; 3]>> {
     let mut turns = Vec::new(rt.alloc());
     let before = gone.saturating_add(OPEN);
     for turn in 0..before.saturating_add(timed) {

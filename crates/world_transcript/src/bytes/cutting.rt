@@ -3,9 +3,10 @@
 ghost use Rattle.std.specs.Prelude.{◌≡◌, IfOk};
 ghost use Rattle.fix_frame.specs.Frame.{IsBody};
 
-use crate::bytes::state::{State, Trouble};
+use crate::bytes::state::State;
 use crate::bytes::telling::tell_last;
-use crate::telling::{tell, tell_count, tell_line};
+use crate::refusals::Trouble;
+use crate::telling::{tell, tell_count, tell_line, tell_once};
 use crate::texts::bytes_in;
 use fix_frame::{Cut, Cutter, FrameFault, frame_bodies, write_frame};
 use std::alloc::{AllocError, Global};
@@ -62,26 +63,6 @@ struct Seen {
     most_held: usize,
 }
 
-// Appends a body, unless the line before tells the same, from `start` on.
-fn tell_once(
-    alloc: Global,
-    body: &[u8],
-    start: usize,
-    told: &mut Vec<u8>,
-) -> Result<(), AllocError> {
-    let last = told.len();
-    tell_last(alloc, "", body, told)?;
-    let answers = told.get(start..).unwrap_or(&[]);
-    let is_same = match answers.split_at_checked(last.saturating_sub(start)) {
-        Some((before, answer)) => before.ends_with(answer),
-        None => false,
-    };
-    if is_same {
-        told.truncate(last);
-    }
-    Ok(())
-}
-
 // Takes all that is whole, and tells the bodies, of the same ones in succession one.
 fn take_all(
     alloc: Global,
@@ -97,7 +78,9 @@ fn take_all(
             Cut::Frame { body } => {
                 seen.frames = seen.frames.saturating_add(1);
                 let body = &cutter.taken()[body.start..body.end];
-                tell_once(alloc, body, start, told)?
+                let last = told.len();
+                tell_last(alloc, "", body, told)?;
+                tell_once(told, start, last)
             }
             Cut::Open => break,
         }

@@ -3,8 +3,9 @@
 use crate::bytes::cutting::pieces_in;
 use crate::bytes::forms::{Form, form_in, got, read, tell_got, tell_text};
 use crate::bytes::groups::{tell_parties, tell_symbols};
-use crate::bytes::state::{State, Trouble};
+use crate::bytes::state::State;
 use crate::bytes::telling::tell_last;
+use crate::refusals::Trouble;
 use crate::telling::{tell, tell_count, tell_line};
 use fix_fields::{
     FieldFault, Fields, append_number, read_identifier, read_integer, read_text, split,
@@ -87,19 +88,6 @@ fn tell_asked(
     }
 }
 
-// Tells what is asked of a text's fields, or why it is no list of them.
-fn tell_of_text(
-    alloc: Global,
-    text: &[u8],
-    asked: Asked,
-    told: &mut Vec<u8>,
-) -> Result<(), AllocError> {
-    match split(alloc, text) {
-        Ok(fields) => tell_asked(alloc, &fields, asked, told),
-        Err(fault) => tell_fault(alloc, fault, told),
-    }
-}
-
 // Reads bodies in turn by one value, and tells each fault, then how many fields stand and the value of a tag.
 fn tell_turns(
     alloc: Global,
@@ -159,7 +147,10 @@ pub fn ask_fields(
 ) -> Result<bool, AllocError> {
     if let Some((asked, text)) = asked_in(word, rest) {
         state.add(text)?;
-        tell_of_text(alloc, &state.text, asked, told)?;
+        match split(alloc, &state.text) {
+            Ok(fields) => tell_asked(alloc, &fields, asked, told)?,
+            Err(fault) => tell_fault(alloc, fault, told)?,
+        }
         return Ok(true);
     }
     match word {

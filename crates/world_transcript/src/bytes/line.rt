@@ -3,10 +3,10 @@
 use crate::bytes::cutting::ask_frames;
 use crate::bytes::fields::{add_numbers, ask_fields};
 use crate::bytes::moments::ask_moments;
-use crate::bytes::state::{State, Trouble};
+use crate::bytes::state::State;
 use crate::bytes::writing::tell_written;
-use crate::lines::{self, Part};
-use crate::refusals::Refusals;
+use crate::lines::Part;
+use crate::refusals::{Refusals, Trouble};
 use anyhow::{Result, bail, ensure};
 use std::alloc::{AllocError, Global};
 use std::mem;
@@ -78,6 +78,10 @@ fn play_once(
 }
 
 impl Part for State {
+    fn begin(alloc: Global) -> Result<State> {
+        Ok(State::new(alloc))
+    }
+
     // Plays a line, once more where a growth was refused, after the text was put back as it was.
     fn play_line(
         &mut self,
@@ -101,15 +105,4 @@ impl Part for State {
         }
         Ok(())
     }
-}
-
-/// Appends the lines of a part, with what is answered.
-pub fn play_lines(
-    alloc: Global,
-    lines: &str,
-    told: &mut Vec<u8>,
-    refusals: &mut Refusals,
-) -> Result<()> {
-    let mut state = State::new(alloc);
-    lines::play_lines(alloc, &mut state, lines, told, refusals)
 }

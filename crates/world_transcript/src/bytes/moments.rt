@@ -6,10 +6,6 @@ use crate::telling::{tell, tell_line};
 use sef_moment::{Moment, later, print_utc, read_utc};
 use std::alloc::{AllocError, Global};
 
-fn number_in(text: &str) -> Option<u64> {
-    text.parse::<u64>().ok()
-}
-
 fn later_in(text: &str) -> Option<Moment> {
     let (a, b) = text.split_once(' ')?;
     Some(later(moment_in(a)?, moment_in(b)?))
@@ -17,7 +13,7 @@ fn later_in(text: &str) -> Option<Moment> {
 
 fn sum_in(text: &str) -> Option<Moment> {
     let (moment, more) = text.split_once(' ')?;
-    Some(moment_in(moment)?.plus(number_in(more)?))
+    Some(moment_in(moment)?.plus(more.parse::<u64>().ok()?))
 }
 
 fn tell_moment(

@@ -4,21 +4,6 @@ use crate::texts::append_with;
 use fix_frame::Cutter;
 use std::alloc::{AllocError, Global};
 
-/// Why a call came to no answer.
-#[derive(Clone, Copy, Drop)]
-pub enum Trouble {
-    /// A growth was refused, and the call changed nothing but the text and what is told.
-    NoMemory,
-    /// A growth was refused, and what should have stayed did not.
-    Changed,
-}
-
-impl From<AllocError> for Trouble {
-    fn from(_error: AllocError) -> Trouble {
-        Trouble::NoMemory
-    }
-}
-
 /// The text for the next call, and the stream that is cut into frames.
 #[derive(Drop)]
 pub struct State {

@@ -1,7 +1,8 @@
 //! Bodies as the dictionary reads and prints them.
 
-use crate::refusals::Refusals;
-use anyhow::{Result, ensure};
+use crate::refusals::Trouble;
+use crate::telling::{end_line, tell_line};
+use crate::texts::bytes_in;
 use fix_dictionary::{App, Message};
 use fix_fields::{FieldFault, Fields, split};
 use fix_printing::{print_app, print_message};
@@ -9,23 +10,16 @@ use fix_reading::{read_app, read_message};
 use fix_tables::DictFault;
 use std::alloc::{AllocError, Global};
 
-/// How a body is read.
-#[derive(Clone, Copy)]
-pub enum Form {
-    /// A message with its header.
-    Message,
-    /// An application message without a header, of which a copy is printed.
-    App,
-}
+/// What stands before a printed body.
+const BEFORE: &[u8] = b"  ";
 
-/// What the dictionary answers to a body.
-#[derive(Drop)]
-pub enum Answer {
-    /// What it is printed as, set in.
-    Printed(Vec<u8>),
-    Fault(DictFault),
-    /// It is no list of fields.
-    NoFields,
+// How a body is read.
+#[derive(Clone, Copy)]
+enum Form {
+    // A message with its header.
+    Message,
+    // An application message without a header, of which a copy is printed.
+    App,
 }
 
 // What a body is read as.
@@ -35,40 +29,11 @@ enum Reading {
     App(App),
 }
 
-fn split_again<'a>(
-    alloc: Global,
-    body: &'a [u8],
-    refusals: &mut Refusals,
-) -> Result<Result<Fields<'a>, FieldFault>> {
-    match split(alloc, body) {
-        Err(FieldFault::NoMemory) => {
-            refusals.one_more()?;
-            Ok(split(alloc, body))
-        }
-        first => Ok(first),
-    }
-}
-
 fn read(alloc: Global, form: Form, fields: &Fields) -> Result<Reading, DictFault> {
     Ok(match form {
         Form::Message => Reading::Message(read_message(alloc, fields)?),
         Form::App => Reading::App(read_app(alloc, fields)?),
     })
-}
-
-fn read_again(
-    alloc: Global,
-    form: Form,
-    fields: &Fields,
-    refusals: &mut Refusals,
-) -> Result<Result<Reading, DictFault>> {
-    match read(alloc, form, fields) {
-        Err(DictFault::NoMemory) => {
-            refusals.one_more()?;
-            Ok(read(alloc, form, fields))
-        }
-        first => Ok(first),
-    }
 }
 
 fn print_copy(alloc: Global, app: &App, text: &mut Vec<u8>) -> Result<(), AllocError> {
@@ -85,52 +50,59 @@ fn print(alloc: Global, reading: &Reading, text: &mut Vec<u8>) -> Result<(), All
     }
 }
 
-// What is printed behind two spaces. A print to which a growth is refused appends nothing, and is made once more.
-fn printed(alloc: Global, reading: &Reading, refusals: &mut Refusals) -> Result<Answer> {
-    let mut text = match Vec::from_slice(alloc, b"  ") {
-        Ok(text) => text,
-        Err(AllocError) => {
-            refusals.one_more()?;
-            Vec::from_slice(alloc, b"  ")?
-        }
-    };
+// Appends what is printed. A print to which a growth is refused appends nothing to its vector.
+fn tell_printed(alloc: Global, reading: &Reading, told: &mut Vec<u8>) -> Result<(), Trouble> {
+    let mut text = Vec::from_slice(alloc, BEFORE)?;
     if print(alloc, reading, &mut text).is_err() {
-        refusals.one_more()?;
-        ensure!(
-            text.as_slice() == b"  ".as_slice(),
-            "a refused print changed its vector"
-        );
-        print(alloc, reading, &mut text)?;
+        return Err(if text.as_slice() == BEFORE {
+            Trouble::NoMemory
+        } else {
+            Trouble::Changed
+        });
     }
-    Ok(Answer::Printed(text))
+    Ok(end_line(&text, told)?)
 }
 
-fn answer_to_fields(
+fn tell_fault(alloc: Global, fault: DictFault, told: &mut Vec<u8>) -> Result<(), AllocError> {
+    let (kind, tag) = match fault {
+        DictFault::Twice(tag) => ("twice", tag),
+        DictFault::Count(tag) => ("count", tag),
+        DictFault::Missing(tag) => ("missing", tag),
+        DictFault::Format(tag) => ("format", tag),
+        DictFault::Range(tag) => ("range", tag),
+        DictFault::NoMemory => return Err(AllocError),
+    };
+    tell_line(format!(in alloc; "{kind} {tag}")?.as_str(), told)
+}
+
+fn tell_fields(
     alloc: Global,
     form: Form,
     fields: &Fields,
-    refusals: &mut Refusals,
-) -> Result<Answer> {
-    match read_again(alloc, form, fields, refusals)? {
+    told: &mut Vec<u8>,
+) -> Result<(), Trouble> {
+    match read(alloc, form, fields) {
         Ok(reading) => {
-            let answer = printed(alloc, &reading, refusals);
+            let is_told = tell_printed(alloc, &reading, told);
             drop(reading);
-            answer
+            is_told
         }
-        Err(fault) => Ok(Answer::Fault(fault)),
+        Err(fault) => Ok(tell_fault(alloc, fault, told)?),
     }
 }
 
-/// What the dictionary answers to a body. A call to which a growth is refused is made once more.
-pub fn answer_to(
-    alloc: Global,
-    form: Form,
-    body: &[u8],
-    refusals: &mut Refusals,
-) -> Result<Answer> {
-    match split_again(alloc, body, refusals)? {
-        Ok(fields) => answer_to_fields(alloc, form, &fields, refusals),
-        Err(FieldFault::NoMemory) => Err(AllocError.into()),
-        Err(_) => Ok(Answer::NoFields),
+/// Appends what the dictionary answers to the body of a line; false where it has none.
+pub fn answer(alloc: Global, line: &str, told: &mut Vec<u8>) -> Result<bool, Trouble> {
+    let (form, text) = match line.split_once(' ') {
+        Some(("message", text)) => (Form::Message, text),
+        Some(("app", text)) => (Form::App, text),
+        _ => return Ok(false),
+    };
+    let body = bytes_in(alloc, text)?;
+    match split(alloc, &body) {
+        Ok(fields) => tell_fields(alloc, form, &fields, told)?,
+        Err(FieldFault::NoMemory) => return Err(Trouble::NoMemory),
+        Err(_) => tell_line("no fields", told)?,
     }
+    Ok(true)
 }

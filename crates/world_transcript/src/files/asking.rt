@@ -1,7 +1,7 @@
 //! What is asked of the files that were read.
 
-use crate::files::telling::{tell_instruments, tell_participants, tell_place, tell_whether};
-use crate::telling::tell;
+use crate::files::telling::{tell_instruments, tell_participants, tell_place};
+use crate::telling::{tell, tell_whether};
 use instruments::{DelayFault, Instruments};
 use participants::{Participants, Who};
 use std::alloc::{AllocError, Global};
@@ -33,32 +33,22 @@ fn all_in(alloc: Global, text: &str) -> Result<Option<Vec<Who>>, AllocError> {
     Ok(Some(all))
 }
 
-fn tell_related(
+// Whether two participants are related, or three of the recipients unrelated to the requester, who comes first.
+fn tell_of_places(
     alloc: Global,
     file: &Participants,
+    word: &str,
     text: &str,
     told: &mut Vec<u8>,
 ) -> Result<bool, AllocError> {
-    match all_in(alloc, text)?.as_deref() {
-        Some([a, b]) => tell_whether(file.related(*a, *b), told)?,
-        _ => return Ok(false),
-    }
-    Ok(true)
-}
-
-// The requester comes first, then the recipients.
-fn tell_three_unrelated(
-    alloc: Global,
-    file: &Participants,
-    text: &str,
-    told: &mut Vec<u8>,
-) -> Result<bool, AllocError> {
-    match all_in(alloc, text)?.as_deref() {
-        Some([requester, recipients @ ..]) => {
-            tell_whether(file.three_unrelated(*requester, recipients), told)?
+    let answer = match (word, all_in(alloc, text)?.as_deref()) {
+        ("related", Some([a, b])) => file.related(*a, *b),
+        ("unrelated", Some([requester, recipients @ ..])) => {
+            file.three_unrelated(*requester, recipients)
         }
         _ => return Ok(false),
-    }
+    };
+    tell_whether(answer, told)?;
     Ok(true)
 }
 
@@ -76,8 +66,7 @@ pub fn ask_participants(
             let found = file.find(rest.as_bytes()).map(|who| who.place());
             tell_place(alloc, found, told)?
         }
-        "related" => return tell_related(alloc, file, rest, told),
-        "unrelated" => return tell_three_unrelated(alloc, file, rest, told),
+        "related" | "unrelated" => return tell_of_places(alloc, file, word, rest, told),
         _ => return Ok(false),
     }
     Ok(true)

@@ -2,7 +2,7 @@
 
 use crate::files::asking::{ask_instruments, ask_participants};
 use crate::files::texts::Files;
-use crate::lines::{self, Part};
+use crate::lines::Part;
 use crate::refusals::Refusals;
 use crate::telling::{tell, tell_count};
 use anyhow::{Result, ensure};
@@ -48,21 +48,25 @@ fn read_instruments(
     Ok(())
 }
 
-// Appends so many participants to the text, from P000 on.
-fn add_participants(alloc: Global, count: u32, text: &mut Vec<u8>) -> Result<(), AllocError> {
-    for k in 0..count {
-        let entry = format!(in alloc; "[[participant]]\nname = \"P{k:03}\"\n")?;
-        text.extend_from_slice(entry.as_bytes())?;
-    }
-    Ok(())
-}
+// What stands in an entry of a participant before and behind the number of its name.
+const PARTICIPANT: [&str; 2] = ["[[participant]]\nname = \"P", "\"\n"];
 
-// Appends so many instruments to the text, from I000 on.
-fn add_instruments(alloc: Global, count: u32, text: &mut Vec<u8>) -> Result<(), AllocError> {
+// And in one of an instrument.
+const INSTRUMENT: [&str; 2] = [
+    "[[instrument]]\nsymbol = \"I",
+    "\"\ntick = 1\nleast = 1\nrfq_life = 1\n",
+];
+
+// Appends so many entries to the text, numbered from 000 on.
+fn add_entries(
+    alloc: Global,
+    entry: [&str; 2],
+    count: u32,
+    text: &mut Vec<u8>,
+) -> Result<(), AllocError> {
+    let [before, behind] = entry;
     for k in 0..count {
-        let entry = format!(in alloc;
-            "[[instrument]]\nsymbol = \"I{k:03}\"\ntick = 1\nleast = 1\nrfq_life = 1\n"
-        )?;
+        let entry = format!(in alloc; "{before}{k:03}{behind}")?;
         text.extend_from_slice(entry.as_bytes())?;
     }
     Ok(())
@@ -88,28 +92,13 @@ fn write_text(
         "keep" => files.keep(alloc, rest)?,
         "add" => files.add(rest)?,
         "more_participants" => match rest.parse::<u32>() {
-            Ok(count) => add_participants(alloc, count, &mut files.text)?,
+            Ok(count) => add_entries(alloc, PARTICIPANT, count, &mut files.text)?,
             Err(_) => return Ok(false),
         },
         "more_instruments" => match rest.parse::<u32>() {
-            Ok(count) => add_instruments(alloc, count, &mut files.text)?,
+            Ok(count) => add_entries(alloc, INSTRUMENT, count, &mut files.text)?,
             Err(_) => return Ok(false),
         },
-        _ => return Ok(false),
-    }
-    Ok(true)
-}
-
-// What is read from the text, if the line asks for it.
-fn read_text(
-    alloc: Global,
-    files: &mut Files,
-    line: &str,
-    told: &mut Vec<u8>,
-) -> Result<bool, AllocError> {
-    match line {
-        "read participants" => read_participants(alloc, files, told)?,
-        "read instruments" => read_instruments(alloc, files, told)?,
         _ => return Ok(false),
     }
     Ok(true)
@@ -146,8 +135,16 @@ fn play_once(
     if line.is_empty() || line.starts_with('#') {
         return Ok(true);
     }
-    if read_text(alloc, files, line, told)? {
-        return Ok(true);
+    match line {
+        "read participants" => {
+            read_participants(alloc, files, told)?;
+            return Ok(true);
+        }
+        "read instruments" => {
+            read_instruments(alloc, files, told)?;
+            return Ok(true);
+        }
+        _ => {}
     }
     let (word, rest) = line.split_once(' ').unwrap_or((line, ""));
     if write_text(alloc, files, word, rest)? {
@@ -157,6 +154,15 @@ fn play_once(
 }
 
 impl Part for Files {
+    fn begin(alloc: Global) -> Result<Files> {
+        Ok(Files {
+            text: Vec::new(alloc),
+            kept: Vec::new(alloc),
+            participants: None,
+            instruments: None,
+        })
+    }
+
     // Plays a line, once more where a growth was refused. A refused call changes nothing but the text that it was to write,
     // which is put back.
     fn play_line(
@@ -179,17 +185,4 @@ impl Part for Files {
         ensure!(known, "no call: {line}");
         Ok(())
     }
-}
-
-/// Appends the lines of a part, with what is answered.
-pub fn play_lines(
-    alloc: Global,
-    lines: &str,
-    told: &mut Vec<u8>,
-    refusals: &mut Refusals,
-) -> Result<()> {
-    let mut files = Files::new(alloc);
-    let played = lines::play_lines(alloc, &mut files, lines, told, refusals);
-    drop(files);
-    played
 }

@@ -5,11 +5,6 @@ use instruments::{Instrument, Instruments};
 use participants::{Participants, Who};
 use std::alloc::{AllocError, Global};
 
-/// Appends yes or no.
-pub fn tell_whether(answer: bool, told: &mut Vec<u8>) -> Result<(), AllocError> {
-    tell_line(if answer { "yes" } else { "no" }, told)
-}
-
 /// Appends a place, or none.
 pub fn tell_place(alloc: Global, place: Option<u32>, told: &mut Vec<u8>) -> Result<(), AllocError> {
     match place {

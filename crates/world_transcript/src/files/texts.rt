@@ -6,7 +6,7 @@ use std::alloc::{AllocError, Global};
 
 /// A text that was kept under a name.
 #[derive(Drop)]
-struct Kept {
+pub struct Kept {
     name: Vec<u8>,
     text: Vec<u8>,
 }
@@ -15,21 +15,12 @@ struct Kept {
 #[derive(Drop)]
 pub struct Files {
     pub text: Vec<u8>,
-    kept: Vec<Kept>,
+    pub kept: Vec<Kept>,
     pub participants: Option<Participants>,
     pub instruments: Option<Instruments>,
 }
 
 impl Files {
-    pub fn new(alloc: Global) -> Files {
-        Files {
-            text: Vec::new(alloc),
-            kept: Vec::new(alloc),
-            participants: None,
-            instruments: None,
-        }
-    }
-
     /// Keeps the text under a name, and begins a new one.
     pub fn keep(&mut self, alloc: Global, name: &str) -> Result<(), AllocError> {
         let name = Vec::from_slice(alloc, name.as_bytes())?;

@@ -1,8 +1,8 @@
 //! A session that is fed by a reader.
 
 use crate::moments::start;
+use crate::session::playing::new_session;
 use anyhow::{Result, bail};
-use fix_dictionary::Identifier;
 use fix_session::{Session, Step};
 use sef_moment::Moment;
 use std::alloc::{AllocError, Global};
@@ -28,13 +28,6 @@ impl Taken {
             self.frames, self.orders, self.written
         )
     }
-}
-
-/// SEF's session with ALPHA.
-fn new_session(alloc: Global) -> Result<Session, AllocError> {
-    let own = Identifier::from_slice(b"SEF");
-    let peer = Identifier::from_slice(b"ALPHA");
-    Session::new(alloc, &own, &peer)
 }
 
 /// Does what the next frame asks, and drops an order that it made ready. No frame is left where the answer is false.
@@ -87,7 +80,7 @@ fn hear_all<R: Read>(session: &mut Session, reader: &mut R, t: Moment) -> Result
 /// What a session with a line that is up takes of all that a reader gives.
 pub fn feed<R: Read>(alloc: Global, reader: &mut R) -> Result<Taken> {
     let t = start();
-    let mut session = new_session(alloc)?;
+    let mut session = new_session(alloc, "SEF", "ALPHA")?;
     session.resume(t);
     let taken = hear_all(&mut session, reader, t);
     drop(session);

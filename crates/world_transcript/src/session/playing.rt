@@ -1,12 +1,12 @@
 //! Calls that are made of a session.
 
+use crate::moments::moment_after;
 use crate::refusals::Refusals;
-use crate::session::call::Call;
-use crate::session::feeding::Taken;
+use crate::session::feeding::{Taken, feed};
+use crate::texts::{app_in, bytes_in, identifier_in};
 use anyhow::{Result, bail, ensure};
-use fix_dictionary::{App, Identifier, Item};
+use fix_dictionary::Item;
 use fix_session::{SendFault, Session, Step};
-use sef_moment::Moment;
 use std::alloc::{AllocError, Global};
 
 /// What a session shows to its readers.
@@ -40,55 +40,95 @@ fn look_at(session: &Session) -> Look {
     }
 }
 
-fn send(session: &mut Session, app: &App, t: Moment) -> Result<Answer, AllocError> {
-    match session.send(app, t) {
-        Ok(()) => Ok(Answer::Nothing),
-        Err(SendFault::Full) => Ok(Answer::Full),
+// Sends the message that is told behind its moment.
+fn send(alloc: Global, session: &mut Session, text: &str) -> Result<Option<Answer>, AllocError> {
+    let Some((after, message)) = text.split_once(' ') else {
+        return Ok(None);
+    };
+    let Some(t) = moment_after(after) else {
+        return Ok(None);
+    };
+    let Some(app) = app_in(alloc, message)? else {
+        return Ok(None);
+    };
+    let sent = session.send(&app, t);
+    drop(app);
+    match sent {
+        Ok(()) => Ok(Some(Answer::Nothing)),
+        Err(SendFault::Full) => Ok(Some(Answer::Full)),
         Err(SendFault::NoMemory) => Err(AllocError),
     }
 }
 
+// The first ready item is taken out and put back.
 fn unpop(session: &mut Session) {
     if let Some(item) = session.pop_ready() {
         session.unpop_ready(item);
     }
 }
 
-fn call_once(session: &mut Session, call: &Call) -> Result<Answer, AllocError> {
-    match call {
-        Call::Resume(t) => session.resume(*t),
-        Call::Push(bytes) => session.push_bytes(bytes)?,
-        Call::Step(t) => return Ok(Answer::Step(session.step(*t)?)),
-        Call::Tick(t) => return Ok(Answer::Step(session.tick(*t)?)),
-        Call::Send(app, t) => return send(session, app, *t),
-        Call::TakeWire => return Ok(Answer::Wire(session.take_wire())),
-        Call::Pop => return Ok(Answer::Popped(session.pop_ready())),
-        Call::Unpop => unpop(session),
-        Call::Break => session.break_line(),
-        Call::Look => return Ok(Answer::Look(look_at(session))),
+// What a new session takes of a text.
+fn fed(alloc: Global, text: &str) -> Result<Answer, AllocError> {
+    let bytes = bytes_in(alloc, text)?;
+    match feed(alloc, &mut bytes.as_slice()) {
+        Ok(taken) => Ok(Answer::Taken(taken)),
+        Err(_) => Err(AllocError),
     }
-    Ok(Answer::Nothing)
 }
 
-/// What a call gives. A call to which a growth is refused changes nothing that is seen, and is made once more.
-pub fn play(session: &mut Session, call: &Call, refusals: &mut Refusals) -> Result<Answer> {
+// What a call at a moment gives, if it is one.
+fn ask_at(session: &mut Session, word: &str, after: &str) -> Result<Option<Answer>, AllocError> {
+    let Some(t) = moment_after(after) else {
+        return Ok(None);
+    };
+    match word {
+        "resume" => session.resume(t),
+        "step" => return Ok(Some(Answer::Step(session.step(t)?))),
+        "tick" => return Ok(Some(Answer::Step(session.tick(t)?))),
+        _ => return Ok(None),
+    }
+    Ok(Some(Answer::Nothing))
+}
+
+// What the call of a line gives, if it is one.
+fn ask(alloc: Global, session: &mut Session, line: &str) -> Result<Option<Answer>, AllocError> {
+    let (word, rest) = line.split_once(' ').unwrap_or((line, ""));
+    match word {
+        "push" => session.push_bytes(&bytes_in(alloc, rest)?)?,
+        "send" => return send(alloc, session, rest),
+        "feed" => return Ok(Some(fed(alloc, rest)?)),
+        "take" => return Ok(Some(Answer::Wire(session.take_wire()))),
+        "pop" => return Ok(Some(Answer::Popped(session.pop_ready()))),
+        "unpop" => unpop(session),
+        "break" => session.break_line(),
+        "look" => return Ok(Some(Answer::Look(look_at(session)))),
+        _ => return ask_at(session, word, rest),
+    }
+    Ok(Some(Answer::Nothing))
+}
+
+/// What the call of a line gives. A call to which a growth is refused changes nothing that is seen, and is made once more.
+pub fn answer_to(
+    alloc: Global,
+    session: &mut Session,
+    line: &str,
+    refusals: &mut Refusals,
+) -> Result<Answer> {
     let before = look_at(session);
-    if let Ok(answer) = call_once(session, call) {
-        return Ok(answer);
-    }
-    refusals.one_more()?;
-    ensure!(
-        look_at(session) == before,
-        "a refused call changed the session"
-    );
-    Ok(call_once(session, call)?)
-}
-
-// The identifier with this text. It is an error where it is empty, too long, or has a byte that is not printed.
-fn identifier_in(text: &str) -> Result<Identifier> {
-    match Identifier::read(text.as_bytes()) {
-        Some(identifier) => Ok(identifier),
-        None => bail!("no name: {text}"),
+    let answer = match ask(alloc, session, line) {
+        Ok(answer) => answer,
+        Err(AllocError) => {
+            refusals.one_more()?;
+            ensure!(
+                look_at(session) == before,
+                "a refused call changed the session"
+            );
+            ask(alloc, session, line)?
+        }
+    };
+    match answer {
+        Some(answer) => Ok(answer),
+        None => bail!("no call: {line}"),
     }
 }
 

@@ -1,8 +1,7 @@
 //! Answers as lines of a transcript.
 
-use crate::session::feeding::Taken;
 use crate::session::playing::{Answer, Look};
-use crate::telling::{tell_bytes, tell_line, tell_step};
+use crate::telling::{Answered, tell_bytes, tell_line, tell_step};
 use fix_dictionary::Item;
 use fix_printing::print_app;
 use std::alloc::{AllocError, Global};
@@ -15,10 +14,6 @@ fn tell_look(alloc: Global, look: Look, told: &mut Vec<u8>) -> Result<(), AllocE
         None => format!(in alloc; "{line}, {ready} ready")?,
     };
     tell_line(text.as_str(), told)
-}
-
-fn tell_taken(alloc: Global, taken: Taken, told: &mut Vec<u8>) -> Result<(), AllocError> {
-    tell_line(taken.text(alloc)?.as_str(), told)
 }
 
 fn tell_item(alloc: Global, item: &Item, told: &mut Vec<u8>) -> Result<(), AllocError> {
@@ -34,17 +29,18 @@ fn tell_item(alloc: Global, item: &Item, told: &mut Vec<u8>) -> Result<(), Alloc
     tell_bytes(&text, told)
 }
 
-/// Appends the line that tells an answer, if there is one to tell.
-pub fn tell(alloc: Global, answer: &Answer, told: &mut Vec<u8>) -> Result<(), AllocError> {
-    match answer {
-        Answer::Nothing => Ok(()),
-        Answer::Step(step) => tell_step(alloc, *step, told),
-        Answer::Wire(wire) if wire.is_empty() => tell_line("nothing", told),
-        Answer::Wire(wire) => tell_bytes(wire, told),
-        Answer::Popped(None) => tell_line("none", told),
-        Answer::Popped(Some(item)) => tell_item(alloc, item, told),
-        Answer::Look(look) => tell_look(alloc, *look, told),
-        Answer::Taken(taken) => tell_taken(alloc, *taken, told),
-        Answer::Full => tell_line("full", told),
+impl Answered for Answer {
+    fn tell(&self, alloc: Global, told: &mut Vec<u8>) -> Result<(), AllocError> {
+        match self {
+            Answer::Nothing => Ok(()),
+            Answer::Step(step) => tell_step(alloc, *step, told),
+            Answer::Wire(wire) if wire.is_empty() => tell_line("nothing", told),
+            Answer::Wire(wire) => tell_bytes(wire, told),
+            Answer::Popped(None) => tell_line("none", told),
+            Answer::Popped(Some(item)) => tell_item(alloc, item, told),
+            Answer::Look(look) => tell_look(alloc, *look, told),
+            Answer::Taken(taken) => tell_line(taken.text(alloc)?.as_str(), told),
+            Answer::Full => tell_line("full", told),
+        }
     }
 }

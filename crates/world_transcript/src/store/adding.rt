@@ -3,18 +3,14 @@
 use crate::moments::moment_in;
 use crate::texts::app_in;
 use resend_store::{Store, StoreFault};
-use sef_moment::Moment;
 use std::alloc::Global;
-
-// The moment that a text begins with, in milliseconds, and the text behind it.
-fn sent_in(text: &str) -> Option<(Moment, &str)> {
-    let (moment, rest) = text.split_once(' ')?;
-    Some((moment_in(moment)?, rest))
-}
 
 // Adds the message that is told behind its first moment; false where none is told.
 fn add_message(alloc: Global, store: &mut Store, text: &str) -> Result<bool, StoreFault> {
-    let Some((first_sent, message)) = sent_in(text) else {
+    let Some((moment, message)) = text.split_once(' ') else {
+        return Ok(false);
+    };
+    let Some(first_sent) = moment_in(moment) else {
         return Ok(false);
     };
     let Some(app) = app_in(alloc, message)? else {
@@ -27,14 +23,6 @@ fn add_message(alloc: Global, store: &mut Store, text: &str) -> Result<bool, Sto
     Ok(true)
 }
 
-fn reserve(store: &mut Store, count: &str) -> Result<bool, StoreFault> {
-    let Ok(count) = count.parse::<usize>() else {
-        return Ok(false);
-    };
-    store.reserve(count)?;
-    Ok(true)
-}
-
 /// Makes a call that adds, if it is one.
 pub fn add(alloc: Global, store: &mut Store, word: &str, rest: &str) -> Result<bool, StoreFault> {
     match word {
@@ -44,7 +32,10 @@ pub fn add(alloc: Global, store: &mut Store, word: &str, rest: &str) -> Result<b
         }
         "era" => store.begin_era()?,
         "message" => return add_message(alloc, store, rest),
-        "reserve" => return reserve(store, rest),
+        "reserve" => match rest.parse::<usize>() {
+            Ok(count) => store.reserve(count)?,
+            Err(_) => return Ok(false),
+        },
         _ => return Ok(false),
     }
     Ok(true)

@@ -1,6 +1,6 @@
 //! The lines of a transcript.
 
-use crate::lines::{self, Part};
+use crate::lines::Part;
 use crate::refusals::Refusals;
 use crate::store::adding::add;
 use crate::store::looking::look;
@@ -58,6 +58,10 @@ fn ask_again(
 }
 
 impl Part for Store {
+    fn begin(alloc: Global) -> Result<Store> {
+        Ok(Store::new(alloc))
+    }
+
     // Plays a line, and appends it with what is answered.
     fn play_line(
         &mut self,
@@ -80,17 +84,4 @@ impl Part for Store {
         }
         Ok(())
     }
-}
-
-/// Appends the lines of a part, with what is answered.
-pub fn play_lines(
-    alloc: Global,
-    lines: &str,
-    told: &mut Vec<u8>,
-    refusals: &mut Refusals,
-) -> Result<()> {
-    let mut store = Store::new(alloc);
-    let played = lines::play_lines(alloc, &mut store, lines, told, refusals);
-    drop(store);
-    played
 }

@@ -1,11 +1,12 @@
 //! The lines of a transcript.
 
-use crate::lines::{Part, play_lines};
+use crate::lines::Part;
+use crate::moments::moment_after;
 use crate::refusals::Refusals;
-use crate::telling::tell_line;
+use crate::telling::{tell_line, tell_whether};
 use crate::texts::write_again;
 use crate::venue::market::Market;
-use crate::venue::message::{Sent, moment_in};
+use crate::venue::message::Sent;
 use crate::venue::reading::{tell_room, tell_trades};
 use crate::venue::stage::Stage;
 use anyhow::Result;
@@ -29,16 +30,16 @@ impl From<AllocError> for Trouble {
     }
 }
 
-// The market that is told, and the venue that is played.
+/// The market that is told, and the venue that is played.
 #[derive(Drop)]
-struct Play {
+pub struct Play {
     market: Market,
     stage: Stage,
 }
 
 impl Play {
     // A market without participants and instruments, in the place of the one that is told.
-    fn begin(&mut self, alloc: Global) -> Result<(), Trouble> {
+    fn new_market(&mut self, alloc: Global) -> Result<(), Trouble> {
         let market = Market::new(alloc)?;
         drop(mem::replace(&mut self.market, market));
         Ok(())
@@ -68,7 +69,7 @@ fn take(
     text: &str,
     told: &mut Vec<u8>,
 ) -> Result<(), Trouble> {
-    let moment = moment_in(after)?;
+    let moment = moment_after(after).ok_or(Trouble::NoCall)?;
     if text == "tick" {
         return play.stage.tick(alloc, moment, told);
     }
@@ -107,7 +108,7 @@ fn take_many(
     let Ok(count) = count.parse::<u32>() else {
         return Err(Trouble::NoCall);
     };
-    let moment = moment_in(after)?;
+    let moment = moment_after(after).ok_or(Trouble::NoCall)?;
     let sent = sent_in(text)?;
     let before = told.len();
     for place in 0..count {
@@ -119,8 +120,11 @@ fn take_many(
 
 // Whether a held side is due.
 fn tell_due(play: &Play, after: &str, told: &mut Vec<u8>) -> Result<(), Trouble> {
-    let due = play.stage.venue().due(moment_in(after)?);
-    tell_line(if due { "yes" } else { "no" }, told)?;
+    let due = play
+        .stage
+        .venue()
+        .due(moment_after(after).ok_or(Trouble::NoCall)?);
+    tell_whether(due, told)?;
     Ok(())
 }
 
@@ -148,7 +152,7 @@ fn call(
 ) -> Result<(), Trouble> {
     let (word, rest) = line.split_once(' ').unwrap_or((line, ""));
     match word {
-        "market" => play.begin(alloc),
+        "market" => play.new_market(alloc),
         "participants" => play.market.add_participants(alloc, rest),
         "related" => play.market.add_related(alloc, rest),
         "instrument" => play.market.add_instrument(alloc, rest),
@@ -189,6 +193,14 @@ fn tell_trouble(trouble: Trouble, told: &mut Vec<u8>) -> Result<(), AllocError> 
 }
 
 impl Part for Play {
+    // The fixture's venue.
+    fn begin(alloc: Global) -> Result<Play> {
+        Ok(Play {
+            market: Market::new(alloc)?,
+            stage: Stage::new(alloc)?,
+        })
+    }
+
     // Plays a line, and appends it with what is answered.
     fn play_line(
         &mut self,
@@ -206,36 +218,4 @@ impl Part for Play {
             Err(trouble) => Ok(tell_trouble(trouble, told)?),
         }
     }
-}
-
-// The fixture's venue.
-fn open(alloc: Global) -> Result<Play, AllocError> {
-    Ok(Play {
-        market: Market::new(alloc)?,
-        stage: Stage::new(alloc)?,
-    })
-}
-
-// The same, opened once more where a growth was refused.
-fn begin(alloc: Global, refusals: &mut Refusals) -> Result<Play> {
-    match open(alloc) {
-        Ok(play) => Ok(play),
-        Err(_) => {
-            refusals.one_more()?;
-            Ok(open(alloc)?)
-        }
-    }
-}
-
-/// Appends the lines of a part, with what the venue answers.
-pub fn play_part(
-    alloc: Global,
-    lines: &str,
-    told: &mut Vec<u8>,
-    refusals: &mut Refusals,
-) -> Result<()> {
-    let mut play = begin(alloc, refusals)?;
-    let played = play_lines(alloc, &mut play, lines, told, refusals);
-    drop(play);
-    played
 }

@@ -1,10 +1,9 @@
 //! Messages as the lines of a transcript have them.
 
-use crate::moments::moment_after;
 use crate::texts::app_of;
 use crate::venue::line::Trouble;
 use fix_dictionary::{BoxedApp, Item, SequenceNumber};
-use participants::{Participants, Who};
+use participants::Participants;
 use sef_moment::Moment;
 use std::alloc::{AllocError, Global};
 use venue_rules::Taken;
@@ -17,11 +16,6 @@ const LAST_NUMBER: u32 = 999_999_999;
 pub struct Sent<'a> {
     pub from: &'a str,
     pub text: &'a str,
-}
-
-/// The moment so many milliseconds after the start.
-pub fn moment_in(text: &str) -> Result<Moment, Trouble> {
-    moment_after(text).ok_or(Trouble::NoCall)
 }
 
 // A byte of a text as a body has it: `|` is SOH, and `*` a number.
@@ -44,10 +38,6 @@ fn body_in(alloc: Global, text: &str, number: u32) -> Result<Vec<u8>, AllocError
     Ok(body)
 }
 
-fn participant(participants: &Participants, name: &str) -> Result<Who, Trouble> {
-    participants.find(name.as_bytes()).ok_or(Trouble::NoCall)
-}
-
 /// The message that a line sends under a number, with its place among the line's messages for each `*`.
 pub fn taken(
     alloc: Global,
@@ -59,7 +49,9 @@ pub fn taken(
     if number == 0 || number > LAST_NUMBER {
         return Err(Trouble::NoCall);
     }
-    let from = participant(participants, sent.from)?;
+    let from = participants
+        .find(sent.from.as_bytes())
+        .ok_or(Trouble::NoCall)?;
     let body = body_in(alloc, sent.text, place)?;
     let app = app_of(alloc, &body)?.ok_or(Trouble::NoCall)?;
     Ok(Taken {

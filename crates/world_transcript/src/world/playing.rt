@@ -1,14 +1,17 @@
 //! Calls that are made of a world.
 
 use crate::fixture::fixture;
+use crate::moments::moment_after;
 use crate::refusals::Refusals;
-use crate::world::call::Call;
+use crate::texts::{bytes_in, word_in};
 use crate::world::filling::fill;
 use crate::world::keeper::FaultyTrail;
-use anyhow::{Result, ensure};
+use crate::world::reading::{frame_of, who_in};
+use anyhow::{Result, bail, ensure};
 use fix_session::Step;
 use sef_moment::Moment;
 use std::alloc::{AllocError, Global};
+use std::mem;
 use venue_rules::{EventFault, Who};
 use venue_world::{Event, Piece, World};
 
@@ -39,24 +42,39 @@ pub fn new_world(alloc: Global, refuses: Option<u64>) -> Result<Played, AllocErr
     )
 }
 
-/// One event. One that names nobody that there is, is not given.
-pub fn give(world: &mut Played, event: Event<'_>) -> Answer {
-    if !world.names(&event) {
-        return Answer::Unknown;
-    }
-    match world.event(event) {
-        Ok(()) => Answer::Nothing,
-        Err(fault) => Answer::Fault(fault),
+// A new world in the place of this one.
+fn renew(alloc: Global, world: &mut Played, refuses: Option<u64>) -> Result<Answer, AllocError> {
+    let begun = new_world(alloc, refuses)?;
+    drop(mem::replace(world, begun));
+    Ok(Answer::Nothing)
+}
+
+// What came of an event or a call.
+fn answer_of(fault: EventFault) -> Result<Answer, AllocError> {
+    match fault {
+        EventFault::NoMemory => Err(AllocError),
+        fault => Ok(Answer::Fault(fault)),
     }
 }
 
-fn step(world: &mut Played, who: Who, t: Moment) -> Answer {
+/// One event. One that names nobody that there is, is not given.
+pub fn give(world: &mut Played, event: Event<'_>) -> Result<Answer, AllocError> {
+    if !world.names(&event) {
+        return Ok(Answer::Unknown);
+    }
+    match world.event(event) {
+        Ok(()) => Ok(Answer::Nothing),
+        Err(fault) => answer_of(fault),
+    }
+}
+
+fn step(world: &mut Played, who: Who, t: Moment) -> Result<Answer, AllocError> {
     if !world.has(who) {
-        return Answer::Unknown;
+        return Ok(Answer::Unknown);
     }
     match world.step(who, t) {
-        Ok(step) => Answer::Step(step),
-        Err(fault) => Answer::Fault(fault),
+        Ok(step) => Ok(Answer::Step(step)),
+        Err(fault) => answer_of(fault),
     }
 }
 
@@ -74,54 +92,116 @@ fn queued(world: &Played, who: Who) -> Answer {
     Answer::Count(world.queued(who))
 }
 
-fn call_once(alloc: Global, world: &mut Played, call: &Call) -> Answer {
-    match call {
-        Call::Piece(who, bytes) => give(world, Event::Piece(*who, Piece::of(bytes))),
-        Call::Step(who, t) => step(world, *who, *t),
-        Call::Tick(who, t) => give(world, Event::Tick(*who, *t)),
-        Call::Break(who) => give(world, Event::Break(*who)),
-        Call::Resume(who, t) => give(world, Event::Resume(*who, *t)),
-        Call::Hand(who) => give(world, Event::Hand(*who)),
-        Call::Take(who, t) => give(world, Event::Take(*who, *t)),
-        Call::VenueTick(t) => give(world, Event::VenueTick(*t)),
-        Call::Deliver(who) => give(world, Event::Deliver(*who)),
-        Call::Collect(who, t) => give(world, Event::Collect(*who, *t)),
-        Call::Cut(who) => give(world, Event::Cut(*who)),
-        Call::Wire(who) => wire(world, *who),
-        Call::Queued(who) => queued(world, *who),
-        Call::Rows => Answer::Rows,
-        Call::Count => Answer::Count(row_count(world)),
-        Call::Fill(who, filling) => fill(alloc, world, *who, filling),
+// The frame of a message comes, which is told behind its number.
+fn hear(
+    alloc: Global,
+    world: &mut Played,
+    who: Who,
+    text: &str,
+) -> Result<Option<Answer>, AllocError> {
+    let (number, message) = word_in(text);
+    let Ok(number) = number.parse::<u64>() else {
+        return Ok(None);
+    };
+    match frame_of(alloc, who, number, message)? {
+        Some(frame) => Ok(Some(give(world, Event::Piece(who, Piece::of(&frame)))?)),
+        None => Ok(None),
     }
 }
 
-/// How many rows there are.
+// What a participant's call at a moment gives, if it is one.
+fn ask_at(
+    world: &mut Played,
+    word: &str,
+    who: Who,
+    after: &str,
+) -> Result<Option<Answer>, AllocError> {
+    let Some(t) = moment_after(after) else {
+        return Ok(None);
+    };
+    let event = match word {
+        "step" => return Ok(Some(step(world, who, t)?)),
+        "tick" => Event::Tick(who, t),
+        "resume" => Event::Resume(who, t),
+        "take" => Event::Take(who, t),
+        "collect" => Event::Collect(who, t),
+        _ => return Ok(None),
+    };
+    Ok(Some(give(world, event)?))
+}
+
+// What a participant's call gives, if it is one.
+fn ask_of(
+    alloc: Global,
+    world: &mut Played,
+    word: &str,
+    who: Who,
+    rest: &str,
+) -> Result<Option<Answer>, AllocError> {
+    let event = match word {
+        "piece" => {
+            let bytes = bytes_in(alloc, rest)?;
+            return Ok(Some(give(world, Event::Piece(who, Piece::of(&bytes)))?));
+        }
+        "message" => return hear(alloc, world, who, rest),
+        "fill" => return fill(alloc, world, who, rest),
+        "wire" => return Ok(Some(wire(world, who))),
+        "queued" => return Ok(Some(queued(world, who))),
+        "break" => Event::Break(who),
+        "hand" => Event::Hand(who),
+        "deliver" => Event::Deliver(who),
+        "cut" => Event::Cut(who),
+        _ => return ask_at(world, word, who, rest),
+    };
+    Ok(Some(give(world, event)?))
+}
+
+// What the call of a line gives, if it is one.
+fn ask(alloc: Global, world: &mut Played, line: &str) -> Result<Option<Answer>, AllocError> {
+    let (word, rest) = word_in(line);
+    match word {
+        "refuses" => return Ok(Some(renew(alloc, world, rest.parse::<u64>().ok())?)),
+        "rows" => return Ok(Some(Answer::Rows)),
+        "count" => return Ok(Some(Answer::Count(row_count(world)))),
+        "venue" => {
+            return match moment_after(rest) {
+                Some(t) => Ok(Some(give(world, Event::VenueTick(t))?)),
+                None => Ok(None),
+            };
+        }
+        _ if line.starts_with('#') => return Ok(Some(renew(alloc, world, None)?)),
+        _ => {}
+    }
+    let (name, rest) = word_in(rest);
+    match who_in(name) {
+        Some(who) => ask_of(alloc, world, word, who, rest),
+        None => Ok(None),
+    }
+}
+
+// How many rows there are.
 fn row_count(world: &Played) -> usize {
     world.keeper().rows().len()
 }
 
-fn is_refused(answer: &Answer) -> bool {
-    match answer {
-        Answer::Fault(EventFault::NoMemory) => true,
-        _ => false,
-    }
-}
-
-/// What a call gives. A call to which a growth is refused, which changes nothing, is made once more.
+/// What the call of a line gives. A call to which a growth is refused, which changes nothing, is made once more.
 pub fn play(
     alloc: Global,
     world: &mut Played,
-    call: &Call,
+    line: &str,
     refusals: &mut Refusals,
 ) -> Result<Answer> {
     let before = row_count(world);
-    let answer = call_once(alloc, world, call);
-    if !is_refused(&answer) {
-        return Ok(answer);
+    let answer = match ask(alloc, world, line) {
+        Ok(answer) => answer,
+        Err(AllocError) => {
+            refusals.one_more()?;
+            ensure!(row_count(world) == before, "a refused call recorded a row");
+            ask(alloc, world, line)?
+        }
+    };
+    match answer {
+        Some(answer) => Ok(answer),
+        None => bail!("no call: {line}"),
     }
-    refusals.one_more()?;
-    ensure!(row_count(world) == before, "a refused call recorded a row");
-    let again = call_once(alloc, world, call);
-    ensure!(!is_refused(&again), "a call was refused twice");
-    Ok(again)
 }

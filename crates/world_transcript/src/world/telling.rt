@@ -1,23 +1,20 @@
 //! Answers as lines of a transcript.
 
 use crate::moments::START;
-use crate::telling::{tell as tell_value, tell_bytes, tell_line, tell_step};
+use crate::telling::{Answered, tell, tell_bytes, tell_line, tell_step};
 use crate::world::playing::{Answer, Played};
 use crate::world::reading::NAMES;
 use std::alloc::{AllocError, Global};
 use venue_rules::{EventFault, TrailRow, Who};
 
-// The name of the participant at a place.
-fn name_at(place: usize) -> &'static str {
+// The name of a participant.
+fn name_of(who: Who) -> &'static str {
+    let place = who.place() as usize;
     if place < NAMES.len() {
         NAMES[place]
     } else {
         "nobody"
     }
-}
-
-fn name_of(who: Who) -> &'static str {
-    name_at(who.place() as usize)
 }
 
 fn tell_fault(alloc: Global, fault: &EventFault, told: &mut Vec<u8>) -> Result<(), AllocError> {
@@ -46,7 +43,7 @@ fn tell_row(alloc: Global, row: &TrailRow, told: &mut Vec<u8>) -> Result<(), All
         let line = format!(in alloc; "{n} at {after}: tick")?;
         return tell_line(line.as_str(), told);
     }
-    let name = name_at((row.who - 1) as usize);
+    let name = name_of(Who::of(row.who - 1));
     let era = row.era;
     let number = row.number;
     let front = format!(in alloc; "{n} at {after}: {name} era {era} number {number} ")?;
@@ -65,21 +62,24 @@ fn tell_rows(alloc: Global, rows: &[TrailRow], told: &mut Vec<u8>) -> Result<(),
     Ok(())
 }
 
-/// Appends the lines that tell an answer, if there is something to tell.
-pub fn tell(
-    alloc: Global,
-    world: &Played,
-    answer: &Answer,
-    told: &mut Vec<u8>,
-) -> Result<(), AllocError> {
-    match answer {
-        Answer::Nothing => Ok(()),
-        Answer::Step(step) => tell_step(alloc, *step, told),
-        Answer::Wire(wire) if wire.is_empty() => tell_line("nothing", told),
-        Answer::Wire(wire) => tell_bytes(wire, told),
-        Answer::Count(count) => tell_value(alloc, count, told),
-        Answer::Rows => tell_rows(alloc, world.keeper().rows(), told),
-        Answer::Fault(fault) => tell_fault(alloc, fault, told),
-        Answer::Unknown => tell_line("nobody", told),
+/// An answer of a world, and the world, whose rows it may tell.
+#[derive(Clone, Copy)]
+pub struct Told<'a> {
+    pub world: &'a Played,
+    pub answer: &'a Answer,
+}
+
+impl Answered for Told<'_> {
+    fn tell(&self, alloc: Global, told: &mut Vec<u8>) -> Result<(), AllocError> {
+        match self.answer {
+            Answer::Nothing => Ok(()),
+            Answer::Step(step) => tell_step(alloc, *step, told),
+            Answer::Wire(wire) if wire.is_empty() => tell_line("nothing", told),
+            Answer::Wire(wire) => tell_bytes(wire, told),
+            Answer::Count(count) => tell(alloc, count, told),
+            Answer::Rows => tell_rows(alloc, self.world.keeper().rows(), told),
+            Answer::Fault(fault) => tell_fault(alloc, fault, told),
+            Answer::Unknown => tell_line("nobody", told),
+        }
     }
 }
