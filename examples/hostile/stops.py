@@ -23,13 +23,12 @@ import sys
 import tempfile
 import threading
 
-from growths import older_trail, spend_turns
+from growths import WORKERS, older_trail, spend_turns
 from steady import SOH, Desk, Market, Venue, is_database, wanted
 
 TURNS = 10_000  # of a venue whose disk fails
 SILENCE = 2.0  # seconds without an answer, behind which none comes from a venue whose disk fails
 LONGEST = 60  # seconds for a run
-WORKERS = os.cpu_count() or 2
 PARTIES = "453=4|" + "".join(f"448={name}|447=D|452=35|" for name in ("BETA", "GAMMA", "DELTA", "EPSILON"))
 # Who sends an item, the item, and what its sender hears.
 ITEMS = [

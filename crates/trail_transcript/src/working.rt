@@ -16,7 +16,7 @@ use sqlite::Alter;
 use std::mem::drop;
 use trail_keeper::Journal;
 use venue_core::Venue;
-use venue_rules::EventFault;
+use venue_rules::{EventFault, Keep};
 use venue_worker::{Parts, Queue, Worker};
 
 /// The delay of a cross, in milliseconds.
@@ -38,8 +38,8 @@ fn new_boards(play: &mut Play) -> Result<(Boards, Ends)>
 
 /// A worker of five seats, and the sessions' ends of its intake board.
 #[derive(Drop)]
-struct Desk<'a, S: Alter + Drop> {
-    worker: Worker<'a, Journal<S>>,
+struct Desk<'a, K: Keep + Drop> {
+    worker: Worker<'a, K>,
     intake: &'a Board<Item>,
     hands: Vec<HandSeat<Item>>,
     ghost five: { length worker.takes ≡ 5 },
@@ -62,7 +62,7 @@ fn told_of(answer: Result<bool, EventFault>) -> Took {
     }
 }
 
-impl<'a, S: Alter + Drop> Desk<'a, S> {
+impl<'a, K: Keep + Drop> Desk<'a, K> {
     fn hand(&mut self, place: usize, item: Item) -> bool {
         hand_over(self.intake, &mut self.hands, place, item)
     }
@@ -82,9 +82,9 @@ impl<'a, S: Alter + Drop> Desk<'a, S> {
 }
 
 // Takes a message to which a growth was refused: it is still in its seat, which takes no other.
-fn take_anew<S: Alter + Drop>(
+fn take_anew<K: Keep + Drop>(
     play: &mut Play,
-    desk: &mut Desk<'_, S>,
+    desk: &mut Desk<'_, K>,
     sent: &Sent,
     moment: Moment,
 ) -> Result<()> {
@@ -102,9 +102,9 @@ fn take_anew<S: Alter + Drop>(
 }
 
 // Hands a message over, and has the worker take it, once more where a growth was refused.
-fn hand_and_take<S: Alter + Drop>(
+fn hand_and_take<K: Keep + Drop>(
     play: &mut Play,
-    desk: &mut Desk<'_, S>,
+    desk: &mut Desk<'_, K>,
     sent: &Sent,
 ) -> Result<()> {
     let moment = sent.moment();
@@ -118,7 +118,7 @@ fn hand_and_take<S: Alter + Drop>(
     play.tell("taken", sent.place() as u64)
 }
 
-fn take_all<S: Alter + Drop>(play: &mut Play, desk: &mut Desk<'_, S>) -> Result<()> {
+fn take_all<K: Keep + Drop>(play: &mut Play, desk: &mut Desk<'_, K>) -> Result<()> {
     for sent in ITEMS.iter() {
         hand_and_take(play, desk, sent)?;
     }
@@ -126,7 +126,7 @@ fn take_all<S: Alter + Drop>(play: &mut Play, desk: &mut Desk<'_, S>) -> Result<
 }
 
 // Enters the side of the cross that is due, once more where a growth was refused.
-fn tick<S: Alter + Drop>(play: &mut Play, desk: &mut Desk<'_, S>) -> Result<()> {
+fn tick<K: Keep + Drop>(play: &mut Play, desk: &mut Desk<'_, K>) -> Result<()> {
     let moment = CROSS.moment().plus(DELAY);
     match desk.enter(moment) {
         Took::Done => {}
@@ -143,7 +143,7 @@ fn tick<S: Alter + Drop>(play: &mut Play, desk: &mut Desk<'_, S>) -> Result<()> 
 }
 
 // The worker takes all messages, and the side that is held is entered.
-fn work_day<S: Alter + Drop>(play: &mut Play, desk: &mut Desk<'_, S>) -> Result<()> {
+fn work_day<K: Keep + Drop>(play: &mut Play, desk: &mut Desk<'_, K>) -> Result<()> {
     take_all(play, desk)?;
     hand_and_take(play, desk, &CROSS)?;
     tick(play, desk)
