@@ -37,7 +37,7 @@ MESSAGES = 8  # of both desks
 TURNS = 10_000
 PATIENCE = "3"  # seconds without an answer, behind which none comes: a venue that stops for want of a thread first spends the turns of the others
 LONGEST = 60  # seconds for a run
-WORKERS = min(os.cpu_count() or 2, 8)
+WORKERS = min(os.cpu_count() or 2, 8)  # of five ports each
 STOPPED = ("stopped: memory\n", "stopped: trail\n", "stopped: thread\n")
 TRAIL = "the trail"
 
