@@ -9,6 +9,7 @@ use Rattle.fix_fields.specs.Fields.{Entry, value_of}
 use Rattle.fix_tables.specs.declared.table.Form.{Form}
 use Rattle.fix_tables.specs.declared.table.Row.{Row}
 use Rattle.fix_tables.specs.declared.faults.DictFault.{DictFault}
+use Rattle.fix_tables.specs.declared.faults.DictFault.TheVariants.{Twice, Missing, Format, Range, NoMemory}
 use Rattle.fix_tables.specs.Faults.{form_of, has_tag, missing, faulty, fault_as, is_fault, first_fault, or_else, repeated}
 use Rattle.fix_tables.specs.Holding.{RowHolds, Holds}
 
@@ -99,3 +100,17 @@ part_holds rows fields h (r ∷ rs) own given =
 
 pub holds : (rows : List Row) (fields : List Entry) → HasOwnForms rows rows → first_fault rows fields ≡ None → Holds rows fields
 holds rows fields own h = part_holds rows fields (faultless rows fields h) rows own (faultless rows fields h).present
+
+found_as : (fault : ℕ → DictFault) (o : Option ℕ) (next : Option DictFault) → ((tag : ℕ) → Some (fault tag) ≡ Some NoMemory → ⊥)
+    → (next ≡ Some NoMemory → ⊥) → or_else fault o next ≡ Some NoMemory → ⊥
+found_as fault None next own others h = others h
+found_as fault (Some tag) next own others h = own tag h
+
+-- the first fault is no want of memory
+pub no_want : (rows : List Row) (fields : List Entry) → first_fault rows fields ≡ Some NoMemory → ⊥
+unfolding first_fault
+no_want rows fields =
+    found_as Twice _ _ (λ tag h. search (h, rules))
+    (found_as Missing _ _ (λ tag h. search (h, rules))
+    (found_as Format _ _ (λ tag h. search (h, rules))
+    (found_as Range _ _ (λ tag h. search (h, rules)) (λ h. some_not_none NoMemory (sym h)))))

@@ -1,5 +1,5 @@
 //! Reads messages.
-ghost use Rattle.std.specs.Prelude.{◌≡◌, ◌++◌, true, false, None, IfOk, MatchResult};
+ghost use Rattle.std.specs.Prelude.{◌≡◌, ◌++◌, true, false, None, Err, IfOk, MatchResult};
 ghost use Rattle.fix_tables.specs.Tables.{header_rows, rows_of};
 ghost use Rattle.fix_tables.specs.Holding.{Holds};
 ghost use Rattle.fix_tables.specs.GroupHolding.{Clean};
@@ -215,7 +215,8 @@ fn fault_in(kind: MessageType, fields: &[Field]) -> Option<DictFault>
 }
 
 fn read_fields(alloc: Global, fields: &[Field]) -> Result<Message, DictFault>
-    ensures { MatchResult result (λ m. Spells m (entries fields.now)) (IsFault (fault_in (entries fields.now))) }
+    ensures read { MatchResult result (λ m. Spells m (entries fields.now)) (IsFault (fault_in (entries fields.now))) }
+    ensures flat { result ≡ Err DictFault.NoMemory → is_grouped (type_in (entries fields.now)) ≡ false → fault_in (entries fields.now) ≡ None }
 {
     let kind = type_of(bytes_at(fields, 35));
     if is_grouped(kind) {
@@ -231,7 +232,8 @@ fn read_fields(alloc: Global, fields: &[Field]) -> Result<Message, DictFault>
 }
 
 fn read_body_in(alloc: Global, fields: &[Field]) -> Result<Body, DictFault>
-    ensures { MatchResult result (λ b. (fault_in (entries fields.now) ≡ None) × (b ≡ (message_in (entries fields.now)).body)) (IsFault (fault_in (entries fields.now))) }
+    ensures read { MatchResult result (λ b. (fault_in (entries fields.now) ≡ None) × (b ≡ (message_in (entries fields.now)).body)) (IsFault (fault_in (entries fields.now))) }
+    ensures flat { result ≡ Err DictFault.NoMemory → is_grouped (type_in (entries fields.now)) ≡ false → fault_in (entries fields.now) ≡ None }
 {
     let kind = type_of(bytes_at(fields, 35));
     if is_grouped(kind) {
@@ -248,14 +250,16 @@ fn read_body_in(alloc: Global, fields: &[Field]) -> Result<Body, DictFault>
 
 /// What the message that the fields of a body spell says behind its header, or their first fault; of the header nothing is kept.
 pub fn read_body(alloc: Global, fields: &Fields) -> Result<Body, DictFault>
-    ensures { MatchResult result (λ b. (fault_in fields.now ≡ None) × (b ≡ (message_in fields.now).body)) (IsFault (fault_in fields.now)) }
+    ensures read { MatchResult result (λ b. (fault_in fields.now ≡ None) × (b ≡ (message_in fields.now).body)) (IsFault (fault_in fields.now)) }
+    ensures flat { result ≡ Err DictFault.NoMemory → is_grouped (type_in fields.now) ≡ false → fault_in fields.now ≡ None }
 {
     read_body_in(alloc, fields.as_slice())
 }
 
 /// The message that the fields of a body spell, or their first fault.
 pub fn read_message(alloc: Global, fields: &Fields) -> Result<Message, DictFault>
-    ensures { MatchResult result (λ m. Spells m fields.now) (IsFault (fault_in fields.now)) }
+    ensures read { MatchResult result (λ m. Spells m fields.now) (IsFault (fault_in fields.now)) }
+    ensures flat { result ≡ Err DictFault.NoMemory → is_grouped (type_in fields.now) ≡ false → fault_in fields.now ≡ None }
 {
     read_fields(alloc, fields.as_slice())
 }
