@@ -1,0 +1,13 @@
+pub mod Alone
+pub mod Chains
+pub mod Converse
+pub mod Inner
+pub mod Named
+pub mod Outer
+pub mod Runs
+pub mod Sheltered
+pub mod States
+pub mod Tables
+pub mod Tags
+pub mod Ties
+pub mod Views
