@@ -42,6 +42,23 @@ module _ (header rows : List Row) (s : State) (t : ℕ) where
             strays 0 _ e
       ]
 
+  -- a tag of a group, where another one is open, or this one: then its first tag, or another of its tags
+  by_member : (p : Open) (h : ℕ) → group_of t rows ≡ Some h
+      → ((p.group == h) ≡ true → group_of t rows ≡ Some p.group → t ≡ first_tag p.group rows → (t == first_tag p.group rows) ≡ true → View header rows s t)
+      → ((p.group == h) ≡ true → group_of t rows ≡ Some p.group → (t == first_tag p.group rows) ≡ false → View header rows s t)
+      → ((p.group == h) ≡ false → View header rows s t) → View header rows s t
+  by_member p h own begins goes others =
+      elim (cases_eq p.group h) [
+        | inl same ↦
+            let test : (p.group == h) ≡ true = grind (arith, nat_tests) in
+            let of : group_of t rows ≡ Some p.group = own ∙ ap (λ (n : ℕ). Some n) (sym same) in
+            elim (cases_eq t (first_tag p.group rows)) [
+              | inl first ↦ begins test of first (grind (arith, nat_tests))
+              | inr later ↦ goes test of (grind (arith, nat_tests))
+            ]
+        | inr other ↦ others (grind (arith, nat_tests))
+      ]
+
   -- a member of the outer group, not its first
   goes_on_outer : (p : Open) → s.outer ≡ Some p → group_of t rows ≡ Some p.group → (t == first_tag p.group rows) ≡ false → (i : Option ℕ) → p.instance ≡ i
       → step header rows s t ≡ record { stand = goes_on p i; state = record { begun = s.begun; outer = Some p; inner = opened_in rows t i } } → View header rows s t
@@ -51,23 +68,10 @@ module _ (header rows : List Row) (s : State) (t : ℕ) where
   outer_view : (h : ℕ) → group_of t rows ≡ Some h → (o : Option Open) → s.outer ≡ o → step header rows s t ≡ outer_step rows s t h o → View header rows s t
   outer_view h own None is_open d = strays 0 _ d
   outer_view h own (Some p) is_open d =
-      elim (cases_eq p.group h) [
-        | inl same ↦
-            let test : (p.group == h) ≡ true = grind (arith, nat_tests) in
-            let of : group_of t rows ≡ Some p.group = own ∙ ap (λ (n : ℕ). Some n) (sym same) in
-            elim (cases_eq t (first_tag p.group rows)) [
-              | inl first ↦
-                  let first_test : (t == first_tag p.group rows) ≡ true = grind (arith, nat_tests) in
-                  begins_outer p is_open of first (d ∙ rw (test, first_test) refl)
-              | inr later ↦
-                  let later_test : (t == first_tag p.group rows) ≡ false = grind (arith, nat_tests) in
-                  goes_on_outer p is_open of later_test p.instance refl (d ∙ rw (test, later_test) refl)
-            ]
-        | inr other ↦
-            let test : (p.group == h) ≡ false = grind (arith, nat_tests) in
-            let e : step header rows s t ≡ unopened rows s p h p.instance = d ∙ rw test refl in
-            unopened_view p h p.instance e
-      ]
+      by_member p h own
+      (λ test of first is_first. begins_outer p is_open of first (d ∙ rw (test, is_first) refl))
+      (λ test of later. goes_on_outer p is_open of later p.instance refl (d ∙ rw (test, later) refl))
+      (λ test. unopened_view p h p.instance (d ∙ rw test refl))
 
   -- a member of the inner group, not its first
   goes_on_inner : (o : Open) → s.inner ≡ Some o → group_of t rows ≡ Some o.group → (t == first_tag o.group rows) ≡ false → (i : Option ℕ) → o.instance ≡ i
@@ -78,23 +82,10 @@ module _ (header rows : List Row) (s : State) (t : ℕ) where
   inner_view : (h : ℕ) → group_of t rows ≡ Some h → (o : Option Open) → s.inner ≡ o → step header rows s t ≡ inner_step rows s t h o → View header rows s t
   inner_view h own None is_open d = outer_view h own s.outer refl d
   inner_view h own (Some o) is_open d =
-      elim (cases_eq o.group h) [
-        | inl same ↦
-            let test : (o.group == h) ≡ true = grind (arith, nat_tests) in
-            let of : group_of t rows ≡ Some o.group = own ∙ ap (λ (n : ℕ). Some n) (sym same) in
-            elim (cases_eq t (first_tag o.group rows)) [
-              | inl first ↦
-                  let first_test : (t == first_tag o.group rows) ≡ true = grind (arith, nat_tests) in
-                  begins_inner o is_open of first (d ∙ rw (test, first_test) refl)
-              | inr later ↦
-                  let later_test : (t == first_tag o.group rows) ≡ false = grind (arith, nat_tests) in
-                  goes_on_inner o is_open of later_test o.instance refl (d ∙ rw (test, later_test) refl)
-            ]
-        | inr other ↦
-            let test : (o.group == h) ≡ false = grind (arith, nat_tests) in
-            let e : step header rows s t ≡ outer_step rows s t h s.outer = d ∙ rw test refl in
-            outer_view h own s.outer refl e
-      ]
+      by_member o h own
+      (λ test of first is_first. begins_inner o is_open of first (d ∙ rw (test, is_first) refl))
+      (λ test of later. goes_on_inner o is_open of later o.instance refl (d ∙ rw (test, later) refl))
+      (λ test. outer_view h own s.outer refl (d ∙ rw test refl))
 
   step_view : (w : Option ℕ) → group_of t rows ≡ w → step header rows s t ≡ step_in rows s t w → View header rows s t
   step_view None own d = aside own d
