@@ -7,33 +7,34 @@ use Rattle.fix_tables.specs.declared.places.Stand.TheVariants.{Within}
 use Rattle.fix_tables.specs.declared.places.State.{State}
 use Rattle.fix_tables.specs.declared.places.Stepped.{Stepped}
 use Rattle.fix_tables.specs.Places.{group_of, step, placed, is_in, part}
+use Rattle.fix_tables.specs.Tables.{header_rows}
 use Rattle.fix_laws.specs.Tied.{stands_alone}
 use Rattle.fix_laws.proofs.Views.{view, aside, headed, closes, begins_outer, goes_outer, begins_inner, goes_inner, strays}
 use Rattle.fix_laws.proofs.Chains.{both_or_none}
 use Rattle.fix_laws.proofs.States.{NoStrays, none_some, IsSound, sound_closed, sound_begun, sound_on, sound_within, sound_inner, unlike_numbers}
 
-module _ (header rows : List Row) (none : group_of 0 rows ≡ None) where
+module _ (rows : List Row) (none : group_of 0 rows ≡ None) where
   -- no tag is a group's that stands in no group
   some_group : (h x : ℕ) → group_of h rows ≡ Some x → (h == 0) ≡ false
   some_group h x its = unlike_numbers h 0 (λ zero. none_some x (sym none ∙ ap (λ (t : ℕ). group_of t rows) (sym zero) ∙ its))
 
-  kept_on : (f : Entry) (fs : List Entry) (s : State) (d : Stepped) → step header rows s f.0 ≡ d → is_in 0 d.stand ≡ stands_alone header rows f.0
-      → part 0 (placed header rows d.state fs) ≡ filter (λ (f : Entry). stands_alone header rows f.0) fs
-      → part 0 (placed header rows s (f ∷ fs)) ≡ filter (λ (f : Entry). stands_alone header rows f.0) (f ∷ fs)
+  kept_on : (f : Entry) (fs : List Entry) (s : State) (d : Stepped) → step header_rows rows s f.0 ≡ d → is_in 0 d.stand ≡ stands_alone rows f.0
+      → part 0 (placed header_rows rows d.state fs) ≡ filter (λ (f : Entry). stands_alone rows f.0) fs
+      → part 0 (placed header_rows rows s (f ∷ fs)) ≡ filter (λ (f : Entry). stands_alone rows f.0) (f ∷ fs)
   kept_on f fs s d e same rest = rw e (both_or_none _ _ f _ _ same rest)
 
-  pub alone : (fs : List Entry) (s : State) → IsSound rows s → NoStrays (placed header rows s fs)
-      → part 0 (placed header rows s fs) ≡ filter (λ (f : Entry). stands_alone header rows f.0) fs
+  pub alone : (fs : List Entry) (s : State) → IsSound rows s → NoStrays (placed header_rows rows s fs)
+      → part 0 (placed header_rows rows s fs) ≡ filter (λ (f : Entry). stands_alone rows f.0) fs
   alone [] s sound clear = refl
-  alone (f ∷ fs) s sound clear = by_header (λ x held rest. alone fs x held rest) (group_of f.0 header) refl
+  alone (f ∷ fs) s sound clear = by_header (λ x held rest. alone fs x held rest) (group_of f.0 header_rows) refl
     where
-      by_header : ((x : State) → IsSound rows x → NoStrays (placed header rows x fs) → part 0 (placed header rows x fs) ≡ filter (λ (f : Entry). stands_alone header rows f.0) fs)
-          → (w : Option ℕ) → group_of f.0 header ≡ w → part 0 (placed header rows s (f ∷ fs)) ≡ filter (λ (f : Entry). stands_alone header rows f.0) (f ∷ fs)
+      by_header : ((x : State) → IsSound rows x → NoStrays (placed header_rows rows x fs) → part 0 (placed header_rows rows x fs) ≡ filter (λ (f : Entry). stands_alone rows f.0) fs)
+          → (w : Option ℕ) → group_of f.0 header_rows ≡ w → part 0 (placed header_rows rows s (f ∷ fs)) ≡ filter (λ (f : Entry). stands_alone rows f.0) (f ∷ fs)
       by_header on (Some x) h =
-          let e : step header rows s f.0 ≡ record { stand = Within 0; state = s } = rw h refl in
+          let e : step header_rows rows s f.0 ≡ record { stand = Within 0; state = s } = rw h refl in
           kept_on f fs s _ e (rw h refl) (on s sound (rw e at clear.1))
       by_header on None h =
-          elim (view header rows s f.0) [
+          elim (view header_rows rows s f.0) [
             | aside its e ↦ kept_on f fs s _ e (rw (h, its) refl) (on s sound (rw e at clear.1))
             | headed x its e ↦ absurd (none_some x (sym h ∙ its))
             | closes its e ↦ kept_on f fs s _ e (rw (h, its) refl) (on _ (sound_closed rows s sound f.0 its) (rw e at clear.1))

@@ -10,7 +10,7 @@ use Rattle.fix_tables.specs.declared.table.Row.{Row}
 use Rattle.fix_tables.specs.declared.places.Stand.TheVariants.{Begins}
 use Rattle.fix_tables.specs.Faults.{has_tag}
 use Rattle.fix_tables.specs.Places.{Placed, group_of, first_tag, is_in, part, begins, with_begin}
-use Rattle.fix_laws.specs.Tied.{stands_in, direct}
+use Rattle.fix_laws.specs.Tied.{stands_in, in_itself}
 use Rattle.fix_laws.proofs.Tags.{IsTable, first_named, first_stands}
 use Rattle.fix_laws.proofs.Runs.{Shut, Counted, Inside, IsQuiet, skips, leaves, counts, starts, goes, IsRun}
 
@@ -61,8 +61,8 @@ record Chain (rows : List Row) (tag home : ℕ) (g : Group) (n q : ℕ) (ps : Li
   others : AllByRecursion (λ (e : Entry). has g.others.now e.0 ≡ true) pre
   each : AllByRecursion (IsInstance g) is
   behind : HasNo (is_member g) rest
-  here : direct rows tag pre ≡ part q ps
-  there : map (direct rows tag) is ≡ map (λ (b : ℕ). part b ps) (begins (first_tag tag rows) home ps)
+  here : in_itself rows tag pre ≡ part q ps
+  there : map (in_itself rows tag) is ≡ map (λ (b : ℕ). part b ps) (begins (first_tag tag rows) home ps)
   later : AllByRecursion (λ (b : ℕ). n < b) (begins (first_tag tag rows) home ps)
 
 -- The same where no instance has begun yet, or the field that begins the next one is the first.
@@ -72,7 +72,7 @@ pub record Behind (rows : List Row) (tag home : ℕ) (g : Group) (n : ℕ) (ps :
   pub parts : kept g (fields_of ps) ≡ chained is ++ rest
   pub each : AllByRecursion (IsInstance g) is
   pub behind : HasNo (is_member g) rest
-  pub there : map (direct rows tag) is ≡ map (λ (b : ℕ). part b ps) (begins (first_tag tag rows) home ps)
+  pub there : map (in_itself rows tag) is ≡ map (λ (b : ℕ). part b ps) (begins (first_tag tag rows) home ps)
   pub later : AllByRecursion (λ (b : ℕ). n < b) (begins (first_tag tag rows) home ps)
 
 module _ (header rows : List Row) (tag around home : ℕ) (g : Group) (table : IsTable header rows tag around g) where
@@ -96,7 +96,7 @@ module _ (header rows : List Row) (tag around home : ℕ) (g : Group) (table : I
       let tags = or_parts (p.0.0 == tag) (has_tag tag (fields_of ps)) once in
       elim run [
         | skips unnamed out quiet rest ↦ shut_step p ps n (not_own g p.0.0 unnamed) quiet (shut ps n rest tags.1)
-        | leaves m le named out gone quiet rest ↦ shut_step p ps m out quiet (shut ps m rest tags.1)
+        | leaves m le out gone quiet rest ↦ shut_step p ps m out quiet (shut ps m rest tags.1)
         | counts same stands le rest ↦ absurd (not_count p.0.0 tags.0 same)
         | starts is_open same stands gone rest ↦ absurd is_open
         | goes m le named other same quiet rest ↦ absurd same
@@ -170,7 +170,7 @@ module _ (header rows : List Row) (tag around home : ℕ) (g : Group) (table : I
       let self : (n + 1 == n + 1) ≡ true = grind (arith, nat_tests) in
       let in_home : (home == home) ≡ true = grind (arith, nat_tests) in
       let begin : with_begin (first_tag tag rows) home p.0.0 p.1 bs ≡ (n + 1) ∷ bs = rw (starting, test, in_home) refl in
-      let this : direct rows tag (p.0 ∷ c.pre) ≡ part (n + 1) (p ∷ ps) = rw (stands, starting, self) (ap (λ (l : List Entry). p.0 ∷ l) c.here) in
+      let this : in_itself rows tag (p.0 ∷ c.pre) ≡ part (n + 1) (p ∷ ps) = rw (stands, starting, self) (ap (λ (l : List Entry). p.0 ∷ l) c.here) in
       let new : (b : ℕ) → n + 1 < b → is_in b p.1 ≡ false = λ b h. rw starting (let e : (n + 1 == b) ≡ false = grind (arith, nat_tests, h) in e) in
       record {
         is = (p.0 ∷ c.pre) ∷ c.is;
@@ -178,23 +178,23 @@ module _ (header rows : List Row) (tag around home : ℕ) (g : Group) (table : I
         parts = rw named (ap (λ (l : List Entry). p.0 ∷ l) (c.parts ∙ sym (append_assoc c.pre (chained c.is) c.rest)));
         each = ((same ∙ sym table.of.first, c.others), c.each);
         behind = c.behind;
-        there = rw begin (ap (λ (l : List Entry). l ∷ map (direct rows tag) c.is) this
+        there = rw begin (ap (λ (l : List Entry). l ∷ map (in_itself rows tag) c.is) this
             ∙ ap (λ (m : List (List Entry)). part (n + 1) (p ∷ ps) ∷ m) (c.there ∙ past p (n + 1) ps bs c.later new));
         later = rw begin (grind (arith), later_still n (n + 1) bs (grind (arith)) c.later);
       }
 
   -- a field that is none of the group's, which ends it
-  ended : (n m : ℕ) (p : Placed) (ps : List Placed) → is_named g p.0.0 ≡ true → is_own g p.0.0 ≡ false → IsQuiet rows tag home m p
+  ended : (n m : ℕ) (p : Placed) (ps : List Placed) → is_own g p.0.0 ≡ false → IsQuiet rows tag home m p
       → IsRun rows tag home g ps Shut m → has_tag tag (fields_of ps) ≡ false → Behind rows tag home g n (p ∷ ps)
-  ended n m p ps named out quiet run once =
+  ended n m p ps out quiet run once =
       let after = shut ps m run once in
       let none : begins (first_tag tag rows) home (p ∷ ps) ≡ [] = quiet.1 _ ∙ after.1 in
       record {
         is = [];
-        rest = p.0 ∷ kept g (fields_of ps);
-        parts = rw named refl;
+        rest = kept g (fields_of (p ∷ ps));
+        parts = refl;
         each = tt;
-        behind = (not_member g p.0.0 out, kept_without g (is_member g) (fields_of ps) after.0);
+        behind = kept_without g (is_member g) (fields_of (p ∷ ps)) (not_member g p.0.0 out, after.0);
         there = rw none refl;
         later = rw none tt;
       }
@@ -205,7 +205,7 @@ module _ (header rows : List Row) (tag around home : ℕ) (g : Group) (table : I
       let tags = or_parts (p.0.0 == tag) (has_tag tag (fields_of ps)) once in
       elim run [
         | skips unnamed out quiet rest ↦ skipped n q p ps unnamed out quiet (chain ps n q rest tags.1)
-        | leaves m le named out gone quiet rest ↦ over n q (p ∷ ps) gone (ended n m p ps named out quiet rest tags.1)
+        | leaves m le out gone quiet rest ↦ over n q (p ∷ ps) gone (ended n m p ps out quiet rest tags.1)
         | counts same stands le rest ↦ absurd (not_count p.0.0 tags.0 same)
         | starts is_open same stands gone rest ↦ over n q (p ∷ ps) gone (begun n p ps same stands (chain ps (n + 1) (n + 1) rest tags.1))
         | goes m le named other same quiet rest ↦ joined n m q p ps le named other same quiet (chain ps m q rest tags.1)
@@ -218,7 +218,7 @@ module _ (header rows : List Row) (tag around home : ℕ) (g : Group) (table : I
       let tags = or_parts (p.0.0 == tag) (has_tag tag (fields_of ps)) once in
       elim run [
         | skips unnamed out quiet rest ↦ skipped_behind n p ps unnamed quiet (behind_count ps n rest tags.1)
-        | leaves m le named out gone quiet rest ↦ ended n m p ps named out quiet rest tags.1
+        | leaves m le out gone quiet rest ↦ ended n m p ps out quiet rest tags.1
         | counts same stands le rest ↦ absurd (not_count p.0.0 tags.0 same)
         | starts is_open same stands gone rest ↦ begun n p ps same stands (chain ps (n + 1) (n + 1) rest tags.1)
         | goes m le named other same quiet rest ↦ absurd same

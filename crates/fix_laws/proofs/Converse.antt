@@ -1,16 +1,15 @@
 -- Where fields are a group that stands outside of groups, no field shows it to be miscounted.
-use Rattle.std.proofs.Common.{◌≡◌, ℕ, ◌+◌, true, false, Bool, List, [], ◌∷◌, ◌++◌, append_assoc, length, is_some, refl, sym, ap, subst, ◌∙◌, arith, rules, cond, ◌==◌, ◌&&◌, not, Option, Some, None, inl, inr, ◌⊎◌}
+use Rattle.std.proofs.Common.{◌≡◌, ℕ, ◌+◌, true, false, Bool, List, [], ◌∷◌, ◌++◌, length, is_some, refl, sym, ap, subst, ◌∙◌, arith, rules, ◌==◌, ◌&&◌, not, Option, Some, None, inl, inr, ◌⊎◌}
 use Rattle.std.specs.List.{AllByRecursion}
 use Rattle.std.proofs.lemmas.Bool.Decides.{nat_tests}
 use Rattle.std.proofs.lemmas.Bool.{cases_eq, cases_Bool, or_parts, true≢false}
 use Rattle.fix_fields.specs.Fields.{Entry}
-use Rattle.fix_fields.specs.Groups.{has, is_member, is_own, is_named, kept, HasNo, IsInstance, IsGroup, Tells, chained}
+use Rattle.fix_fields.specs.Groups.{has, is_member, is_own, is_named, kept, HasNo, IsInstance, IsGroup, IsNoGroup, Tells, chained}
 use Rattle.fix_fields.specs.GroupParts.{tells}
 use Rattle.fix_fields.specs.declared.group.Group.{Group}
-use Rattle.fix_fields.specs.declared.value.ValueFault.TheVariants as value
+use Rattle.fix_fields.specs.declared.group.GroupFault.TheVariants as groups
 use Rattle.fix_dictionary.specs.Kinds.{is_grouped}
-use Rattle.fix_tables.specs.declared.faults.DictFault.{DictFault}
-use Rattle.fix_tables.specs.declared.faults.DictFault.TheVariants.{Twice, Count, Missing, Format, Range}
+use Rattle.fix_tables.specs.declared.faults.DictFault.TheVariants.{Count}
 use Rattle.fix_tables.specs.declared.table.Row.{Row}
 use Rattle.fix_tables.specs.declared.places.Stand.{Stand}
 use Rattle.fix_tables.specs.declared.places.Stand.TheVariants.{Aside, Within, Begins, Stray}
@@ -18,69 +17,25 @@ use Rattle.fix_tables.specs.declared.places.Open.{Open}
 use Rattle.fix_tables.specs.declared.places.State.{State}
 use Rattle.fix_tables.specs.declared.places.Stepped.{Stepped}
 use Rattle.fix_tables.specs.Told.{some_or}
-use Rattle.fix_tables.specs.Faults.{has_tag, faulty, or_else, misfit}
-use Rattle.fix_tables.specs.GroupFaults.{twice, is_wrong, miscounts, miscounted, or_next, missing_in, placed_fault}
-use Rattle.fix_tables.specs.Places.{Placed, group_of, first_tag, is_count, opened_in, entered, outer_step, inner_step, step_in, header_step, step, placed, start, begins, with_begin}
+use Rattle.fix_tables.specs.Faults.{has_tag}
+use Rattle.fix_tables.specs.GroupFaults.{twice, is_wrong, miscounts, miscounted}
+use Rattle.fix_tables.specs.Places.{Placed, group_of, first_tag, is_count, opened_in, entered, outer_step, inner_step, step, placed, start, begins}
 use Rattle.fix_tables.specs.Tables.{header_rows}
 use Rattle.fix_reading.specs.Messages.{fault_in, type_in}
 use Rattle.fix_laws.specs.Tied.{IsOfTable, is_within, rows_in, placed_in}
 use Rattle.fix_laws.proofs.Views.{begun_at}
-use Rattle.fix_laws.proofs.States.{IsNoStray, none_some, same_some, opening, opened_is, unlike_numbers}
-use Rattle.fix_laws.proofs.Tags.{IsTable, not_zero, some_tag, named_of, no_member_first, no_member_in, not_tag}
+use Rattle.fix_laws.proofs.States.{IsNoStray, none_some, same_some, opening, opened_is, unlike_numbers, steps}
+use Rattle.fix_laws.proofs.Faults.{cond_some, next_some, count_told}
+use Rattle.fix_laws.proofs.Named.{named}
+use Rattle.fix_laws.proofs.Tags.{IsTable, not_zero, some_tag, no_member_first, no_member_in, not_tag, place_of, other_unlike, first_unlike}
 use Rattle.fix_laws.proofs.Chains.{not_own, not_member}
+use Rattle.fix_laws.proofs.Members.{IsPlace, ArePlaced, Stays, chain, with_other, same_head, same_tail, not_empty}
 use Rattle.fix_laws.proofs.Ties.{IsOnce, IsHome, once}
 use Rattle.fix_laws.proofs.Tables.{plain, table_of, placed_fields}
-
--- What a Count fault says.
-
--- a fault of another kind is not the first one
-other_fault : (fault : ℕ → DictFault) (o : Option ℕ) (next : Option DictFault) (this : DictFault) → ((t : ℕ) → fault t ≡ this → ⊥)
-    → or_else fault o next ≡ Some this → (o ≡ None) × (next ≡ Some this)
-other_fault fault None next this other h = (refl, h)
-other_fault fault (Some t) next this other h = absurd (other t (same_some (fault t) this h))
-
-no_format : (tag t : ℕ) → Format t ≡ Count tag → ⊥
-no_format tag t h = search (h, rules)
-
-no_range : (tag t : ℕ) → Range t ≡ Count tag → ⊥
-no_range tag t h = search (h, rules)
-
-no_missing : (tag t : ℕ) → Missing t ≡ Count tag → ⊥
-no_missing tag t h = search (h, rules)
-
-no_twice : (tag t : ℕ) → Twice t ≡ Count tag → ⊥
-no_twice tag t h = search (h, rules)
-
-same_count : (tag t : ℕ) → Count t ≡ Count tag → t ≡ tag
-same_count tag t h = search (h, rules)
-
--- the miscounted group is told unless something behind tells it
-told_count : (tag : ℕ) (o : Option ℕ) (next : Option DictFault) → (next ≡ Some (Count tag) → ⊥) → or_else Count o next ≡ Some (Count tag) → o ≡ Some tag
-told_count tag None next never h = absurd (never h)
-told_count tag (Some t) next never h = ap (λ (n : ℕ). Some n) (same_count tag t (same_some (Count t) (Count tag) h))
-
--- no field stands twice in its part, and the first field that shows a group to be miscounted shows this one
-pub count_told : (header rows : List Row) (ps : List Placed) (fields : List Entry) (tag : ℕ) → placed_fault header rows ps fields ≡ Some (Count tag)
-    → (twice [] ps ≡ None) × (miscounted rows ps ps ≡ Some tag)
-unfolding placed_fault
-count_told header rows ps fields tag h =
-    let a = other_fault Twice _ _ (Count tag) (no_twice tag) h in (
-      a.0,
-      told_count tag _ _ (λ h.
-          let b = other_fault Missing (missing_in rows header ps) _ (Count tag) (no_missing tag) h in
-          let c = other_fault Missing (missing_in rows rows ps) (misfit (header ++ rows) fields) (Count tag) (no_missing tag) b.1 in
-          let d = other_fault Format (faulty value.Format (header ++ rows) fields) _ (Count tag) (no_format tag) c.1 in
-          let e = other_fault Range (faulty value.Range (header ++ rows) fields) None (Count tag) (no_range tag) d.1 in
-          none_some (Count tag) e.1) a.1,
-    )
 
 -- A field does not show the group to be miscounted: if it is the count, it tells its instances, and no member stands astray.
 abbrev pub IsRight : List Row → ℕ → ℕ → Placed → Type 0
 IsRight rows tag many p = (p.0.0 ≡ tag → (p.1 ≡ Within 0) × (tells many p.0.1 ≡ true)) × (group_of p.0.0 rows ≡ Some tag → IsNoStray p.1)
-
-pub cond_some : (b : Bool) (t tag : ℕ) → cond b (Some t) None ≡ Some tag → (b ≡ true) × (t ≡ tag)
-cond_some true t tag h = (refl, same_some t tag h)
-cond_some false t tag h = absurd (none_some tag h)
 
 pub not_shown : (rows : List Row) (tag : ℕ) (all : List Placed) (f : Entry) (x : Stand) → (0 ≡ tag → ⊥) → IsRight rows tag (length (begins (first_tag tag rows) 0 all)) (f, x)
     → miscounts rows all f x ≡ Some tag → ⊥
@@ -110,26 +65,53 @@ not_shown rows tag all f (Stray q) some right h = right.1 (by_group (group_of f.
     by_group None h = absurd (some h)
     by_group (Some n) h = ap (λ (n : ℕ). Some n) h
 
-pub next_some : (a b : Option ℕ) (tag : ℕ) → (a ≡ Some tag → ⊥) → or_next a b ≡ Some tag → b ≡ Some tag
-next_some None b tag other h = h
-next_some (Some t) b tag other h = absurd (other h)
-
 none_shown : (rows : List Row) (tag : ℕ) (all ps : List Placed) → (0 ≡ tag → ⊥) → AllByRecursion (IsRight rows tag (length (begins (first_tag tag rows) 0 all))) ps
     → miscounted rows all ps ≡ Some tag → ⊥
 none_shown rows tag all [] some right h = none_some tag h
 none_shown rows tag all (p ∷ ps) some right h =
     none_shown rows tag all ps some right.1 (next_some (miscounts rows all p.0 p.1) (miscounted rows all ps) tag (not_shown rows tag all p.0 p.1 some right.0) h)
 
+-- Fields that have no tag of the group do not show it to be miscounted.
+
+module _ (header rows : List Row) (tag : ℕ) (g : Group) (of : IsOfTable rows tag g) where
+  -- what is none of the group's is not its count, and stands not in it
+  not_count : (t : ℕ) → is_own g t ≡ false → t ≡ tag → ⊥
+  not_count t out same =
+      let test : (t == g.count) ≡ true = grind (arith, nat_tests, same, of.count) in
+      true≢false (sym test ∙ (or_parts (t == g.count) (is_member g t) out).0)
+
+  not_in : (t : ℕ) → is_own g t ≡ false → group_of t rows ≡ Some tag → ⊥
+  not_in t out its =
+      let parts = or_parts (t == g.first) (has g.others.now t) (not_member g t out) in
+      let later : (t == first_tag tag rows) ≡ false = rw (← of.first) parts.0 in
+      let self : (tag == tag) ≡ true = grind (arith, nat_tests) in
+      let within : is_within rows tag (group_of t rows) ≡ true = rw (its, self) refl in
+      let other : has g.others.now t ≡ true = of.others t ∙ rw (within, later) refl in
+      true≢false (sym other ∙ parts.1)
+
+  none_its : (many : ℕ) (fs : List Entry) (s : State) → HasNo (is_own g) fs → AllByRecursion (IsRight rows tag many) (placed header rows s fs)
+  none_its many [] s none = tt
+  none_its many (f ∷ fs) s none =
+      (((λ same. absurd (not_count f.0 none.0 same)), (λ its. absurd (not_in f.0 none.0 its))), none_its many fs _ none.1)
+
+-- so where it is shown a field has one
+pub present : (fields : List Entry) (tag : ℕ) (g : Group) → is_grouped (type_in fields) ≡ true → fault_in fields ≡ Some (Count tag)
+    → IsOfTable (rows_in fields) tag g → HasNo (is_own g) fields → ⊥
+present fields tag g grouped fault of none =
+    let rows = rows_in fields in
+    let ps = placed_in fields in
+    let told = count_told header_rows rows ps fields tag (rw grouped at fault) in
+    let some = some_number (group_of tag rows) (named fields tag grouped fault).1 in
+    none_shown rows tag ps ps (not_zero rows (plain (type_in fields) grouped).none tag some.0 some.1)
+    (none_its header_rows rows tag g of (length (begins (first_tag tag rows) 0 ps)) fields start none) told.1
+  where
+    some_number : (w : Option ℕ) → is_some w ≡ true → (n : ℕ) × (w ≡ Some n)
+    some_number None h = absurd (true≢false (sym h))
+    some_number (Some n) h = (n, refl)
+
 -- a number that is told
 pub told_right : (n : ℕ) (bytes : List ℕ) → Tells n bytes → tells n bytes ≡ true
 told_right n bytes number = let self : (n == n) ≡ true = grind (arith, nat_tests) in rw number self
-
--- a field with another tag begins no instance
-pub with_other : (first around t : ℕ) (x : Stand) (bs : List ℕ) → (t == first) ≡ false → with_begin first around t x bs ≡ bs
-with_other first around t Aside bs other = refl
-with_other first around t (Within q) bs other = refl
-with_other first around t (Begins q a) bs other = rw other refl
-with_other first around t (Stray q) bs other = refl
 
 -- a group that is entered stays the same
 same_group : (rows : List Row) (n : ℕ) (o : Open) (t : ℕ) → (entered rows n o t).opening.group ≡ o.group
@@ -138,45 +120,6 @@ same_group rows n o t =
       | inl first ↦ rw first refl
       | inr later ↦ rw later refl
     ]
-
-pub same_head : (f e : Entry) (fs es : List Entry) → f ∷ fs ≡ e ∷ es → f ≡ e
-same_head f e fs es h = search (h, rules)
-
-pub same_tail : (f e : Entry) (fs es : List Entry) → f ∷ fs ≡ e ∷ es → fs ≡ es
-same_tail f e fs es h = search (h, rules)
-
-pub not_empty : (e : Entry) (es : List Entry) → [] ≡ e ∷ es → ⊥
-not_empty e es h = search (h, rules)
-
--- both of two tests
-pub both : (a b : Bool) → (a && not b) ≡ true → (a ≡ true) × (b ≡ false)
-both true false h = (refl, refl)
-both true true h = absurd (true≢false (sym h))
-both false b h = absurd (true≢false (sym h))
-
--- a tag of the table is none of the header's
-pub steps : (header rows : List Row) → ((t x : ℕ) → group_of t header ≡ Some x → group_of t rows ≡ None) → (s : State) (t h : ℕ) → group_of t rows ≡ Some h
-    → step header rows s t ≡ step_in rows s t (Some h)
-steps header rows apart s t h its = by_header (group_of t header) refl
-  where
-    by_header : (w : Option ℕ) → group_of t header ≡ w → header_step rows s t w ≡ step_in rows s t (Some h)
-    by_header None e = rw its refl
-    by_header (Some x) e = absurd (none_some h (sym (apart t x e) ∙ its))
-
--- a tag that the table does not name changes nothing
-pub passes : (header rows : List Row) (s : State) (t : ℕ) → group_of t rows ≡ None → (step header rows s t).state ≡ s
-passes header rows s t its = by_header (group_of t header)
-  where
-    by_header : (w : Option ℕ) → (header_step rows s t w).state ≡ s
-    by_header None = rw its refl
-    by_header (Some x) = refl
-
--- with no fields there are no instances
-pub no_instances : (g : Group) (pre : List Entry) (is : List (List Entry)) (rest : List Entry) → [] ≡ pre ++ (chained is ++ rest) → AllByRecursion (IsInstance g) is → 0 ≡ length is
-no_instances g pre [] rest e each = refl
-no_instances g pre ([] ∷ is) rest e each = absurd each.0
-no_instances g [] ((f ∷ fs) ∷ is) rest e each = absurd (not_empty _ _ e)
-no_instances g (x ∷ pre) ((f ∷ fs) ∷ is) rest e each = absurd (not_empty _ _ e)
 
 module _ (header rows : List Row) (tag : ℕ) (g : Group) (table : IsTable header rows tag 0 g) where
   abbrev first : ℕ
@@ -256,6 +199,32 @@ module _ (header rows : List Row) (tag : ℕ) (g : Group) (table : IsTable heade
                 rw test by_outer
           ]
 
+  -- so a member goes on in it, or begins an instance
+  stays : Stays header rows tag 0 0 g table IsMine
+  stays = record {
+    there = λ s p mine. mine.around;
+    starts = λ s p mine t same.
+        let e = step_first s p mine t same in (
+          ap (λ (d : Stepped). d.stand) e,
+          subst (λ (d : Stepped). IsMine d.state (begun_at (s.begun + 1) p)) (sym e)
+              (mine_with (s.begun + 1) (begun_at (s.begun + 1) p) t (s.begun + 1) mine.group mine.around (λ is. first_unlike header rows tag 0 g table (sym same ∙ is))),
+        );
+    goes = λ s p r mine at t other. goes_on s p r mine at t (other_unlike header rows tag 0 g table t other) (place_of header rows tag 0 g table t other);
+  }
+    where
+      goes_on : (s : State) (p : Open) (r : ℕ) → IsMine s p → p.instance ≡ Some r → (t : ℕ) → (t ≡ tag → ⊥)
+          → ((t == first) ≡ false) × ((group_of t rows ≡ Some tag) ⊎ ((h : ℕ) × ((group_of t rows ≡ Some h) × ((group_of h rows ≡ Some tag) × (h ≡ tag → ⊥)))))
+          → (group_of t rows ≡ Some tag → IsNoStray (step header rows s t).stand) × IsMine (step header rows s t).state p
+      goes_on s p r mine at t unlike (later, inl its) =
+          let e = step_inside s p mine t r its later at in (
+            (λ is. subst (λ (d : Stepped). IsNoStray d.stand) (sym e) tt),
+            subst (λ (d : Stepped). IsMine d.state p) (sym e) (mine_with s.begun p t r mine.group mine.around unlike),
+          )
+      goes_on s p r mine at t unlike (later, inr deeper) = (
+        (λ its. absurd (deeper.1.1.1 (same_some deeper.0 tag (sym deeper.1.0 ∙ its)))),
+        step_deeper s p mine t deeper.0 r deeper.1.0 deeper.1.1.0 deeper.1.1.1 at,
+      )
+
   -- What fields show.
 
   -- no field shows the group to be miscounted, and so many instances begin
@@ -276,136 +245,17 @@ module _ (header rows : List Row) (tag : ℕ) (g : Group) (table : IsTable heade
   foreign : (many n : ℕ) (p : Placed) (ps : List Placed) → (p.0.0 == tag) ≡ false → is_member g p.0.0 ≡ false → AreRight many n ps → AreRight many n (p ∷ ps)
   foreign many n p ps other out right = beside many n p ps other (no_member_first header rows tag 0 g table p.0.0 out) (λ its. absurd (no_member_in header rows tag 0 g table p.0.0 out its)) right
 
-  -- fields behind the group
-  behind : (many : ℕ) (fs : List Entry) (s : State) → has_tag tag fs ≡ false → HasNo (is_member g) (kept g fs) → AreRight many 0 (placed header rows s fs)
-  behind many [] s none out = (tt, refl)
-  behind many (f ∷ fs) s none out =
-      let tags = or_parts (f.0 == tag) (has_tag tag fs) none in
-      elim (cases_Bool (is_named g f.0)) [
-        | inl named ↦
-            let each : HasNo (is_member g) (f ∷ kept g fs) = rw named at out in
-            foreign many 0 _ _ tags.0 each.0 (behind many fs _ tags.1 each.1)
-        | inr unnamed ↦
-            let on : HasNo (is_member g) (kept g fs) = rw unnamed at out in
-            foreign many 0 _ _ tags.0 (not_member g f.0 (not_own g f.0 unnamed)) (behind many fs _ tags.1 on)
-      ]
-
-  -- Fields behind the count, of which some go on in an instance that has begun.
-
-  abbrev AreOthers : List Entry → Type 0
-  AreOthers fs = AllByRecursion (λ (e : Entry). has g.others.now e.0 ≡ true) fs
-
-  -- an instance has begun, or no field goes on in one
-  abbrev HasBegun : Open → List Entry → Type 0
-  HasBegun p pre = (pre ≡ []) ⊎ ((r : ℕ) × (p.instance ≡ Some r))
-
-  -- such fields show no miscount, by any state in which the group is open
-  abbrev IsChained : ℕ → List Entry → Type 0
-  IsChained many fs = (s : State) (p : Open) (pre : List Entry) (is : List (List Entry)) (rest : List Entry) → IsMine s p → HasBegun p pre
-      → kept g fs ≡ pre ++ (chained is ++ rest) → AreOthers pre → AllByRecursion (IsInstance g) is → HasNo (is_member g) rest → has_tag tag fs ≡ false
-      → AreRight many (length is) (placed header rows s fs)
-
-  -- what is a member, and not the first tag, stands in the group or in one within it
-  place_of : (t : ℕ) → has g.others.now t ≡ true → ((t == first) ≡ false) × ((group_of t rows ≡ Some tag) ⊎ ((h : ℕ) × ((group_of t rows ≡ Some h) × ((group_of h rows ≡ Some tag) × (h ≡ tag → ⊥)))))
-  place_of t other =
-      let tests = both (is_within rows tag (group_of t rows)) (t == first) (sym (table.of.others t) ∙ other) in
-      (tests.1, by_group (group_of t rows) refl tests.0)
+  -- members in their places, none of which is the count
+  all_right : (many n : ℕ) (fs : List Entry) (s : State) → has_tag tag fs ≡ false → ArePlaced header rows tag 0 0 g table n (placed header rows s fs)
+      → AreRight many n (placed header rows s fs)
+  all_right many n fs s none its = (each fs s none its.0, its.1)
     where
-      around : (h : ℕ) (w : Option ℕ) → some_or 0 w ≡ tag → w ≡ Some tag
-      around h None e = absurd (some_tag header rows tag 0 g table e)
-      around h (Some n) e = ap (λ (n : ℕ). Some n) e
-
-      by_group : (w : Option ℕ) → group_of t rows ≡ w → is_within rows tag w ≡ true
-          → (group_of t rows ≡ Some tag) ⊎ ((h : ℕ) × ((group_of t rows ≡ Some h) × ((group_of h rows ≡ Some tag) × (h ≡ tag → ⊥))))
-      by_group None its h = absurd (true≢false (sym h))
-      by_group (Some h) its is_in =
-          elim (cases_eq h tag) [
-            | inl same ↦ inl (its ∙ ap (λ (n : ℕ). Some n) same)
-            | inr unlike ↦
-                let test = unlike_numbers h tag unlike in
-                let within : (some_or 0 (group_of h rows) == tag) ≡ true = rw test at is_in in
-                let same : some_or 0 (group_of h rows) ≡ tag = grind (arith, nat_tests, within) in
-                inr (h, (its, (around h (group_of h rows) same, unlike)))
-          ]
-
-  -- a field that goes on in an instance
-  goes_on : (many : ℕ) (f : Entry) (fs : List Entry) → IsChained many fs → (s : State) (p : Open) (r : ℕ) (pre : List Entry) (is : List (List Entry)) (rest : List Entry)
-      → IsMine s p → p.instance ≡ Some r → has g.others.now f.0 ≡ true → (f.0 == tag) ≡ false
-      → kept g fs ≡ pre ++ (chained is ++ rest) → AreOthers pre → AllByRecursion (IsInstance g) is → HasNo (is_member g) rest → has_tag tag fs ≡ false
-      → AreRight many (length is) (placed header rows s (f ∷ fs))
-  goes_on many f fs on s p r pre is rest mine at other not_count parts others each out none =
-      let place = place_of f.0 other in
-      by_place place.0 place.1
-    where
-      unlike : f.0 ≡ tag → ⊥
-      unlike same = let test : (f.0 == tag) ≡ true = grind (arith, nat_tests, same) in true≢false (sym test ∙ not_count)
-
-      by_place : (f.0 == first) ≡ false → (group_of f.0 rows ≡ Some tag) ⊎ ((h : ℕ) × ((group_of f.0 rows ≡ Some h) × ((group_of h rows ≡ Some tag) × (h ≡ tag → ⊥))))
-          → AreRight many (length is) (placed header rows s (f ∷ fs))
-      by_place later (inl its) =
-          let e = step_inside s p mine f.0 r its later at in
-          rw e (beside many (length is) _ _ not_count later (λ its. tt)
-          (on _ p pre is rest (mine_with s.begun p f.0 r mine.group mine.around unlike) (inr (r, at)) parts others each out none))
-      by_place later (inr deeper) =
-          let still = step_deeper s p mine f.0 deeper.0 r deeper.1.0 deeper.1.1.0 deeper.1.1.1 at in
-          beside many (length is) _ _ not_count later (λ its. absurd (deeper.1.1.1 (same_some deeper.0 tag (sym deeper.1.0 ∙ its))))
-          (on _ p pre is rest still (inr (r, at)) parts others each out none)
-
-  -- a field that begins one
-  starts : (many : ℕ) (f : Entry) (fs : List Entry) → IsChained many fs → (s : State) (p : Open) (pre : List Entry) (is : List (List Entry)) (rest : List Entry)
-      → IsMine s p → f.0 ≡ first → (f.0 == tag) ≡ false
-      → kept g fs ≡ pre ++ (chained is ++ rest) → AreOthers pre → AllByRecursion (IsInstance g) is → HasNo (is_member g) rest → has_tag tag fs ≡ false
-      → (i : List Entry) → AreRight many (length (i ∷ is)) (placed header rows s (f ∷ fs))
-  starts many f fs on s p pre is rest mine same not_count parts others each out none i =
-      let e = step_first s p mine f.0 same in
-      let test : (f.0 == first) ≡ true = grind (arith, nat_tests, same) in
-      let home : (p.around == 0) ≡ true = grind (arith, nat_tests, mine.around) in
-      let right = on _ (begun_at (s.begun + 1) p) pre is rest (mine_with (s.begun + 1) (begun_at (s.begun + 1) p) f.0 (s.begun + 1) mine.group mine.around unlike)
-      (inr (s.begun + 1, refl)) parts others each out none in
-      rw e ((((λ is. absurd (unlike is)), (λ its. tt)), right.0), rw (test, home) (rw right.1 refl))
-    where
-      unlike : f.0 ≡ tag → ⊥
-      unlike same = let test : (f.0 == tag) ≡ true = grind (arith, nat_tests, same) in true≢false (sym test ∙ not_count)
-
-  -- a field that the table names, by what it is of the group
-  chain_named : (many : ℕ) (f : Entry) (fs : List Entry) → IsChained many fs → (s : State) (p : Open) (pre : List Entry) (is : List (List Entry)) (rest : List Entry)
-      → IsMine s p → HasBegun p pre
-      → f ∷ kept g fs ≡ pre ++ (chained is ++ rest) → AreOthers pre → AllByRecursion (IsInstance g) is → HasNo (is_member g) rest
-      → (f.0 == tag) ≡ false → has_tag tag fs ≡ false → AreRight many (length is) (placed header rows s (f ∷ fs))
-  chain_named many f fs on s p (x ∷ pre) is rest mine (inl none_begun) parts others each out other none = absurd (not_empty x pre (sym none_begun))
-  chain_named many f fs on s p (x ∷ pre) is rest mine (inr at) parts others each out other none =
-      let this = same_head f x _ _ parts in
-      goes_on many f fs on s p at.0 pre is rest mine at.1 (rw this others.0) other (same_tail f x _ _ parts) others.1 each out none
-  chain_named many f fs on s p [] [] rest mine begun parts others each out other none =
-      let left : HasNo (is_member g) (f ∷ kept g fs) = subst (HasNo (is_member g)) (sym parts) out in
-      foreign many 0 _ _ other left.0 (behind many fs _ none left.1)
-  chain_named many f fs on s p [] ([] ∷ is) rest mine begun parts others each out other none = absurd each.0
-  chain_named many f fs on s p [] ((x ∷ pre) ∷ is) rest mine begun parts others each out other none =
-      let this = same_head f x _ _ parts in
-      starts many f fs on s p pre is rest mine (ap (λ (e : Entry). e.0) this ∙ each.0.0 ∙ table.of.first) other
-      (same_tail f x _ _ parts ∙ append_assoc pre (chained is) rest) each.0.1 each.1 out none (x ∷ pre)
-
-  chain : (many : ℕ) (fs : List Entry) → IsChained many fs
-  chain many [] s p pre is rest mine begun parts others each out none = (tt, no_instances g pre is rest parts each)
-  chain many (f ∷ fs) s p pre is rest mine begun parts others each out none =
-      let tags = or_parts (f.0 == tag) (has_tag tag fs) none in
-      elim (cases_Bool (is_named g f.0)) [
-        | inl named ↦
-            let parts_on : f ∷ kept g fs ≡ pre ++ (chained is ++ rest) = rw named at parts in
-            chain_named many f fs (chain many fs) s p pre is rest mine begun parts_on others each out tags.0 tags.1
-        | inr unnamed ↦
-            let parts_on : kept g fs ≡ pre ++ (chained is ++ rest) = rw unnamed at parts in
-            let still : IsMine (step header rows s f.0).state p = rw (passes header rows s f.0 (nowhere f.0 unnamed)) mine in
-            foreign many (length is) _ _ tags.0 (not_member g f.0 (not_own g f.0 unnamed))
-            (chain many fs _ p pre is rest still begun parts_on others each out tags.1)
-      ]
-    where
-      nowhere : (t : ℕ) → is_named g t ≡ false → group_of t rows ≡ None
-      nowhere t unnamed = by_group (group_of t rows) (sym (named_of header rows tag 0 g table t) ∙ unnamed)
-        where
-          by_group : (w : Option ℕ) → is_some w ≡ false → w ≡ None
-          by_group None h = refl
-          by_group (Some h) e = absurd (true≢false e)
+      each : (fs : List Entry) (s : State) → has_tag tag fs ≡ false → AllByRecursion (IsPlace header rows tag 0 0 g table) (placed header rows s fs)
+          → AllByRecursion (IsRight rows tag many) (placed header rows s fs)
+      each [] s none clear = tt
+      each (f ∷ fs) s none clear =
+          let tags = or_parts (f.0 == tag) (has_tag tag fs) none in
+          (((λ same. let test : (f.0 == tag) ≡ true = grind (arith, nat_tests, same) in absurd (true≢false (sym test ∙ tags.0))), clear.0), each fs _ tags.1 clear.1)
 
   -- All fields.
 
@@ -431,7 +281,8 @@ module _ (header rows : List Row) (tag : ℕ) (g : Group) (table : IsTable heade
         let is_one : is_count f.0 rows ≡ true = ap (λ (t : ℕ). is_count t rows) same ∙ table.counts in
         let e : step header rows s f.0 ≡ record { stand = Within 0; state = record { begun = s.begun; outer = Some (opening f.0 0); inner = None } } = steps header rows table.apart s f.0 0 in_none ∙ rw is_one refl in
         let mine : IsMine (record { begun = s.begun; outer = Some (opening f.0 0); inner = None }) (opening f.0 0) = record { outer = refl; group = same; around = refl; inner = λ o h. absurd (none_some o h) } in
-        let right = chain (length is) fs _ (opening f.0 0) [] is rest mine (inl refl) parts tt each out (single.0 test) in
+        let its_members = chain header rows tag 0 0 g table IsMine stays fs _ (opening f.0 0) [] is rest mine (inl refl) parts tt each out in
+        let right = all_right (length is) (length is) fs _ (single.0 test) its_members in
         let told : tells (length is) f.1 ≡ true = rw this (told_right (length is) count.1 number) in
         rw e ((((λ is_tag. (refl, told)), (λ within. tt)), right.0), right.1)
 
@@ -465,12 +316,13 @@ module _ (header rows : List Row) (tag : ℕ) (g : Group) (table : IsTable heade
       let right = whole group.count is group.rest group.tag group.each group.behind group.number fs s group.front group.parts group.before single in
       none_shown rows tag ps ps (some_tag header rows tag 0 g table) (rw right.1 right.0) shown
 
-pub refused : (fields : List Entry) (tag : ℕ) (g : Group) (is : List (List Entry)) → is_grouped (type_in fields) ≡ true → fault_in fields ≡ Some (Count tag)
-    → is_count tag (rows_in fields) ≡ true → group_of tag (rows_in fields) ≡ Some 0 → IsOfTable (rows_in fields) tag g → IsGroup g fields is → ⊥
-refused fields tag g is grouped fault is_one count of group =
+pub refused : (fields : List Entry) (tag : ℕ) (g : Group) → is_grouped (type_in fields) ≡ true → fault_in fields ≡ Some (Count tag)
+    → group_of tag (rows_in fields) ≡ Some 0 → IsOfTable (rows_in fields) tag g → IsNoGroup g fields groups.Count
+refused fields tag g grouped fault count of =
     let rows = rows_in fields in
+    let is_one = (named fields tag grouped fault).0 in
     let p = plain (type_in fields) grouped in
     let zero = unlike_numbers 0 tag (not_zero rows p.none tag 0 count) in
     let table = table_of rows p tag 0 g is_one count (rw (zero, p.none, zero) refl) of in
     let told = count_told header_rows rows (placed_in fields) fields tag (rw grouped at fault) in
-    not_refused header_rows rows tag g table fields start is told.0 told.1 group
+    (present fields tag g grouped fault of, λ is group. not_refused header_rows rows tag g table fields start is told.0 told.1 group)

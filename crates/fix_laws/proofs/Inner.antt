@@ -88,7 +88,7 @@ module _ (header rows : List Row) (tag around q : ℕ) (g : Group) (table : IsTa
             let on = rw e at clear.1 in
             let far = foreign header rows tag around g table f.0 0 (not_outside f.0 its) its (no_group header rows tag around g table) in
             acts header rows tag q g was f fs s _ e
-            (leaves s.begun (grind (arith)) far.0 far.1
+            (leaves s.begun (grind (arith)) far
             (if_inside tag s.inner was _ at (λ o r a b c. let old = sound.inner_old o r a c in
             let none : (0 == r) ≡ false = grind (arith, nat_tests, old.0) in
             rw none (left header rows r fs _ (left_closed rows s f.0 r old.0 old.1) on)))
@@ -103,7 +103,7 @@ module _ (header rows : List Row) (tag around q : ℕ) (g : Group) (table : IsTa
             let not_its : f.0 ≡ tag → ⊥ = λ same. led (ap (λ (n : ℕ). first_tag n rows) (sym (its_around f.0 p.group its same)) ∙ sym first ∙ same) in
             let far = foreign header rows tag around g table f.0 p.group not_its its (other_group header rows tag around g table p.group of.0 unlike) in
             acts header rows tag q g was f fs s _ e
-            (leaves (s.begun + 1) (grind (arith)) far.0 far.1
+            (leaves (s.begun + 1) (grind (arith)) far
             (if_inside tag s.inner was _ at (λ o r a b c. let old = sound.inner_old o r a c in
             let newer : (s.begun + 1 == r) ≡ false = grind (arith, nat_tests, old.1) in
             rw newer (left header rows r fs _ (left_begun rows s f.0 r old.0 old.1 p) on)))
@@ -131,7 +131,7 @@ module _ (header rows : List Row) (tag around q : ℕ) (g : Group) (table : IsTa
                   let unlike = not_outside p.group of.0 in
                   let far = foreign header rows tag around g table f.0 p.group other its (other_group header rows tag around g table p.group of.0 unlike) in
                   acts header rows tag q g was f fs s _ e
-                  (leaves s.begun (grind (arith)) far.0 far.1
+                  (leaves s.begun (grind (arith)) far
                   (if_inside tag s.inner was _ at (λ o r a b c. let begun = sound.inner_old o r a c in
                   let out = unlike_numbers n r (λ same. sound.unlike p o r is_open a (this ∙ ap (λ (n : ℕ). Some n) same) c) in
                   rw out (left header rows r fs _ (left_on rows s f.0 r begun.0 begun.1 p n (λ h. sound.unlike p o r is_open a h c)) on)))
@@ -159,7 +159,7 @@ module _ (header rows : List Row) (tag around q : ℕ) (g : Group) (table : IsTa
                   let far = foreign header rows tag around g table f.0 o.group (not_within f.0 o.group of.0.group its of.1.1.0 none) its
                   (other_inner header rows tag around g table o.group of.0.group of.1.1.0 other (not_outside of.0.group none)) in
                   acts header rows tag q g was f fs s _ e
-                  (leaves (s.begun + 1) (grind (arith)) far.0 far.1
+                  (leaves (s.begun + 1) (grind (arith)) far
                   (if_inside tag s.inner was _ at (λ o' r a b c. absurd (at_other tag s.inner o is_open other o' a b)))
                   (quiet_begins rows tag q (s.begun + 1) o.around f (no_first header rows tag around g table f.0 o.group its other))
                   (inner_run fs _ Shut next sole (at_other tag _ (begun_at (s.begun + 1) o) refl other) all_on on))
@@ -182,7 +182,7 @@ module _ (header rows : List Row) (tag around q : ℕ) (g : Group) (table : IsTa
                   let far = foreign header rows tag around g table f.0 o.group (not_within f.0 o.group of.0.group its of.1.1.0 none) its
                   (other_inner header rows tag around g table o.group of.0.group of.1.1.0 other (not_outside of.0.group none)) in
                   acts header rows tag q g was f fs s _ e
-                  (leaves s.begun (grind (arith)) far.0 far.1
+                  (leaves s.begun (grind (arith)) far
                   (if_inside tag s.inner was _ at (λ o' r a b c. absurd (at_other tag s.inner o is_open other o' a b))) quiet
                   (inner_run fs _ Shut next sole (at_other tag _ o refl other) all_on on))
             ]

@@ -1,7 +1,10 @@
 pub mod Alone
 pub mod Chains
 pub mod Converse
+pub mod Doubled
+pub mod Faults
 pub mod Inner
+pub mod Members
 pub mod Named
 pub mod Outer
 pub mod Runs

@@ -15,9 +15,9 @@ use Rattle.fix_tables.specs.Places.{Placed, group_of, is_count, header_step, ste
 use Rattle.fix_tables.specs.Tables.{header_rows}
 use Rattle.fix_reading.specs.Messages.{fault_in, type_in}
 use Rattle.fix_laws.specs.Tied.{rows_in, placed_in}
-use Rattle.fix_laws.proofs.States.{none_some, same_some}
+use Rattle.fix_laws.proofs.States.{none_some, same_some, steps}
+use Rattle.fix_laws.proofs.Faults.{cond_some, next_some, count_told}
 use Rattle.fix_laws.proofs.Tables.{AreNamed, apart_of, plain}
-use Rattle.fix_laws.proofs.Converse.{cond_some, next_some, count_told, steps}
 
 -- a group is 0 or named
 abbrev IsNamed : List Row → ℕ → Type 0
@@ -164,14 +164,16 @@ module _ (header rows : List Row) (tag : ℕ) (all : List Placed) where
       by_shown None e on h = on h
       by_shown (Some t) e on h = shown_counts f s (group_of f.0 rows) refl (e ∙ h)
 
-pub counted : (fields : List Entry) (tag : ℕ) → is_grouped (type_in fields) ≡ true → fault_in fields ≡ Some (Count tag) → is_count tag (rows_in fields) ≡ true
-counted fields tag grouped fault =
-    let told = count_told header_rows (rows_in fields) (placed_in fields) fields tag (rw grouped at fault) in
-    tells_count header_rows (rows_in fields) tag (placed_in fields) fields start told.1
-
-pub named : (fields : List Entry) (tag : ℕ) → is_grouped (type_in fields) ≡ true → fault_in fields ≡ Some (Count tag) → group_of tag (rows_in fields) ≡ None → ⊥
-named fields tag grouped fault unnamed =
+pub named : (fields : List Entry) (tag : ℕ) → is_grouped (type_in fields) ≡ true → fault_in fields ≡ Some (Count tag)
+    → (is_count tag (rows_in fields) ≡ true) × (is_some (group_of tag (rows_in fields)) ≡ true)
+named fields tag grouped fault =
     let rows = rows_in fields in
     let p = plain (type_in fields) grouped in
-    let told = count_told header_rows rows (placed_in fields) fields tag (rw grouped at fault) in
-    tells_named header_rows rows (apart_of header_rows rows p.apart) refl p.named tag unnamed (placed_in fields) fields start told.1
+    let told = count_told header_rows rows (placed_in fields) fields tag (rw grouped at fault) in (
+      tells_count header_rows rows tag (placed_in fields) fields start told.1,
+      by_group (group_of tag rows) (λ unnamed. tells_named header_rows rows (apart_of header_rows rows p.apart) refl p.named tag unnamed (placed_in fields) fields start told.1),
+    )
+  where
+    by_group : (w : Option ℕ) → (w ≡ None → ⊥) → is_some w ≡ true
+    by_group None h = absurd (h refl)
+    by_group (Some h) k = refl

@@ -3,7 +3,7 @@ use Rattle.std.proofs.Common.{◌≡◌, ℕ, ◌+◌, true, false, List, [], �
 use Rattle.std.proofs.lemmas.Bool.Decides.{nat_tests}
 use Rattle.std.proofs.lemmas.Bool.{cases_eq}
 use Rattle.fix_fields.specs.Fields.{Entry}
-use Rattle.fix_fields.specs.Groups.{is_own, is_named}
+use Rattle.fix_fields.specs.Groups.{is_own}
 use Rattle.fix_fields.specs.declared.group.Group.{Group}
 use Rattle.fix_tables.specs.declared.table.Row.{Row}
 use Rattle.fix_tables.specs.declared.places.Stand.TheVariants.{Begins}
@@ -22,10 +22,10 @@ module _ (header rows : List Row) (tag : ℕ) (g : Group) (table : IsTable heade
       not_zero rows table.none h k around (same_some 0 h (sym table.count ∙ ap (λ (t : ℕ). group_of t rows) (sym same) ∙ its))
 
   -- what stands in another group outside of groups, or in a group in that one
-  beside : (t h : ℕ) → group_of t rows ≡ Some h → group_of h rows ≡ Some 0 → (h ≡ tag → ⊥) → (is_named g t ≡ true) × (is_own g t ≡ false)
+  beside : (t h : ℕ) → group_of t rows ≡ Some h → group_of h rows ≡ Some 0 → (h ≡ tag → ⊥) → is_own g t ≡ false
   beside t h its around unlike = foreign header rows tag 0 g table t h (no_count t h 0 its around) its (other_group header rows tag 0 g table h around unlike)
 
-  beneath : (t h k : ℕ) → group_of t rows ≡ Some h → group_of h rows ≡ Some k → (h ≡ tag → ⊥) → (k ≡ tag → ⊥) → (is_named g t ≡ true) × (is_own g t ≡ false)
+  beneath : (t h k : ℕ) → group_of t rows ≡ Some h → group_of h rows ≡ Some k → (h ≡ tag → ⊥) → (k ≡ tag → ⊥) → is_own g t ≡ false
   beneath t h k its around unlike outer = foreign header rows tag 0 g table t h (no_count t h k its around) its (other_inner header rows tag 0 g table h k around unlike outer)
 
   -- what each of the fields does, by the groups that are open
@@ -53,7 +53,7 @@ module _ (header rows : List Row) (tag : ℕ) (g : Group) (table : IsTable heade
               | inr other ↦
                   let far = foreign header rows tag 0 g table f.0 0 other its (no_group header rows tag 0 g table) in
                   acts header rows tag 0 g was f fs s _ e
-                  (leaves s.begun (grind (arith)) far.0 far.1
+                  (leaves s.begun (grind (arith)) far
                   (if_inside tag s.outer was _ at (λ p r a b c. let old = sound.outer_old p r a c in
                   let none : (0 == r) ≡ false = grind (arith, nat_tests, old.0) in
                   rw none (left header rows r fs _ (left_closed rows s f.0 r old.0 old.1) on)))
@@ -75,7 +75,7 @@ module _ (header rows : List Row) (tag : ℕ) (g : Group) (table : IsTable heade
               | inr other ↦
                   let far = beside f.0 p.group its outside.0 other in
                   acts header rows tag 0 g was f fs s _ e
-                  (leaves (s.begun + 1) (grind (arith)) far.0 far.1
+                  (leaves (s.begun + 1) (grind (arith)) far
                   (if_inside tag s.outer was _ at (λ p' r a b c. absurd (at_other tag s.outer p is_open other p' a b)))
                   (quiet_begins rows tag 0 (s.begun + 1) p.around f (no_first header rows tag 0 g table f.0 p.group its other))
                   (outer_run fs _ Shut next (at_other tag _ (begun_at (s.begun + 1) p) refl other) on))
@@ -95,7 +95,7 @@ module _ (header rows : List Row) (tag : ℕ) (g : Group) (table : IsTable heade
               | inr other ↦
                   let far = beside f.0 p.group its outside.0 other in
                   acts header rows tag 0 g was f fs s _ e
-                  (leaves s.begun (grind (arith)) far.0 far.1
+                  (leaves s.begun (grind (arith)) far
                   (if_inside tag s.outer was _ at (λ p' r a b c. absurd (at_other tag s.outer p is_open other p' a b))) quiet
                   (outer_run fs _ Shut next (at_other tag _ p refl other) on))
             ]
@@ -116,7 +116,7 @@ module _ (header rows : List Row) (tag : ℕ) (g : Group) (table : IsTable heade
               | inr other ↦
                   let far = beneath f.0 o.group around.0.group its around.1.1.0 unlike other in
                   acts header rows tag 0 g was f fs s _ e
-                  (leaves (s.begun + 1) (grind (arith)) far.0 far.1
+                  (leaves (s.begun + 1) (grind (arith)) far
                   (if_inside tag s.outer was _ at (λ p' r a b c. absurd (at_other tag s.outer around.0 around.1.0 other p' a b))) quiet
                   (outer_run fs _ Shut next (at_other tag s.outer around.0 around.1.0 other) on))
             ]
@@ -136,7 +136,7 @@ module _ (header rows : List Row) (tag : ℕ) (g : Group) (table : IsTable heade
               | inr other ↦
                   let far = beneath f.0 o.group around.0.group its around.1.1.0 unlike other in
                   acts header rows tag 0 g was f fs s _ e
-                  (leaves s.begun (grind (arith)) far.0 far.1
+                  (leaves s.begun (grind (arith)) far
                   (if_inside tag s.outer was _ at (λ p' r a b c. absurd (at_other tag s.outer around.0 around.1.0 other p' a b))) quiet
                   (outer_run fs _ Shut next (at_other tag s.outer around.0 around.1.0 other) on))
             ]

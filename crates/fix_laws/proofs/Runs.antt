@@ -51,7 +51,7 @@ quiet_begins rows tag home m around f other = ((λ b h. grind (arith, nat_tests,
 -- count, begins an instance, or goes on in one. Then `Then` holds of how the group stands, and of how many parts have begun.
 pub data Act (rows : List Row) (tag home : ℕ) (g : Group) (was : Status) (n : ℕ) (p : Placed) (ps : List Placed) (Then : Status → ℕ → Type 0) : Type 0 where
   skips : is_named g p.0.0 ≡ false → IfInside was (λ (r : ℕ). is_in r p.1 ≡ false) → IsQuiet rows tag home n p → Then was n → Act rows tag home g was n p ps Then
-  leaves : (m : ℕ) → n ≤ m → is_named g p.0.0 ≡ true → is_own g p.0.0 ≡ false → IfInside was (λ (r : ℕ). part r (p ∷ ps) ≡ []) → IsQuiet rows tag home m p
+  leaves : (m : ℕ) → n ≤ m → is_own g p.0.0 ≡ false → IfInside was (λ (r : ℕ). part r (p ∷ ps) ≡ []) → IsQuiet rows tag home m p
       → Then Shut m → Act rows tag home g was n p ps Then
   counts : p.0.0 ≡ tag → p.1 ≡ Within home → home ≤ n → Then Counted n → Act rows tag home g was n p ps Then
   starts : IsOpen was → p.0.0 ≡ first_tag tag rows → p.1 ≡ Begins (n + 1) home → IfInside was (λ (r : ℕ). part r (p ∷ ps) ≡ [])

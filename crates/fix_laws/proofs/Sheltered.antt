@@ -1,12 +1,13 @@
 -- Where fields are a group that stands within the one instance of another, no field shows it first to be miscounted.
-use Rattle.std.proofs.Common.{◌≡◌, ℕ, ◌+◌, true, false, Bool, List, [], ◌∷◌, ◌++◌, append_assoc, length, is_some, refl, sym, ap, subst, ◌∙◌, arith, ◌==◌, ◌&&◌, ◌||◌, not, Option, Some, None, inl, inr, ◌⊎◌}
+use Rattle.std.proofs.Common.{◌≡◌, ℕ, ◌+◌, ◌≤◌, true, false, Bool, List, [], ◌∷◌, ◌++◌, length, refl, sym, ap, subst, ◌∙◌, arith, ◌==◌, ◌&&◌, ◌||◌, not, Option, Some, None, inl, inr, ◌⊎◌}
 use Rattle.std.specs.List.{AllByRecursion}
 use Rattle.std.proofs.lemmas.Bool.Decides.{nat_tests}
 use Rattle.std.proofs.lemmas.Bool.{cases_eq, cases_Bool, true≢false}
 use Rattle.fix_fields.specs.Fields.{Entry}
-use Rattle.fix_fields.specs.Groups.{has, is_member, is_own, is_named, kept, HasNo, IsInstance, IsGroup, Tells, chained}
+use Rattle.fix_fields.specs.Groups.{is_member, is_own, is_named, kept, HasNo, IsInstance, IsGroup, IsNoGroup, Tells, chained}
 use Rattle.fix_fields.specs.GroupParts.{tells}
 use Rattle.fix_fields.specs.declared.group.Group.{Group}
+use Rattle.fix_fields.specs.declared.group.GroupFault.TheVariants as groups
 use Rattle.fix_dictionary.specs.Kinds.{is_grouped}
 use Rattle.fix_tables.specs.declared.faults.DictFault.TheVariants.{Count}
 use Rattle.fix_tables.specs.declared.table.Row.{Row}
@@ -21,17 +22,20 @@ use Rattle.fix_tables.specs.GroupFaults.{twice, is_wrong, miscounts, miscounted,
 use Rattle.fix_tables.specs.Places.{Placed, group_of, first_tag, is_count, inner_step, step, placed, start, begins, with_begin, part, opened}
 use Rattle.fix_tables.specs.Tables.{header_rows}
 use Rattle.fix_reading.specs.Messages.{fault_in, type_in}
-use Rattle.fix_laws.specs.Tied.{IsOfTable, is_within, rows_in, placed_in}
+use Rattle.fix_laws.specs.Tied.{IsOfTable, rows_in, placed_in}
 use Rattle.fix_laws.proofs.Views.{begun_at, view, aside, headed, closes, begins_outer, goes_outer, begins_inner, goes_inner, strays}
-use Rattle.fix_laws.proofs.States.{IsNoStray, none_some, same_some, opening, opened_is, unlike_numbers, IsSound, sound_closed, sound_begun, sound_on, sound_within, sound_inner, sound_start}
-use Rattle.fix_laws.proofs.Tags.{IsTable, not_zero, some_tag, named_of, no_member_first, no_member_in, not_tag}
+use Rattle.fix_laws.proofs.States.{IsNoStray, none_some, same_some, opening, opened_is, unlike_numbers, IsSound, sound_closed, sound_begun, sound_on, sound_within, sound_inner, sound_start, steps}
+use Rattle.fix_laws.proofs.Faults.{count_told}
+use Rattle.fix_laws.proofs.Named.{named}
+use Rattle.fix_laws.proofs.Tags.{IsTable, not_zero, some_tag, no_member_first, no_member_in, not_tag, place_of}
 use Rattle.fix_laws.proofs.Chains.{not_own, not_member}
 use Rattle.fix_laws.proofs.Ties.{stray_here, part_append}
 use Rattle.fix_laws.proofs.Tables.{plain, table_of, AreFlat, led_of}
 use Rattle.fix_reading.proofs.HoldLemmas.{cond_none}
 use Rattle.fix_reading.proofs.LookLemmas.{has_tag_append}
-use Rattle.fix_laws.proofs.Inner.{IsSole, AreSole, sole_behind, not_outside, its_around, not_within, all_begun}
-use Rattle.fix_laws.proofs.Converse.{not_shown, told_right, with_other, same_head, same_tail, not_empty, both, steps, passes, no_instances, count_told}
+use Rattle.fix_laws.proofs.Inner.{AreAll, IsSole, AreSole, sole_behind, not_outside, its_around, not_within, all_begun}
+use Rattle.fix_laws.proofs.Members.{IsPlace, Stays, chain, with_other, same_head, same_tail}
+use Rattle.fix_laws.proofs.Converse.{not_shown, present, told_right}
 
 -- the fault is shown behind a field that does not show it
 next_other : (a b : Option ℕ) (tag : ℕ) → (a ≡ Some tag → ⊥) → or_next a b ≡ Some tag → (a ≡ None) × (b ≡ Some tag)
@@ -171,112 +175,27 @@ module _ (header rows : List Row) (tag around q : ℕ) (g : Group) (table : IsTa
       let not_first : (t == first_tag o.group rows) ≡ false = rw held.group later in
       to_inner s o held t its ∙ rw (test, not_first, at) refl
 
-  -- no member is a stray, and so many instances begin in the part
-  abbrev IsPlace : Placed → Type 0
-  IsPlace p = group_of p.0.0 rows ≡ Some tag → IsNoStray p.1
-
-  abbrev ArePlaced : ℕ → List Placed → Type 0
-  ArePlaced n ps = AllByRecursion IsPlace ps × (length (begins first q ps) ≡ n)
-
-  beside : (n : ℕ) (p : Placed) (ps : List Placed) → (p.0.0 == first) ≡ false → IsPlace p → ArePlaced n ps → ArePlaced n (p ∷ ps)
-  beside n p ps later clear right = ((clear, right.0), ap length (with_other first q p.0.0 p.1 (begins first q ps) later) ∙ right.1)
-
-  -- a field that is no member
-  foreign : (n : ℕ) (f : Entry) (fs : List Entry) (s : State) → is_member g f.0 ≡ false → ArePlaced n (placed header rows (step header rows s f.0).state fs)
-      → ArePlaced n (placed header rows s (f ∷ fs))
-  foreign n f fs s out right =
-      beside n (f, (step header rows s f.0).stand) (placed header rows (step header rows s f.0).state fs) (no_member_first header rows tag around g table f.0 out)
-      (λ its. absurd (no_member_in header rows tag around g table f.0 out its)) right
-
-  behind : (fs : List Entry) (s : State) → HasNo (is_member g) (kept g fs) → ArePlaced 0 (placed header rows s fs)
-  behind [] s out = (tt, refl)
-  behind (f ∷ fs) s out =
-      elim (cases_Bool (is_named g f.0)) [
-        | inl named ↦
-            let each : HasNo (is_member g) (f ∷ kept g fs) = rw named at out in
-            foreign 0 f fs s each.0 (behind fs _ each.1)
-        | inr unnamed ↦
-            let on : HasNo (is_member g) (kept g fs) = rw unnamed at out in
-            foreign 0 f fs s (not_member g f.0 (not_own g f.0 unnamed)) (behind fs _ on)
-      ]
-
-  abbrev AreOthers : List Entry → Type 0
-  AreOthers fs = AllByRecursion (λ (e : Entry). has g.others.now e.0 ≡ true) fs
-
-  abbrev HasBegun : Open → List Entry → Type 0
-  HasBegun o pre = (pre ≡ []) ⊎ ((r : ℕ) × (o.instance ≡ Some r))
-
-  abbrev IsChained : List Entry → Type 0
-  IsChained fs = (s : State) (o : Open) (pre : List Entry) (is : List (List Entry)) (rest : List Entry) → IsHeld s o → HasBegun o pre
-      → kept g fs ≡ pre ++ (chained is ++ rest) → AreOthers pre → AllByRecursion (IsInstance g) is → HasNo (is_member g) rest → ArePlaced (length is) (placed header rows s fs)
-
-  -- what is a member, and not the first tag, stands in the group
-  place_of : (t : ℕ) → has g.others.now t ≡ true → ((t == first) ≡ false) × (group_of t rows ≡ Some tag)
-  place_of t other =
-      let tests = both (is_within rows tag (group_of t rows)) (t == first) (sym (table.of.others t) ∙ other) in
-      (tests.1, by_group (group_of t rows) refl tests.0)
+  -- so it is behind a member, which goes on in an instance, or begins one
+  stays : Stays header rows tag around q g table IsHeld
+  stays = record {
+    there = λ s o held. held.home;
+    starts = λ s o held t same.
+        let e = step_first s o held t same in (
+          ap (λ (d : Stepped). d.stand) e,
+          subst (λ (d : Stepped). IsHeld d.state (begun_at (s.begun + 1) o)) (sym e) (record { inner = refl; group = held.group; home = held.home }),
+        );
+    goes = λ s o r held at t other. goes_on s o r held at t (place_of header rows tag around g table t other);
+  }
     where
-      within : (w : Option ℕ) → some_or 0 w ≡ tag → w ≡ Some tag
-      within None e = absurd (some_tag header rows tag around g table e)
-      within (Some n) e = ap (λ (n : ℕ). Some n) e
-
-      by_group : (w : Option ℕ) → group_of t rows ≡ w → is_within rows tag w ≡ true → group_of t rows ≡ Some tag
-      by_group None its h = absurd (true≢false (sym h))
-      by_group (Some h) its is_in =
-          elim (cases_eq h tag) [
-            | inl same ↦ its ∙ ap (λ (n : ℕ). Some n) same
-            | inr unlike ↦
-                let test = unlike_numbers h tag unlike in
-                let test_on : (some_or 0 (group_of h rows) == tag) ≡ true = rw test at is_in in
-                let same : some_or 0 (group_of h rows) ≡ tag = grind (arith, nat_tests, test_on) in
-                absurd (flat t h its (within (group_of h rows) same))
-          ]
-
-  -- a field that the table names, by what it is of the group
-  chain_named : (f : Entry) (fs : List Entry) → IsChained fs → (s : State) (o : Open) (pre : List Entry) (is : List (List Entry)) (rest : List Entry)
-      → IsHeld s o → HasBegun o pre → f ∷ kept g fs ≡ pre ++ (chained is ++ rest) → AreOthers pre → AllByRecursion (IsInstance g) is → HasNo (is_member g) rest
-      → ArePlaced (length is) (placed header rows s (f ∷ fs))
-  chain_named f fs on s o (x ∷ pre) is rest held (inl none_begun) parts others each out = absurd (not_empty x pre (sym none_begun))
-  chain_named f fs on s o (x ∷ pre) is rest held (inr at) parts others each out =
-      let this = same_head f x _ _ parts in
-      let place = place_of f.0 (rw this others.0) in
-      let e = step_inside s o held f.0 at.0 place.1 place.0 at.1 in
-      let still : IsHeld (record { begun = s.begun; outer = s.outer; inner = Some o }) o = record { inner = refl; group = held.group; home = held.home } in
-      rw e (beside (length is) (f, Within at.0) _ place.0 (λ its. tt) (on _ o pre is rest still (inr at) (same_tail f x _ _ parts) others.1 each out))
-  chain_named f fs on s o [] [] rest held begun parts others each out =
-      let left : HasNo (is_member g) (f ∷ kept g fs) = subst (HasNo (is_member g)) (sym parts) out in
-      foreign 0 f fs s left.0 (behind fs _ left.1)
-  chain_named f fs on s o [] ([] ∷ is) rest held begun parts others each out = absurd each.0
-  chain_named f fs on s o [] ((x ∷ pre) ∷ is) rest held begun parts others each out =
-      let this = same_head f x _ _ parts in
-      let same : f.0 ≡ first = ap (λ (e : Entry). e.0) this ∙ each.0.0 ∙ table.of.first in
-      let e = step_first s o held f.0 same in
-      let test : (f.0 == first) ≡ true = grind (arith, nat_tests, same) in
-      let home : (o.around == q) ≡ true = grind (arith, nat_tests, held.home) in
-      let still : IsHeld (record { begun = s.begun + 1; outer = s.outer; inner = Some (begun_at (s.begun + 1) o) }) (begun_at (s.begun + 1) o) =
-      record { inner = refl; group = held.group; home = held.home } in
-      let right = on _ (begun_at (s.begun + 1) o) pre is rest still (inr (s.begun + 1, refl)) (same_tail f x _ _ parts ∙ append_assoc pre (chained is) rest) each.0.1 each.1 out in
-      rw e (((λ its. tt), right.0), rw (test, home) (rw right.1 refl))
-
-  chain : (fs : List Entry) → IsChained fs
-  chain [] s o pre is rest held begun parts others each out = (tt, no_instances g pre is rest parts each)
-  chain (f ∷ fs) s o pre is rest held begun parts others each out =
-      elim (cases_Bool (is_named g f.0)) [
-        | inl named ↦
-            let parts_on : f ∷ kept g fs ≡ pre ++ (chained is ++ rest) = rw named at parts in
-            chain_named f fs (chain fs) s o pre is rest held begun parts_on others each out
-        | inr unnamed ↦
-            let parts_on : kept g fs ≡ pre ++ (chained is ++ rest) = rw unnamed at parts in
-            let still : IsHeld (step header rows s f.0).state o = rw (passes header rows s f.0 (nowhere f.0 unnamed)) held in
-            foreign (length is) f fs s (not_member g f.0 (not_own g f.0 unnamed)) (chain fs _ o pre is rest still begun parts_on others each out)
-      ]
-    where
-      nowhere : (t : ℕ) → is_named g t ≡ false → group_of t rows ≡ None
-      nowhere t unnamed = by_group (group_of t rows) (sym (named_of header rows tag around g table t) ∙ unnamed)
-        where
-          by_group : (w : Option ℕ) → is_some w ≡ false → w ≡ None
-          by_group None h = refl
-          by_group (Some h) e = absurd (true≢false e)
+      goes_on : (s : State) (o : Open) (r : ℕ) → IsHeld s o → o.instance ≡ Some r → (t : ℕ)
+          → ((t == first) ≡ false) × ((group_of t rows ≡ Some tag) ⊎ ((h : ℕ) × ((group_of t rows ≡ Some h) × ((group_of h rows ≡ Some tag) × (h ≡ tag → ⊥)))))
+          → (group_of t rows ≡ Some tag → IsNoStray (step header rows s t).stand) × IsHeld (step header rows s t).state o
+      goes_on s o r held at t (later, inl its) =
+          let e = step_inside s o held t r its later at in (
+            (λ is. subst (λ (d : Stepped). IsNoStray d.stand) (sym e) tt),
+            subst (λ (d : Stepped). IsHeld d.state o) (sym e) (record { inner = refl; group = held.group; home = held.home }),
+          )
+      goes_on s o r held at t (later, inr deeper) = absurd (flat t deeper.0 deeper.1.0 deeper.1.1.0)
 
   -- Fields of which the first that shows a miscount shows this group's.
 
@@ -285,14 +204,14 @@ module _ (header rows : List Row) (tag around q : ℕ) (g : Group) (table : IsTa
   other_around same = not_outside header rows tag around q g table outside led around outside same
 
   -- a field that is not the count, and no member astray, does not show it
-  past : (all : List Placed) (f : Entry) (x : Stand) (next : Option ℕ) → (f.0 ≡ tag → ⊥) → IsPlace (f, x) → or_next (miscounts rows all f x) next ≡ Some tag
+  past : (all : List Placed) (f : Entry) (x : Stand) (next : Option ℕ) → (f.0 ≡ tag → ⊥) → IsPlace header rows tag around q g table (f, x) → or_next (miscounts rows all f x) next ≡ Some tag
       → IsNoStray x × (next ≡ Some tag)
   past all f x next other clear shown =
       let here = next_other (miscounts rows all f x) next tag (not_shown rows tag all f x (some_tag header rows tag around g table) ((λ same. absurd (other same)), clear)) shown in
       (stray_here rows all f x here.0, here.1)
 
   not_behind : (all : List Placed) (fs : List Entry) (s : State) (earlier : List Placed) → Kept s → AllSole (placed header rows s fs) → twice earlier (placed header rows s fs) ≡ None
-      → has_tag tag (part q earlier) ≡ true → AllByRecursion IsPlace (placed header rows s fs) → miscounted rows all (placed header rows s fs) ≡ Some tag → ⊥
+      → has_tag tag (part q earlier) ≡ true → AllByRecursion (IsPlace header rows tag around q g table) (placed header rows s fs) → miscounted rows all (placed header rows s fs) ≡ Some tag → ⊥
   not_behind all [] s earlier was sole new found clear shown = none_some tag shown
   not_behind all (f ∷ fs) s earlier was sole new found clear shown =
       let p : Placed = (f, (step header rows s f.0).stand) in
@@ -338,7 +257,7 @@ module _ (header rows : List Row) (tag around q : ℕ) (g : Group) (table : IsTa
               other_around (same_some around tag wrong)
           | inr opens ↦
               let held : IsHeld d.state (opening tag q) = record { inner = opens.1; group = refl; home = refl } in
-              let placed_right = chain fs d.state (opening tag q) [] is rest held (inl refl) parts tt each out in
+              let placed_right = chain header rows tag around q g table IsHeld stays fs d.state (opening tag q) [] is rest held (inl refl) parts tt each out in
               let passed : begins first q (p ∷ ps) ≡ begins first q ps = ap (λ (x : Stand). with_begin first q f.0 x (begins first q ps)) opens.0 in
               let many : length (begins first q all) ≡ length is = ap length (begun ∙ passed) ∙ placed_right.1 in
               let told : tells (length (begins first q all)) f.1 ≡ true = rw (many, this) (told_right (length is) count.1 number) in
@@ -400,11 +319,18 @@ module _ (header rows : List Row) (tag around q : ℕ) (g : Group) (table : IsTa
       whole (placed header rows start fs) group.count is group.rest group.tag group.each group.behind group.number fs start [] group.front
       (sound_start rows, (λ p n h same this. absurd (none_some p h))) sole new group.parts group.before refl shown
 
-pub refused_inside : (fields : List Entry) (tag around q : ℕ) (g : Group) (is : List (List Entry)) → is_grouped (type_in fields) ≡ true → fault_in fields ≡ Some (Count tag)
-    → is_count tag (rows_in fields) ≡ true → group_of tag (rows_in fields) ≡ Some around → group_of around (rows_in fields) ≡ Some 0
-    → begins (first_tag around (rows_in fields)) 0 (placed_in fields) ≡ q ∷ [] → IsOfTable (rows_in fields) tag g → IsGroup g fields is → ⊥
-refused_inside fields tag around q g is grouped fault is_one count outer sole of group =
+-- instances of which there are no two are all the same one
+at_most_one : (bs : List ℕ) → length bs ≤ 1 → (q : ℕ) × AreAll q bs
+at_most_one [] h = (0, tt)
+at_most_one (q ∷ []) h = (q, (refl, tt))
+at_most_one (q ∷ r ∷ bs) h = absurd (omega (arith, h))
+
+pub refused_inside : (fields : List Entry) (tag around : ℕ) (g : Group) → is_grouped (type_in fields) ≡ true → fault_in fields ≡ Some (Count tag)
+    → group_of tag (rows_in fields) ≡ Some around → group_of around (rows_in fields) ≡ Some 0
+    → length (begins (first_tag around (rows_in fields)) 0 (placed_in fields)) ≤ 1 → IsOfTable (rows_in fields) tag g → IsNoGroup g fields groups.Count
+refused_inside fields tag around g grouped fault count outer one of =
     let rows = rows_in fields in
+    let is_one = (named fields tag grouped fault).0 in
     let p = plain (type_in fields) grouped in
     let zero = unlike_numbers 0 tag (not_zero rows p.none tag around count) in
     let some = not_zero rows p.none around 0 outer in
@@ -413,4 +339,7 @@ refused_inside fields tag around q g is grouped fault is_one count outer sole of
     let led : first_tag around rows ≡ tag → ⊥ = λ same.
     true≢false (sym is_one ∙ ap (λ (t : ℕ). is_count t rows) (sym same) ∙ led_of rows rows p.led tag around count) in
     let told = count_told header_rows rows (placed_in fields) fields tag (rw grouped at fault) in
-    not_refused header_rows rows tag around q g table outer led (flat_of rows rows p.flat tag around count some) fields (rw sole (refl, tt)) is told.0 told.1 group
+    let all = at_most_one (begins (first_tag around rows) 0 (placed_in fields)) one in (
+      present fields tag g grouped fault of,
+      λ is group. not_refused header_rows rows tag around all.0 g table outer led (flat_of rows rows p.flat tag around count some) fields all.1 is told.0 told.1 group,
+    )

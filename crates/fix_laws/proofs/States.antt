@@ -1,5 +1,5 @@
 -- What holds of the groups that are open, field by field.
-use Rattle.std.proofs.Common.{◌≡◌, ℕ, ◌+◌, ◌≤◌, true, false, Bool, List, [], ◌∷◌, refl, sym, ap, ◌∙◌, arith, rules, ◌==◌, Some, None, inl, inr}
+use Rattle.std.proofs.Common.{◌≡◌, ℕ, ◌+◌, ◌≤◌, true, false, Bool, List, [], ◌∷◌, refl, sym, ap, ◌∙◌, arith, rules, ◌==◌, Option, Some, None, inl, inr}
 use Rattle.std.specs.List.{AllByRecursion}
 use Rattle.std.proofs.lemmas.Bool.Decides.{nat_tests}
 use Rattle.std.proofs.lemmas.Bool.{cases_eq}
@@ -10,7 +10,7 @@ use Rattle.fix_tables.specs.declared.places.Stand.TheVariants.{Aside, Within, Be
 use Rattle.fix_tables.specs.declared.places.Open.{Open}
 use Rattle.fix_tables.specs.declared.places.State.{State}
 use Rattle.fix_tables.specs.declared.places.Stepped.{Stepped}
-use Rattle.fix_tables.specs.Places.{Placed, group_of, is_count, opened, opened_in, step, placed, is_in, part, start}
+use Rattle.fix_tables.specs.Places.{Placed, group_of, is_count, opened, opened_in, step_in, header_step, step, placed, is_in, part, start}
 use Rattle.fix_laws.proofs.Views.{view, begun_at, aside, headed, closes, begins_outer, goes_outer, begins_inner, goes_inner, strays}
 
 -- no field stands astray
@@ -177,3 +177,20 @@ module _ (header rows : List Row) where
             (left q fs _ (record { some = gone.some; old = gone.old; outer = gone.outer; inner = λ o' h k. gone.inner o' (is_open ∙ h) k }) (rw e at clear.1))
         | strays n x e ↦ absurd (rw e at clear.0)
       ]
+
+-- a tag of the table is none of the header's
+pub steps : (header rows : List Row) → ((t x : ℕ) → group_of t header ≡ Some x → group_of t rows ≡ None) → (s : State) (t h : ℕ) → group_of t rows ≡ Some h
+    → step header rows s t ≡ step_in rows s t (Some h)
+steps header rows apart s t h its = by_header (group_of t header) refl
+  where
+    by_header : (w : Option ℕ) → group_of t header ≡ w → header_step rows s t w ≡ step_in rows s t (Some h)
+    by_header None e = rw its refl
+    by_header (Some x) e = absurd (none_some h (sym (apart t x e) ∙ its))
+
+-- a tag that the table does not name changes nothing
+pub passes : (header rows : List Row) (s : State) (t : ℕ) → group_of t rows ≡ None → (step header rows s t).state ≡ s
+passes header rows s t its = by_header (group_of t header)
+  where
+    by_header : (w : Option ℕ) → (header_step rows s t w).state ≡ s
+    by_header None = rw its refl
+    by_header (Some x) = refl

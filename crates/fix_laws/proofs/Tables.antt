@@ -10,17 +10,19 @@ use Rattle.fix_dictionary.specs.Kinds.{is_grouped}
 use Rattle.fix_dictionary.specs.declared.kinds.MessageType.{MessageType}
 use Rattle.fix_dictionary.specs.declared.kinds.MessageType.TheVariants as types
 use Rattle.fix_tables.specs.declared.places.State.{State}
+use Rattle.fix_tables.specs.declared.faults.DictFault.{DictFault}
+use Rattle.fix_tables.specs.declared.faults.DictFault.TheVariants.{Twice, Count}
 use Rattle.fix_tables.specs.declared.table.Row.{Row}
 use Rattle.fix_tables.specs.Told.{some_or}
+use Rattle.fix_tables.specs.Faults.{or_else}
 use Rattle.fix_tables.specs.GroupFaults.{twice, miscounted, placed_fault}
 use Rattle.fix_tables.specs.Places.{part, Placed, group_of, first_tag, is_count, step, placed, start, begins}
 use Rattle.fix_tables.specs.Tables.{header_rows, quote_request_rows, rows_of}
 use Rattle.fix_reading.specs.Messages.{fault_in, placed_as, type_in}
-use Rattle.fix_reading.proofs.HoldLemmas.{or_else_none}
 use Rattle.fix_reading.proofs.PlaceLemmas.{clean, count_range}
 use Rattle.fix_reading.proofs.QuoteRanges.{request_holds}
 use Rattle.fix_laws.proofs.Alone.{alone}
-use Rattle.fix_laws.specs.Tied.{stands_alone, IsOfTable, IsTied, group_in, is_within, tags, rows_in, placed_in}
+use Rattle.fix_laws.specs.Tied.{stands_alone, IsOfTable, IsTied, is_counted, group_in, is_within, is_beside, tags, rows_in, placed_in}
 use Rattle.fix_laws.proofs.States.{NoStrays, none_some, same_some, unlike_numbers, sound_start}
 use Rattle.fix_laws.proofs.Tags.{IsTable, not_zero}
 use Rattle.fix_laws.proofs.Runs.{Shut, IsRun}
@@ -176,53 +178,61 @@ pub table_of : (rows : List Row) → IsPlain rows → (tag around : ℕ) (g : Gr
 table_of rows p tag around g is_one count beyond of =
     record { apart = apart_of header_rows rows p.apart; none = p.none; count = count; beyond = beyond; counts = is_one; first = first_of_group rows rows p.firsts tag is_one; of = of }
 
--- what a table that finds no fault says first
-clean_of : (header rows : List Row) (ps : List Placed) (fields : List Entry) → placed_fault header rows ps fields ≡ None → (twice [] ps ≡ None) × (miscounted rows ps ps ≡ None)
+-- where no tag stands twice, what is told of a list of fields is told behind that, and so it is where no count is wrong
+none_twice : (o : Option ℕ) (next : Option DictFault) → is_counted (or_else Twice o next) ≡ true → (o ≡ None) × (is_counted next ≡ true)
+none_twice None next h = (refl, h)
+none_twice (Some tag) next h = absurd (true≢false (sym h))
+
+none_wrong : (o : Option ℕ) (next : Option DictFault) → is_counted (or_else Count o next) ≡ true → o ≡ None
+none_wrong None next h = refl
+none_wrong (Some tag) next h = absurd (true≢false (sym h))
+
+counted_of : (header rows : List Row) (ps : List Placed) (fields : List Entry) → is_counted (placed_fault header rows ps fields) ≡ true
+    → (twice [] ps ≡ None) × (miscounted rows ps ps ≡ None)
 unfolding placed_fault
-clean_of header rows ps fields h =
-    let a = or_else_none _ _ _ h in
-    let b = or_else_none _ _ _ a.1 in
-    (a.0, b.0)
+counted_of header rows ps fields h =
+    let a = none_twice (twice [] ps) _ h in
+    (a.0, none_wrong (miscounted rows ps ps) _ a.1)
 
 -- the fields are those that are placed
 pub placed_fields : (header rows : List Row) (fs : List Entry) (s : State) → fields_of (placed header rows s fs) ≡ fs
 placed_fields header rows [] s = refl
 placed_fields header rows (f ∷ fs) s = ap (λ (l : List Entry). f ∷ l) (placed_fields header rows fs (step header rows s f.0).state)
 
-module _ (fields : List Entry) (grouped : is_grouped (type_in fields) ≡ true) (clear : fault_in fields ≡ None) where
+module _ (fields : List Entry) (grouped : is_grouped (type_in fields) ≡ true) (counted : is_counted (fault_in fields) ≡ true) where
   -- no field stands twice, and no count is wrong
   right : (twice [] (placed_in fields) ≡ None) × (miscounted (rows_in fields) (placed_in fields) (placed_in fields) ≡ None)
   right =
-      let none : placed_fault header_rows (rows_in fields) (placed_in fields) fields ≡ None = rw grouped at clear in
-      clean_of header_rows (rows_in fields) (placed_in fields) fields none
+      let told : is_counted (placed_fault header_rows (rows_in fields) (placed_in fields) fields) ≡ true = rw grouped at counted in
+      counted_of header_rows (rows_in fields) (placed_in fields) fields told
 
   -- no field is a stray
   clear_of_strays : NoStrays (placed_in fields)
   clear_of_strays = no_strays (rows_in fields) (placed_in fields) (placed_in fields) right.1
 
-  -- fields without fault are a group by what each of them does to it
+  -- such fields are a group by what each of them does to it
   tied_in : (tag around home : ℕ) (g : Group) → IsTable header_rows (rows_in fields) tag around g → IsRun (rows_in fields) tag home g (placed_in fields) Shut 0
       → IsTied (rows_in fields) tag home g fields (placed_in fields)
   tied_in tag around home g table run =
       subst (λ (fs : List Entry). IsTied (rows_in fields) tag home g fs (placed_in fields)) (placed_fields header_rows (rows_in fields) fields start)
       (tied header_rows (rows_in fields) tag around home g table (placed_in fields) run right.0 right.1)
 
-pub outside : (fields : List Entry) (tag : ℕ) (g : Group) → is_grouped (type_in fields) ≡ true → fault_in fields ≡ None
+pub outside : (fields : List Entry) (tag : ℕ) (g : Group) → is_grouped (type_in fields) ≡ true → is_counted (fault_in fields) ≡ true
     → is_count tag (rows_in fields) ≡ true → group_of tag (rows_in fields) ≡ Some 0
     → IsOfTable (rows_in fields) tag g → IsTied (rows_in fields) tag 0 g fields (placed_in fields)
-outside fields tag g grouped clear is_one count of =
+outside fields tag g grouped counted is_one count of =
     let rows = rows_in fields in
     let p = plain (type_in fields) grouped in
     let zero = unlike_numbers 0 tag (not_zero rows p.none tag 0 count) in
     let table = table_of rows p tag 0 g is_one count (rw (zero, p.none, zero) refl) of in
-    tied_in fields grouped clear tag 0 0 g table
-    (outer_run header_rows rows tag g table fields start Shut (sound_start rows) (λ p h same. none_some p h) (clear_of_strays fields grouped clear))
+    tied_in fields grouped counted tag 0 0 g table
+    (outer_run header_rows rows tag g table fields start Shut (sound_start rows) (λ p h same. none_some p h) (clear_of_strays fields grouped counted))
 
-pub inside : (fields : List Entry) (tag around q : ℕ) (g : Group) → is_grouped (type_in fields) ≡ true → fault_in fields ≡ None
+pub inside : (fields : List Entry) (tag around q : ℕ) (g : Group) → is_grouped (type_in fields) ≡ true → is_counted (fault_in fields) ≡ true
     → is_count tag (rows_in fields) ≡ true → group_of tag (rows_in fields) ≡ Some around → group_of around (rows_in fields) ≡ Some 0
     → begins (first_tag around (rows_in fields)) 0 (placed_in fields) ≡ q ∷ []
     → IsOfTable (rows_in fields) tag g → IsTied (rows_in fields) tag q g fields (placed_in fields)
-inside fields tag around q g grouped clear is_one count outer sole of =
+inside fields tag around q g grouped counted is_one count outer sole of =
     let rows = rows_in fields in
     let p = plain (type_in fields) grouped in
     let zero = unlike_numbers 0 tag (not_zero rows p.none tag around count) in
@@ -230,9 +240,9 @@ inside fields tag around q g grouped clear is_one count outer sole of =
     let table = table_of rows p tag around g is_one count (rw (other, outer, zero) refl) of in
     let led : first_tag around rows ≡ tag → ⊥ = λ same.
     true≢false (sym is_one ∙ ap (λ (t : ℕ). is_count t rows) (sym same) ∙ led_of rows rows p.led tag around count) in
-    tied_in fields grouped clear tag around q g table
+    tied_in fields grouped counted tag around q g table
     (inner_run header_rows rows tag around q g table outer led fields start Shut (sound_start rows) (λ p n h same this. absurd (none_some p h)) (λ o h same. none_some o h)
-    (rw sole (refl, tt)) (clear_of_strays fields grouped clear))
+    (rw sole (refl, tt)) (clear_of_strays fields grouped counted))
 
 one_of : (qs : List ℕ) → (1 ≤ length qs) × (length qs ≤ 1) → (q : ℕ) × (qs ≡ q ∷ [])
 one_of [] h = absurd (omega (arith, h.0))
@@ -254,7 +264,7 @@ listed_group fields tag grouped =
       count = refl;
       first = refl;
       others = λ t. listed (λ t group. is_within rows tag (Some group) && not (t == first_tag tag rows)) rows rows p.firsts t ∙ other t (group_of t rows);
-      outside = λ t. listed (λ t group. not (is_within rows tag (Some group)) && not (t == tag)) rows rows p.firsts t ∙ beyond t (group_of t rows);
+      outside = λ t. listed (λ t group. is_beside rows tag t (Some group)) rows rows p.firsts t ∙ beside t (group_of t rows);
     }
   where
     other : (t : ℕ) (w : Option ℕ) → by_group (λ t group. is_within (rows_in fields) tag (Some group) && not (t == first_tag tag (rows_in fields))) t w
@@ -262,12 +272,11 @@ listed_group fields tag grouped =
     other t None = refl
     other t (Some group) = refl
 
-    beyond : (t : ℕ) (w : Option ℕ) → by_group (λ t group. not (is_within (rows_in fields) tag (Some group)) && not (t == tag)) t w
-        ≡ (is_some w && (not (is_within (rows_in fields) tag w) && not (t == tag)))
-    beyond t None = refl
-    beyond t (Some group) = refl
+    beside : (t : ℕ) (w : Option ℕ) → by_group (λ t group. is_beside (rows_in fields) tag t (Some group)) t w ≡ is_beside (rows_in fields) tag t w
+    beside t None = refl
+    beside t (Some group) = refl
 
-pub outside_of_groups : (fields : List Entry) → is_grouped (type_in fields) ≡ true → fault_in fields ≡ None
-    → part 0 (placed_in fields) ≡ filter (λ (f : Entry). stands_alone header_rows (rows_in fields) f.0) fields
-outside_of_groups fields grouped clear =
-    alone header_rows (rows_in fields) (plain (type_in fields) grouped).none fields start (sound_start (rows_in fields)) (clear_of_strays fields grouped clear)
+pub outside_of_groups : (fields : List Entry) → is_grouped (type_in fields) ≡ true → is_counted (fault_in fields) ≡ true
+    → part 0 (placed_in fields) ≡ filter (λ (f : Entry). stands_alone (rows_in fields) f.0) fields
+outside_of_groups fields grouped counted =
+    alone (rows_in fields) (plain (type_in fields) grouped).none fields start (sound_start (rows_in fields)) (clear_of_strays fields grouped counted)

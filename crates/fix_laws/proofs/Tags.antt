@@ -1,12 +1,13 @@
 -- What a table says of a tag, by one of its groups.
-use Rattle.std.proofs.Common.{◌≡◌, ℕ, true, false, Bool, List, refl, sym, ap, ◌∙◌, arith, ◌==◌, ◌&&◌, ◌||◌, not, Option, Some, None, is_some, inl, inr}
+use Rattle.std.proofs.Common.{◌≡◌, ℕ, true, false, Bool, List, refl, sym, ap, ◌∙◌, arith, ◌==◌, ◌&&◌, ◌||◌, not, Option, Some, None, is_some, inl, inr, ◌⊎◌}
 use Rattle.std.proofs.lemmas.Bool.Decides.{nat_tests}
 use Rattle.std.proofs.lemmas.Bool.{cases_eq, or_parts, true≢false}
 use Rattle.fix_fields.specs.Groups.{has, is_member, is_own, is_named}
 use Rattle.fix_fields.specs.declared.group.Group.{Group}
 use Rattle.fix_tables.specs.declared.table.Row.{Row}
+use Rattle.fix_tables.specs.Told.{some_or}
 use Rattle.fix_tables.specs.Places.{group_of, first_tag, is_count}
-use Rattle.fix_laws.specs.Tied.{IsOfTable, is_within, stands_in}
+use Rattle.fix_laws.specs.Tied.{IsOfTable, is_within, is_beside, stands_in}
 use Rattle.fix_laws.proofs.States.{none_some, same_some, unlike_numbers}
 
 -- The table has no tag 0, its header's tags are others, the group's count stands in another group or in none, and its first tag in it.
@@ -22,6 +23,12 @@ pub record IsTable (header rows : List Row) (tag around : ℕ) (g : Group) : Typ
 -- a tag that the table names is not 0
 pub not_zero : (rows : List Row) → group_of 0 rows ≡ None → (t h : ℕ) → group_of t rows ≡ Some h → 0 ≡ t → ⊥
 not_zero rows none t h its zero = none_some h (sym none ∙ ap (λ (t : ℕ). group_of t rows) zero ∙ its)
+
+-- both of two tests
+pub both : (a b : Bool) → (a && not b) ≡ true → (a ≡ true) × (b ≡ false)
+both true false h = (refl, refl)
+both true true h = absurd (true≢false (sym h))
+both false b h = absurd (true≢false (sym h))
 
 module _ (header rows : List Row) (tag around : ℕ) (g : Group) (table : IsTable header rows tag around g) where
   abbrev first : ℕ
@@ -51,6 +58,26 @@ module _ (header rows : List Row) (tag around : ℕ) (g : Group) (table : IsTabl
       with_true true = refl
       with_true false = refl
 
+  own_of : (t : ℕ) → is_own g t ≡ ((t == tag) || is_within rows tag (group_of t rows))
+  own_of t = rw (table.of.count, member_of t) refl
+
+  -- the header and what the table does not name
+  pub unnamed : (t : ℕ) → group_of t rows ≡ None → is_named g t ≡ false
+  unnamed t its =
+      let unlike = unlike_numbers t tag (λ same. none_some around (sym its ∙ ap (λ (t : ℕ). group_of t rows) same ∙ table.count)) in
+      let own : is_own g t ≡ false = own_of t ∙ rw (unlike, its) refl in
+      let ends : has g.outside.now t ≡ false = table.of.outside t ∙ ap (is_beside rows tag t) its in
+      rw (own, ends) refl
+
+  -- what is within the group
+  named_within : (t : ℕ) → is_within rows tag (group_of t rows) ≡ true → is_named g t ≡ true
+  named_within t within = rw (member_of t ∙ within) (by_test (t == g.count) (has g.outside.now t))
+    where
+      by_test : (a b : Bool) → ((a || true) || b) ≡ true
+      by_test true b = refl
+      by_test false b = refl
+
+  -- all that the table names
   pub named_of : (t : ℕ) → is_named g t ≡ is_some (group_of t rows)
   named_of t =
       elim (cases_eq t tag) [
@@ -61,23 +88,16 @@ module _ (header rows : List Row) (tag around : ℕ) (g : Group) (table : IsTabl
         | inr other ↦
             let test : (t == g.count) ≡ false = grind (arith, nat_tests, other, table.of.count) in
             let later : (t == tag) ≡ false = grind (arith, nat_tests) in
-            rw (test, member_of t, table.of.outside t, later) (by_place (group_of t rows))
+            rw (test, member_of t, table.of.outside t) (by_place later (group_of t rows))
       ]
     where
-      joined : (b : Bool) → (b || (true && (not b && not false))) ≡ true
-      joined true = refl
-      joined false = refl
+      joined : (within count : Bool) → count ≡ false → (within || (not within && not count)) ≡ true
+      joined true count other = refl
+      joined false count other = rw other refl
 
-      by_place : (w : Option ℕ) → (is_within rows tag w || (is_some w && (not (is_within rows tag w) && not false))) ≡ is_some w
-      by_place None = refl
-      by_place (Some h) = joined (is_within rows tag (Some h))
-
-  own_of : (t : ℕ) → is_own g t ≡ ((t == tag) || is_within rows tag (group_of t rows))
-  own_of t = rw (table.of.count, member_of t) refl
-
-  -- the header and what the table does not name
-  pub unnamed : (t : ℕ) → group_of t rows ≡ None → is_named g t ≡ false
-  unnamed t its = named_of t ∙ rw its refl
+      by_place : (t == tag) ≡ false → (w : Option ℕ) → (is_within rows tag w || is_beside rows tag t w) ≡ is_some w
+      by_place later None = refl
+      by_place later (Some h) = joined (is_within rows tag (Some h)) (t == tag) later
 
   -- a group outside of groups, other than this one
   pub other_group : (h : ℕ) → group_of h rows ≡ Some 0 → (h ≡ tag → ⊥) → is_within rows tag (Some h) ≡ false
@@ -92,8 +112,8 @@ module _ (header rows : List Row) (tag around : ℕ) (g : Group) (table : IsTabl
   no_group = let zero = unlike_numbers 0 tag some_tag in rw (zero, table.none, zero) refl
 
   -- what stands in a group that is none of this group's, or outside of groups
-  pub foreign : (t h : ℕ) → (t ≡ tag → ⊥) → group_of t rows ≡ Some h → is_within rows tag (Some h) ≡ false → (is_named g t ≡ true) × (is_own g t ≡ false)
-  foreign t h unlike its out = (named_of t ∙ rw its refl, own_of t ∙ rw (unlike_numbers t tag unlike, its) out)
+  pub foreign : (t h : ℕ) → (t ≡ tag → ⊥) → group_of t rows ≡ Some h → is_within rows tag (Some h) ≡ false → is_own g t ≡ false
+  foreign t h unlike its out = own_of t ∙ rw (unlike_numbers t tag unlike, its) out
 
   -- a tag that stands in another group is not this group's first
   pub no_first : (t h : ℕ) → group_of t rows ≡ Some h → (h ≡ tag → ⊥) → (t == first) ≡ false
@@ -101,7 +121,7 @@ module _ (header rows : List Row) (tag around : ℕ) (g : Group) (table : IsTabl
 
   -- the count and the first tag
   pub named_count : is_named g tag ≡ true
-  named_count = named_of tag ∙ rw table.count refl
+  named_count = let test : (tag == g.count) ≡ true = grind (arith, nat_tests, table.of.count) in rw test refl
 
   pub no_member : is_member g tag ≡ false
   no_member = member_of tag ∙ rw table.count table.beyond
@@ -110,7 +130,7 @@ module _ (header rows : List Row) (tag around : ℕ) (g : Group) (table : IsTabl
   first_member = member_of first ∙ rw (table.first, self) refl
 
   pub first_named : is_named g first ≡ true
-  first_named = named_of first ∙ rw table.first refl
+  first_named = named_within first (rw (table.first, self) refl)
 
   pub first_stands : stands_in tag (group_of first rows) ≡ true
   first_stands = rw table.first self
@@ -133,7 +153,7 @@ module _ (header rows : List Row) (tag around : ℕ) (g : Group) (table : IsTabl
   inside t its later =
       let within : is_within rows tag (group_of t rows) ≡ true = rw (its, self) refl in
       let other : has g.others.now t ≡ true = rw (table.of.others t, within, later) refl in
-      (named_of t ∙ rw its refl, (other, rw its self))
+      (named_within t within, (other, rw its self))
 
   pub deeper : (t h : ℕ) → group_of t rows ≡ Some h → group_of h rows ≡ Some tag → (h ≡ tag → ⊥)
       → (is_named g t ≡ true) × ((has g.others.now t ≡ true) × (stands_in tag (group_of t rows) ≡ false))
@@ -141,4 +161,42 @@ module _ (header rows : List Row) (tag around : ℕ) (g : Group) (table : IsTabl
       let other = unlike_numbers h tag unlike in
       let within : is_within rows tag (group_of t rows) ≡ true = rw (its, other, around, self) refl in
       let member : has g.others.now t ≡ true = rw (table.of.others t, within, no_first t h its unlike) refl in
-      (named_of t ∙ rw its refl, (member, rw (its, other) refl))
+      (named_within t within, (member, rw (its, other) refl))
+
+  -- what is a member, and not the first tag, stands in the group or in one within it
+  pub place_of : (t : ℕ) → has g.others.now t ≡ true → ((t == first) ≡ false) × ((group_of t rows ≡ Some tag) ⊎ ((h : ℕ) × ((group_of t rows ≡ Some h) × ((group_of h rows ≡ Some tag) × (h ≡ tag → ⊥)))))
+  place_of t other =
+      let tests = both (is_within rows tag (group_of t rows)) (t == first) (sym (table.of.others t) ∙ other) in
+      (tests.1, by_group (group_of t rows) refl tests.0)
+    where
+      within_it : (w : Option ℕ) → some_or 0 w ≡ tag → w ≡ Some tag
+      within_it None e = absurd (some_tag e)
+      within_it (Some n) e = ap (λ (n : ℕ). Some n) e
+
+      by_group : (w : Option ℕ) → group_of t rows ≡ w → is_within rows tag w ≡ true
+          → (group_of t rows ≡ Some tag) ⊎ ((h : ℕ) × ((group_of t rows ≡ Some h) × ((group_of h rows ≡ Some tag) × (h ≡ tag → ⊥))))
+      by_group None its h = absurd (true≢false (sym h))
+      by_group (Some h) its is_in =
+          elim (cases_eq h tag) [
+            | inl same ↦ inl (its ∙ ap (λ (n : ℕ). Some n) same)
+            | inr unlike ↦
+                let test = unlike_numbers h tag unlike in
+                let within : (some_or 0 (group_of h rows) == tag) ≡ true = rw test at is_in in
+                let same : some_or 0 (group_of h rows) ≡ tag = grind (arith, nat_tests, within) in
+                inr (h, (its, (within_it (group_of h rows) same, unlike)))
+          ]
+
+  -- it is not the count, nor is the first tag
+  pub other_unlike : (t : ℕ) → has g.others.now t ≡ true → t ≡ tag → ⊥
+  other_unlike t other same = true≢false (sym other ∙ ap (has g.others.now) same ∙ (or_parts (tag == g.first) (has g.others.now tag) no_member).1)
+
+  pub first_unlike : first ≡ tag → ⊥
+  first_unlike same = true≢false (sym first_member ∙ ap (is_member g) same ∙ no_member)
+
+  -- what is not named stands nowhere
+  pub nowhere : (t : ℕ) → is_named g t ≡ false → group_of t rows ≡ None
+  nowhere t unnamed = by_group (group_of t rows) (sym (named_of t) ∙ unnamed)
+    where
+      by_group : (w : Option ℕ) → is_some w ≡ false → w ≡ None
+      by_group None h = refl
+      by_group (Some h) e = absurd (true≢false e)

@@ -18,7 +18,7 @@ use Rattle.fix_tables.specs.GroupFaults.{repeats, twice, is_wrong, miscounts, mi
 use Rattle.fix_tables.specs.Places.{Placed, group_of, first_tag, is_count, is_in, part, begins, with_begin}
 use Rattle.fix_reading.proofs.HoldLemmas.{cond_none, some_not_none}
 use Rattle.fix_reading.proofs.LookLemmas.{has_tag_append}
-use Rattle.fix_laws.specs.Tied.{IsTied, direct}
+use Rattle.fix_laws.specs.Tied.{IsTied, in_itself}
 use Rattle.fix_laws.proofs.States.{IsNoStray, NoStrays}
 use Rattle.fix_laws.proofs.Tags.{IsTable, named_count, no_member, first_member}
 use Rattle.fix_laws.proofs.Runs.{Status, Shut, IsQuiet, skips, leaves, counts, starts, goes, IsRun}
@@ -89,7 +89,7 @@ module _ (header rows : List Row) (tag around home : ℕ) (g : Group) (table : I
   homes (p ∷ ps) was n run =
       elim run [
         | skips unnamed out quiet rest ↦ ((λ same. absurd (true≢false (sym named ∙ ap (is_named g) (sym same) ∙ unnamed))), homes ps _ _ rest)
-        | leaves m le its out gone quiet rest ↦ ((λ same. absurd (true≢false (sym owned ∙ ap (is_own g) (sym same) ∙ out))), homes ps _ _ rest)
+        | leaves m le out gone quiet rest ↦ ((λ same. absurd (true≢false (sym owned ∙ ap (is_own g) (sym same) ∙ out))), homes ps _ _ rest)
         | counts same stands le rest ↦ ((λ same. stands), homes ps _ _ rest)
         | starts is_open same stands gone rest ↦ ((λ is. absurd (true≢false (sym starting ∙ ap (is_member g) (sym same ∙ is) ∙ none))), homes ps _ _ rest)
         | goes m le its other same quiet rest ↦ ((λ is. absurd (true≢false (sym other ∙ ap (has g.others.now) is ∙ (or_parts (tag == g.first) (has g.others.now tag) none).1))), homes ps _ _ rest)
@@ -148,7 +148,7 @@ module _ (header rows : List Row) (tag around home : ℕ) (g : Group) (table : I
     each : AllByRecursion (IsInstance g) is
     behind : HasNo (is_member g) rest
     told : tells many count.1 ≡ true
-    there : map (direct rows tag) is ≡ map (λ (b : ℕ). part b ps) (begins (first_tag tag rows) home ps)
+    there : map (in_itself rows tag) is ≡ map (λ (b : ℕ). part b ps) (begins (first_tag tag rows) home ps)
     later : AllByRecursion (λ (b : ℕ). n < b) (begins (first_tag tag rows) home ps)
 
   -- or no field has a tag of the group
@@ -211,7 +211,7 @@ module _ (header rows : List Row) (tag around home : ℕ) (g : Group) (table : I
   find many (p ∷ ps) n run single right =
       elim run [
         | skips unnamed out quiet rest ↦ before n n many p ps (grind (arith)) (not_own g p.0.0 unnamed) quiet (find many ps n rest single.1 right.1)
-        | leaves m le named out gone quiet rest ↦ before n m many p ps le out quiet (find many ps m rest single.1 right.1)
+        | leaves m le out gone quiet rest ↦ before n m many p ps le out quiet (find many ps m rest single.1 right.1)
         | counts same stands le rest ↦
             let test : (p.0.0 == tag) ≡ true = grind (arith, nat_tests, same) in
             at_count n many p ps same stands le (right.0 same stands) (behind_count header rows tag around home g table ps n rest (single.0 test))
@@ -232,7 +232,7 @@ module _ (header rows : List Row) (tag around home : ℕ) (g : Group) (table : I
       by_place (inl none) = inl (none.0, rw none.1 refl)
       by_place (inr found) =
           let bs = begins (first_tag tag rows) home ps in
-          let many : length bs ≡ length found.is = sym (length-map bs (λ (b : ℕ). part b ps)) ∙ sym (ap length found.there) ∙ length-map found.is (direct rows tag) in
+          let many : length bs ≡ length found.is = sym (length-map bs (λ (b : ℕ). part b ps)) ∙ sym (ap length found.there) ∙ length-map found.is (in_itself rows tag) in
           inr (
             found.is,
             (

@@ -1,7 +1,8 @@
 use Rattle.fix_laws.proofs.Tables.{outside, inside, listed_group, outside_of_groups, sole}
-use Rattle.fix_laws.proofs.Converse.{refused}
+use Rattle.fix_laws.proofs.Converse.{refused, present}
 use Rattle.fix_laws.proofs.Sheltered.{refused_inside}
-use Rattle.fix_laws.proofs.Named.{named, counted}
+use Rattle.fix_laws.proofs.Named.{named}
+use Rattle.fix_laws.proofs.Doubled.{doubled}
 use Rattle.fix_laws.proofs.laws.places_are_groups.Goals as goal
 
 pub returns : goal.returns
@@ -13,6 +14,7 @@ returns c = record {
   listed = listed_group;
   refused = refused;
   refused_inside = refused_inside;
-  counted = counted;
   named = named;
+  present = present;
+  doubled = doubled;
 }
