@@ -7,9 +7,15 @@ use std::marker::Model;
 use venue_rules::Fact;
 
 /// The facts that a request adds to the held sides.
-#[derive(Drop)]
 pub struct HoldPlan {
     facts: Vec<Fact>,
+}
+
+// Written out, so that a proof sees one call where it is dropped, and not the drop of each part.
+impl Drop for HoldPlan {
+    fn drop(self) {
+        let HoldPlan { facts: _facts } = self;
+    }
 }
 
 impl Model for HoldPlan {
@@ -46,6 +52,7 @@ impl HoldPlan {
     pub(crate) fn into_facts(self) -> Vec<Fact>
         ensures { result.items ≡ self.facts }
     {
-        self.facts
+        let HoldPlan { facts } = self;
+        facts
     }
 }

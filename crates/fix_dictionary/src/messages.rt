@@ -468,7 +468,6 @@ pub struct BusinessMessageReject {
 }
 
 /// An application message.
-#[derive(Drop)]
 pub enum App {
     QuoteRequest(QuoteRequest),
     Quote(Quote),
@@ -490,10 +489,41 @@ pub enum App {
     Unsupported(OtherKind),
 }
 
+// Written out, so that a proof sees one call where it is dropped, and not the drop of each part.
+impl Drop for App {
+    fn drop(self) {
+        match self {
+            App::QuoteRequest(_a) => {}
+            App::Quote(_a) => {}
+            App::QuoteCancel(_a) => {}
+            App::QuoteResponse(_a) => {}
+            App::QuoteStatusReport(_a) => {}
+            App::QuoteRequestReject(_a) => {}
+            App::NewOrderSingle(_a) => {}
+            App::OrderCancelRequest(_a) => {}
+            App::OrderCancelReplaceRequest(_a) => {}
+            App::NewOrderCross(_a) => {}
+            App::ExecutionReport(_a) => {}
+            App::OrderCancelReject(_a) => {}
+            App::MarketDataRequest(_a) => {}
+            App::MarketDataSnapshot(_a) => {}
+            App::MarketDataRequestReject(_a) => {}
+            App::BusinessMessageReject(_a) => {}
+            App::Unsupported(_a) => {}
+        }
+    }
+}
+
 /// An application message in memory of its own: 8 bytes where it stands, whatever it says.
-#[derive(Drop)]
 pub struct BoxedApp {
     app: Box<App>,
+}
+
+// Written out, so that a proof sees one call where it is dropped, and not the drop of each part.
+impl Drop for BoxedApp {
+    fn drop(self) {
+        let BoxedApp { app: _app } = self;
+    }
 }
 
 impl Model for BoxedApp {
@@ -524,7 +554,8 @@ impl BoxedApp {
     pub fn into_inner(self) -> App
         ensures { result ≡ self }
     {
-        Box::into_inner(self.app)
+        let BoxedApp { app } = self;
+        Box::into_inner(app)
     }
 }
 

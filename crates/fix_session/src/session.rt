@@ -43,7 +43,6 @@ pub struct Unsent {
 }
 
 /// A session with one counterparty.
-#[derive(Drop)]
 pub struct Session {
     alloc: Global,
     ids: CompIds,
@@ -52,6 +51,21 @@ pub struct Session {
     store: Store,
     ready: VecDeque<Item>,
     wire: Wire,
+}
+
+// Written out, so that a proof sees one call where it is dropped, and not the drop of each part.
+impl Drop for Session {
+    fn drop(self) {
+        let Session {
+            alloc: _alloc,
+            ids: _ids,
+            line: _line,
+            cutter: _cutter,
+            store: _store,
+            ready: _ready,
+            wire: _wire,
+        } = self;
+    }
 }
 
 impl Model for Session {

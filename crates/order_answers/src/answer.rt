@@ -12,7 +12,6 @@ use std::marker::Model;
 use venue_rules::{Fact, Reply, What};
 
 /// What the book gains and what the held sides do, which of the two comes first, and the replies, in order.
-#[derive(Drop)]
 pub struct OrderAnswer {
     delay_first: bool,
     delay: HoldPlan,
@@ -20,6 +19,20 @@ pub struct OrderAnswer {
     replies: Vec<Reply>,
     reports: u64,
     traded: u64,
+}
+
+// Written out, so that a proof sees one call where it is dropped, and not the drop of each part.
+impl Drop for OrderAnswer {
+    fn drop(self) {
+        let OrderAnswer {
+            delay_first: _delay_first,
+            delay: _delay,
+            book: _book,
+            replies: _replies,
+            reports: _reports,
+            traded: _traded,
+        } = self;
+    }
 }
 
 impl Model for OrderAnswer {
@@ -169,20 +182,36 @@ impl OrderAnswer {
         ensures book { result.0.facts ≡ self.book }
         ensures delay { result.1.facts ≡ self.delay }
     {
-        (self.book, self.delay)
+        let OrderAnswer {
+            delay_first: _delay_first,
+            delay,
+            book,
+            replies: _replies,
+            reports: _reports,
+            traded: _traded,
+        } = self;
+        (book, delay)
     }
 
     /// The same answer, with what the held sides do: before the book's facts where `delay_first` is set, else after them.
     pub fn with_delay(self, delay_first: bool, delay: HoldPlan) -> OrderAnswer
         ensures { result ≡ record { delay_first = delay_first; delay = delay.facts; book = self.book; replies = self.replies } }
     {
+        let OrderAnswer {
+            delay_first: _delay_first,
+            delay: _delay,
+            book,
+            replies,
+            reports,
+            traded,
+        } = self;
         OrderAnswer {
             delay_first,
             delay,
-            book: self.book,
-            replies: self.replies,
-            reports: self.reports,
-            traded: self.traded,
+            book,
+            replies,
+            reports,
+            traded,
         }
     }
 }

@@ -8,11 +8,21 @@ use std::marker::Model;
 use venue_rules::{Fact, RoomQuote};
 
 /// What a request adds to the rooms: its facts, the quotes that it withdraws, and the hit that it is.
-#[derive(Drop)]
 pub struct RoomPlan {
     facts: Vec<Fact>,
     quotes: Vec<RoomQuote>,
     hit: Option<Hit>,
+}
+
+// Written out, so that a proof sees one call where it is dropped, and not the drop of each part.
+impl Drop for RoomPlan {
+    fn drop(self) {
+        let RoomPlan {
+            facts: _facts,
+            quotes: _quotes,
+            hit: _hit,
+        } = self;
+    }
 }
 
 impl Model for RoomPlan {
@@ -65,6 +75,11 @@ impl RoomPlan {
     pub(crate) fn into_facts(self) -> Vec<Fact>
         ensures { result.items ≡ self.facts }
     {
-        self.facts
+        let RoomPlan {
+            facts,
+            quotes: _quotes,
+            hit: _hit,
+        } = self;
+        facts
     }
 }

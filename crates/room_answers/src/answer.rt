@@ -18,12 +18,23 @@ pub(crate) fn made(plan: &RoomPlan) -> Option<&RoomQuote>
 }
 
 /// The facts that the rooms gain, and the replies, in order.
-#[derive(Drop)]
 pub struct RoomAnswer {
     plan: RoomPlan,
     replies: Vec<Reply>,
     reports: u64,
     trades: u64,
+}
+
+// Written out, so that a proof sees one call where it is dropped, and not the drop of each part.
+impl Drop for RoomAnswer {
+    fn drop(self) {
+        let RoomAnswer {
+            plan: _plan,
+            replies: _replies,
+            reports: _reports,
+            trades: _trades,
+        } = self;
+    }
 }
 
 impl Model for RoomAnswer {
@@ -89,6 +100,12 @@ impl RoomAnswer {
     pub fn into_plan(self) -> RoomPlan
         ensures { result.facts ≡ self.facts }
     {
-        self.plan
+        let RoomAnswer {
+            plan,
+            replies: _replies,
+            reports: _reports,
+            trades: _trades,
+        } = self;
+        plan
     }
 }

@@ -14,11 +14,20 @@ use venue_rules::{Reply, Who};
 pub const MOST_QUEUED: usize = 65_536;
 
 /// What waits for a session, and whether the session is cut. There is always room for the mark.
-#[derive(Drop)]
 pub struct Queue {
     pub waiting: VecDeque<Outgoing>,
     pub is_cut: bool,
     ghost has_room: { 1 ≤ deque_capacity waiting },
+}
+
+// Written out, so that a proof sees one call where it is dropped, and not the drop of each part.
+impl Drop for Queue {
+    fn drop(self) {
+        let Queue {
+            waiting: _waiting,
+            is_cut: _is_cut,
+        } = self;
+    }
 }
 
 // How many of the replies are for a participant.

@@ -24,7 +24,6 @@ use venue_rules::RoomFact;
 
 /// The book, the rooms and the held sides of a day, how many execution reports (message 8) there were, and what is read back:
 /// its trades, and its rooms in which there was a quote.
-#[derive(Drop)]
 pub(crate) struct Day {
     pub book: PriceBook,
     pub rooms: Rooms,
@@ -32,6 +31,20 @@ pub(crate) struct Day {
     pub reports: u64,
     pub traded: Trades,
     pub quoted: QuotedRooms,
+}
+
+// Written out, so that a proof sees one call where it is dropped, and not the drop of each part.
+impl Drop for Day {
+    fn drop(self) {
+        let Day {
+            book: _book,
+            rooms: _rooms,
+            held: _held,
+            reports: _reports,
+            traded: _traded,
+            quoted: _quoted,
+        } = self;
+    }
 }
 
 /// A day on which nothing has happened.

@@ -16,9 +16,15 @@ pub(crate) enum Part {
 }
 
 /// The facts that the venue gains, and the replies, in order.
-#[derive(Drop)]
 pub struct Plan {
     part: Part,
+}
+
+// Written out, so that a proof sees one call where it is dropped, and not the drop of each part.
+impl Drop for Plan {
+    fn drop(self) {
+        let Plan { part: _part } = self;
+    }
 }
 
 impl Model for Plan {
@@ -59,6 +65,7 @@ impl Plan {
     pub(crate) fn into_part(self) -> Part
         ensures { result ≡ self }
     {
-        self.part
+        let Plan { part } = self;
+        part
     }
 }

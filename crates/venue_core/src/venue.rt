@@ -22,12 +22,23 @@ use std::marker::Model;
 use venue_rules::{RoomFact, Taken, TradeFact};
 
 /// A swap execution facility: what it answers to each message, and what has happened on it.
-#[derive(Drop)]
 pub struct Venue {
     alloc: Global,
     market: Market,
     day: Day,
     items: u64,
+}
+
+// Written out, so that a proof sees one call where it is dropped, and not the drop of each part.
+impl Drop for Venue {
+    fn drop(self) {
+        let Venue {
+            alloc: _alloc,
+            market: _market,
+            day: _day,
+            items: _items,
+        } = self;
+    }
 }
 
 impl Model for Venue {

@@ -177,7 +177,6 @@ pub struct Unprocessed {
 }
 
 /// An answer of the venue.
-#[derive(Drop)]
 pub enum What {
     OrderRefused(OrderRefused),
     CrossRefused(CrossRefused),
@@ -197,11 +196,44 @@ pub enum What {
     Unprocessed(Unprocessed),
 }
 
+// Written out, so that a proof sees one call where it is dropped, and not the drop of each part.
+impl Drop for What {
+    fn drop(self) {
+        match self {
+            What::OrderRefused(_a) => {}
+            What::CrossRefused(_a) => {}
+            What::OrderEntered(_a) => {}
+            What::OrderFilled(_a) => {}
+            What::OrderUnfilled(_a) => {}
+            What::OrderCancelled(_a) => {}
+            What::OrderReplaced(_a) => {}
+            What::ChangeRefused(_a) => {}
+            What::RequestRefused(_a) => {}
+            What::RequestSent(_a) => {}
+            What::QuoteStatus(_a) => {}
+            What::QuoteSent(_a) => {}
+            What::RoomTraded(_a) => {}
+            What::Prices(_a) => {}
+            What::PricesRefused(_a) => {}
+            What::Unprocessed(_a) => {}
+        }
+    }
+}
+
 /// An answer and whom it goes to.
-#[derive(Drop)]
 pub struct Reply {
     pub to: Who,
     pub what: What,
+}
+
+// Written out, so that a proof sees one call where it is dropped, and not the drop of each part.
+impl Drop for Reply {
+    fn drop(self) {
+        let Reply {
+            to: _to,
+            what: _what,
+        } = self;
+    }
 }
 
 impl Reply {
