@@ -197,21 +197,9 @@ impl OrderAnswer {
     pub fn with_delay(self, delay_first: bool, delay: HoldPlan) -> OrderAnswer
         ensures { result ≡ record { delay_first = delay_first; delay = delay.facts; book = self.book; replies = self.replies } }
     {
-        let OrderAnswer {
-            delay_first: _delay_first,
-            delay: _delay,
-            book,
-            replies,
-            reports,
-            traded,
-        } = self;
-        OrderAnswer {
-            delay_first,
-            delay,
-            book,
-            replies,
-            reports,
-            traded,
-        }
+        let mut answer = self;
+        answer.delay_first = delay_first;
+        answer.delay = delay;
+        answer
     }
 }
