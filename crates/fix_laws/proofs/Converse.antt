@@ -24,7 +24,7 @@ use Rattle.fix_tables.specs.Tables.{header_rows}
 use Rattle.fix_reading.specs.Messages.{fault_in, type_in}
 use Rattle.fix_laws.specs.Tied.{IsOfTable, is_within, rows_in, placed_in}
 use Rattle.fix_laws.proofs.Views.{begun_at}
-use Rattle.fix_laws.proofs.States.{IsNoStray, none_some, same_some, opening, opened_is, unlike_numbers, steps}
+use Rattle.fix_laws.proofs.States.{IsNoStray, none_some, same_some, some_number, and_false, opening, opened_is, unlike_numbers, steps}
 use Rattle.fix_laws.proofs.Faults.{cond_some, next_some, count_told}
 use Rattle.fix_laws.proofs.Named.{named}
 use Rattle.fix_laws.proofs.Tags.{IsTable, not_zero, some_tag, no_member_first, no_member_in, not_tag, place_of, other_unlike, first_unlike}
@@ -45,25 +45,17 @@ not_shown rows tag all f (Within q) some right h =
     let its = right.0 shown.1 in
     let home : q ≡ 0 = same_part q (its.0) in
     let wrong : is_wrong rows all 0 tag f.1 ≡ true = rw (home, shown.1) at shown.0 in
-    true≢false (sym wrong ∙ rw its.1 (never (is_count tag rows)))
+    true≢false (sym wrong ∙ rw its.1 (and_false (is_count tag rows)))
   where
     same_part : (q : ℕ) → Within q ≡ Within 0 → q ≡ 0
     same_part q h = search (h, rules)
-
-    never : (b : Bool) → (b && not true) ≡ false
-    never true = refl
-    never false = refl
 not_shown rows tag all f (Begins q around) some right h =
     let its = right.0 (cond_some (is_wrong rows all q f.0 f.1) f.0 tag h).1 in
     unlike its.0
   where
     unlike : Begins q around ≡ Within 0 → ⊥
     unlike h = search (h, rules)
-not_shown rows tag all f (Stray q) some right h = right.1 (by_group (group_of f.0 rows) (same_some _ tag h))
-  where
-    by_group : (w : Option ℕ) → some_or 0 w ≡ tag → w ≡ Some tag
-    by_group None h = absurd (some h)
-    by_group (Some n) h = ap (λ (n : ℕ). Some n) h
+not_shown rows tag all f (Stray q) some right h = right.1 (some_number tag some (group_of f.0 rows) (same_some _ tag h))
 
 none_shown : (rows : List Row) (tag : ℕ) (all ps : List Placed) → (0 ≡ tag → ⊥) → AllByRecursion (IsRight rows tag (length (begins (first_tag tag rows) 0 all))) ps
     → miscounted rows all ps ≡ Some tag → ⊥
@@ -101,13 +93,13 @@ present fields tag g grouped fault of none =
     let rows = rows_in fields in
     let ps = placed_in fields in
     let told = count_told header_rows rows ps fields tag (rw grouped at fault) in
-    let some = some_number (group_of tag rows) (named fields tag grouped fault).1 in
+    let some = its_number (group_of tag rows) (named fields tag grouped fault).1 in
     none_shown rows tag ps ps (not_zero rows (plain (type_in fields) grouped).none tag some.0 some.1)
     (none_its header_rows rows tag g of (length (begins (first_tag tag rows) 0 ps)) fields start none) told.1
   where
-    some_number : (w : Option ℕ) → is_some w ≡ true → (n : ℕ) × (w ≡ Some n)
-    some_number None h = absurd (true≢false (sym h))
-    some_number (Some n) h = (n, refl)
+    its_number : (w : Option ℕ) → is_some w ≡ true → (n : ℕ) × (w ≡ Some n)
+    its_number None h = absurd (true≢false (sym h))
+    its_number (Some n) h = (n, refl)
 
 -- a number that is told
 pub told_right : (n : ℕ) (bytes : List ℕ) → Tells n bytes → tells n bytes ≡ true

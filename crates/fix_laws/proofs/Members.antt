@@ -34,7 +34,7 @@ pub not_empty : (e : Entry) (es : List Entry) → [] ≡ e ∷ es → ⊥
 not_empty e es h = search (h, rules)
 
 -- with no fields there are no instances
-pub no_instances : (g : Group) (pre : List Entry) (is : List (List Entry)) (rest : List Entry) → [] ≡ pre ++ (chained is ++ rest) → AllByRecursion (IsInstance g) is → 0 ≡ length is
+no_instances : (g : Group) (pre : List Entry) (is : List (List Entry)) (rest : List Entry) → [] ≡ pre ++ (chained is ++ rest) → AllByRecursion (IsInstance g) is → 0 ≡ length is
 no_instances g pre [] rest e each = refl
 no_instances g pre ([] ∷ is) rest e each = absurd each.0
 no_instances g [] ((f ∷ fs) ∷ is) rest e each = absurd (not_empty _ _ e)

@@ -15,7 +15,7 @@ use Rattle.fix_tables.specs.Places.{Placed, group_of, is_count, header_step, ste
 use Rattle.fix_tables.specs.Tables.{header_rows}
 use Rattle.fix_reading.specs.Messages.{fault_in, type_in}
 use Rattle.fix_laws.specs.Tied.{rows_in, placed_in}
-use Rattle.fix_laws.proofs.States.{none_some, same_some, steps}
+use Rattle.fix_laws.proofs.States.{none_some, same_some, or_true, steps}
 use Rattle.fix_laws.proofs.Faults.{cond_some, next_some, count_told}
 use Rattle.fix_laws.proofs.Tables.{AreNamed, apart_of, plain}
 
@@ -103,7 +103,7 @@ module _ (header rows : List Row) (apart : (t x : ℕ) → group_of t header ≡
             | inr some ↦ in_table f n its some (step header rows s f.0).stand h
           ]
 
-  pub tells_named : (fs : List Entry) (s : State) → miscounted rows all (placed header rows s fs) ≡ Some tag → ⊥
+  tells_named : (fs : List Entry) (s : State) → miscounted rows all (placed header rows s fs) ≡ Some tag → ⊥
   tells_named [] s h = none_some tag h
   tells_named (f ∷ fs) s h = tells_named fs _ (next_some _ (miscounted rows all (placed header rows (step header rows s f.0).state fs)) tag (shows_named f s) h)
 
@@ -121,12 +121,8 @@ group_counts (r ∷ rs) t h its =
           rw here refl
       | inr other ↦
           let test : (r.tag == t) ≡ false = grind (arith, nat_tests, other) in
-          rw (group_counts rs t h (rw test at its)) (right_true (r.group == h))
+          rw (group_counts rs t h (rw test at its)) (or_true (r.group == h))
     ]
-  where
-    right_true : (a : Bool) → (a || true) ≡ true
-    right_true true = refl
-    right_true false = refl
 
 module _ (header rows : List Row) (tag : ℕ) (all : List Placed) where
   own_counts : (f : Entry) (q : ℕ) → cond (is_wrong rows all q f.0 f.1) (Some f.0) None ≡ Some tag → is_count tag rows ≡ true
@@ -154,7 +150,7 @@ module _ (header rows : List Row) (tag : ℕ) (all : List Placed) where
   shown_counts f s None its h = unnamed_counts f s (group_of f.0 header) its h
   shown_counts f s (Some n) its h = named_counts f n its (step header rows s f.0).stand h
 
-  pub tells_count : (fs : List Entry) (s : State) → miscounted rows all (placed header rows s fs) ≡ Some tag → is_count tag rows ≡ true
+  tells_count : (fs : List Entry) (s : State) → miscounted rows all (placed header rows s fs) ≡ Some tag → is_count tag rows ≡ true
   tells_count [] s h = absurd (none_some tag h)
   tells_count (f ∷ fs) s h = by_shown (miscounts rows all f (step header rows s f.0).stand) refl (tells_count fs (step header rows s f.0).state) h
     where

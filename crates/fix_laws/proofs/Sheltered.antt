@@ -24,7 +24,7 @@ use Rattle.fix_tables.specs.Tables.{header_rows}
 use Rattle.fix_reading.specs.Messages.{fault_in, type_in}
 use Rattle.fix_laws.specs.Tied.{IsOfTable, rows_in, placed_in}
 use Rattle.fix_laws.proofs.Views.{begun_at, view, aside, headed, closes, begins_outer, goes_outer, begins_inner, goes_inner, strays}
-use Rattle.fix_laws.proofs.States.{IsNoStray, none_some, same_some, opening, opened_is, unlike_numbers, IsSound, sound_closed, sound_begun, sound_on, sound_within, sound_inner, sound_start, steps}
+use Rattle.fix_laws.proofs.States.{IsNoStray, none_some, same_some, or_true, and_false, opening, opened_is, unlike_numbers, IsSound, sound_closed, sound_begun, sound_on, sound_within, sound_inner, sound_start, steps}
 use Rattle.fix_laws.proofs.Faults.{count_told}
 use Rattle.fix_laws.proofs.Named.{named}
 use Rattle.fix_laws.proofs.Tags.{IsTable, not_zero, some_tag, no_member_first, no_member_in, not_tag, place_of}
@@ -49,11 +49,7 @@ has_before tag q earlier p found =
 
 has_behind : (tag q : ℕ) (earlier : List Placed) (p : Placed) → has_tag tag (part q (p ∷ [])) ≡ true → has_tag tag (part q (earlier ++ p ∷ [])) ≡ true
 has_behind tag q earlier p found =
-    ap (has_tag tag) (part_append q earlier (p ∷ [])) ∙ has_tag_append tag (part q earlier) (part q (p ∷ [])) ∙ rw found (right_true (has_tag tag (part q earlier)))
-  where
-    right_true : (a : Bool) → (a || true) ≡ true
-    right_true true = refl
-    right_true false = refl
+    ap (has_tag tag) (part_append q earlier (p ∷ [])) ∙ has_tag_append tag (part q earlier) (part q (p ∷ [])) ∙ rw found (or_true (has_tag tag (part q earlier)))
 
 -- no group stands within a group that is within another one
 flat_of : (all rows : List Row) → AreFlat all rows → (tag around : ℕ) → group_of tag all ≡ Some around → (0 ≡ around → ⊥)
@@ -261,7 +257,7 @@ module _ (header rows : List Row) (tag around q : ℕ) (g : Group) (table : IsTa
               let passed : begins first q (p ∷ ps) ≡ begins first q ps = ap (λ (x : Stand). with_begin first q f.0 x (begins first q ps)) opens.0 in
               let many : length (begins first q all) ≡ length is = ap length (begun ∙ passed) ∙ placed_right.1 in
               let told : tells (length (begins first q all)) f.1 ≡ true = rw (many, this) (told_right (length is) count.1 number) in
-              let right : is_wrong rows all q f.0 f.1 ≡ false = rw (same, told) (never (is_count tag rows)) in
+              let right : is_wrong rows all q f.0 f.1 ≡ false = rw (same, told) (and_false (is_count tag rows)) in
               let none : miscounts rows all f d.stand ≡ None = rw (opens.0, right) refl in
               let on : miscounted rows all ps ≡ Some tag = rw none at shown in
               let self : (f.0 == tag) ≡ true = grind (arith, nat_tests, same) in
@@ -270,10 +266,6 @@ module _ (header rows : List Row) (tag around q : ℕ) (g : Group) (table : IsTa
               let clear : IsNoStray d.stand = rw opens.0 tt in
               not_behind all fs d.state (earlier ++ p ∷ []) (next f fs s was sole clear) (all_on f fs s sole) fresh.1 (has_behind tag q earlier p found) placed_right.0 on
         ]
-      where
-        never : (b : Bool) → (b && not true) ≡ false
-        never true = refl
-        never false = refl
 
     -- a field before the count
     from_front : (f : Entry) (fs : List Entry) → IsClear fs → (s : State) (earlier : List Placed) (front : List Entry) → Kept s → AllSole (placed header rows s (f ∷ fs))

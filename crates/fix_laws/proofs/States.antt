@@ -1,5 +1,5 @@
 -- What holds of the groups that are open, field by field.
-use Rattle.std.proofs.Common.{◌≡◌, ℕ, ◌+◌, ◌≤◌, true, false, Bool, List, [], ◌∷◌, refl, sym, ap, ◌∙◌, arith, rules, ◌==◌, Option, Some, None, inl, inr}
+use Rattle.std.proofs.Common.{◌≡◌, ℕ, ◌+◌, ◌≤◌, true, false, Bool, List, [], ◌∷◌, refl, sym, ap, ◌∙◌, arith, rules, ◌==◌, ◌&&◌, ◌||◌, Option, Some, None, inl, inr}
 use Rattle.std.specs.List.{AllByRecursion}
 use Rattle.std.proofs.lemmas.Bool.Decides.{nat_tests}
 use Rattle.std.proofs.lemmas.Bool.{cases_eq}
@@ -10,6 +10,7 @@ use Rattle.fix_tables.specs.declared.places.Stand.TheVariants.{Aside, Within, Be
 use Rattle.fix_tables.specs.declared.places.Open.{Open}
 use Rattle.fix_tables.specs.declared.places.State.{State}
 use Rattle.fix_tables.specs.declared.places.Stepped.{Stepped}
+use Rattle.fix_tables.specs.Told.{some_or}
 use Rattle.fix_tables.specs.Places.{Placed, group_of, is_count, opened, opened_in, step_in, header_step, step, placed, is_in, part, start}
 use Rattle.fix_laws.proofs.Views.{view, begun_at, aside, headed, closes, begins_outer, goes_outer, begins_inner, goes_inner, strays}
 
@@ -28,6 +29,19 @@ none_some x h = search (h, rules)
 
 pub same_some : {X : Type 0} (x y : X) → Some x ≡ Some y → x ≡ y
 same_some x y h = search (h, rules)
+
+-- what is a number other than 0, where none is told as 0, has that number
+pub some_number : (n : ℕ) → (0 ≡ n → ⊥) → (w : Option ℕ) → some_or 0 w ≡ n → w ≡ Some n
+some_number n unlike None h = absurd (unlike h)
+some_number n unlike (Some m) h = ap (λ (n : ℕ). Some n) h
+
+pub or_true : (a : Bool) → (a || true) ≡ true
+or_true true = refl
+or_true false = refl
+
+pub and_false : (a : Bool) → (a && false) ≡ false
+and_false true = refl
+and_false false = refl
 
 abbrev pub opening : ℕ → ℕ → Open
 opening tag part = record { group = tag; around = part; instance = None }

@@ -8,7 +8,7 @@ use Rattle.fix_tables.specs.declared.table.Row.{Row}
 use Rattle.fix_tables.specs.Told.{some_or}
 use Rattle.fix_tables.specs.Places.{group_of, first_tag, is_count}
 use Rattle.fix_laws.specs.Tied.{IsOfTable, is_within, is_beside, stands_in}
-use Rattle.fix_laws.proofs.States.{none_some, same_some, unlike_numbers}
+use Rattle.fix_laws.proofs.States.{none_some, same_some, some_number, unlike_numbers}
 
 -- The table has no tag 0, its header's tags are others, the group's count stands in another group or in none, and its first tag in it.
 pub record IsTable (header rows : List Row) (tag around : ℕ) (g : Group) : Type 0 where
@@ -40,7 +40,7 @@ module _ (header rows : List Row) (tag around : ℕ) (g : Group) (table : IsTabl
   pub self : (tag == tag) ≡ true
   self = grind (arith, nat_tests)
 
-  pub member_of : (t : ℕ) → is_member g t ≡ is_within rows tag (group_of t rows)
+  member_of : (t : ℕ) → is_member g t ≡ is_within rows tag (group_of t rows)
   member_of t =
       elim (cases_eq t first) [
         | inl same ↦
@@ -78,7 +78,7 @@ module _ (header rows : List Row) (tag around : ℕ) (g : Group) (table : IsTabl
       by_test false b = refl
 
   -- all that the table names
-  pub named_of : (t : ℕ) → is_named g t ≡ is_some (group_of t rows)
+  named_of : (t : ℕ) → is_named g t ≡ is_some (group_of t rows)
   named_of t =
       elim (cases_eq t tag) [
         | inl same ↦
@@ -169,10 +169,6 @@ module _ (header rows : List Row) (tag around : ℕ) (g : Group) (table : IsTabl
       let tests = both (is_within rows tag (group_of t rows)) (t == first) (sym (table.of.others t) ∙ other) in
       (tests.1, by_group (group_of t rows) refl tests.0)
     where
-      within_it : (w : Option ℕ) → some_or 0 w ≡ tag → w ≡ Some tag
-      within_it None e = absurd (some_tag e)
-      within_it (Some n) e = ap (λ (n : ℕ). Some n) e
-
       by_group : (w : Option ℕ) → group_of t rows ≡ w → is_within rows tag w ≡ true
           → (group_of t rows ≡ Some tag) ⊎ ((h : ℕ) × ((group_of t rows ≡ Some h) × ((group_of h rows ≡ Some tag) × (h ≡ tag → ⊥))))
       by_group None its h = absurd (true≢false (sym h))
@@ -183,7 +179,7 @@ module _ (header rows : List Row) (tag around : ℕ) (g : Group) (table : IsTabl
                 let test = unlike_numbers h tag unlike in
                 let within : (some_or 0 (group_of h rows) == tag) ≡ true = rw test at is_in in
                 let same : some_or 0 (group_of h rows) ≡ tag = grind (arith, nat_tests, within) in
-                inr (h, (its, (within_it (group_of h rows) same, unlike)))
+                inr (h, (its, (some_number tag some_tag (group_of h rows) same, unlike)))
           ]
 
   -- it is not the count, nor is the first tag

@@ -19,7 +19,7 @@ use Rattle.fix_tables.specs.Places.{Placed, group_of, first_tag, is_count, is_in
 use Rattle.fix_reading.proofs.HoldLemmas.{cond_none, some_not_none}
 use Rattle.fix_reading.proofs.LookLemmas.{has_tag_append}
 use Rattle.fix_laws.specs.Tied.{IsTied, in_itself}
-use Rattle.fix_laws.proofs.States.{IsNoStray, NoStrays}
+use Rattle.fix_laws.proofs.States.{IsNoStray, NoStrays, or_true}
 use Rattle.fix_laws.proofs.Tags.{IsTable, named_count, no_member, first_member}
 use Rattle.fix_laws.proofs.Runs.{Status, Shut, IsQuiet, skips, leaves, counts, starts, goes, IsRun}
 use Rattle.fix_laws.proofs.Chains.{fields_of, past, later_still, not_own, Behind, behind_count}
@@ -120,12 +120,8 @@ module _ (header rows : List Row) (tag around home : ℕ) (g : Group) (table : I
       same_tag : (p.0.0 == tag) ≡ true → p.0.0 ≡ tag
       same_tag is = grind (arith, nat_tests, is)
 
-      right_true : (a : Bool) → (a || true) ≡ true
-      right_true true = refl
-      right_true false = refl
-
       here : (p.0.0 == tag) ≡ true → (has_tag tag (part home earlier) || has_tag tag (part home (p ∷ []))) ≡ true
-      here is = let self : (home == home) ≡ true = grind (arith, nat_tests) in rw (stands.0 (same_tag is), self, is) (right_true (has_tag tag (part home earlier)))
+      here is = let self : (home == home) ≡ true = grind (arith, nat_tests) in rw (stands.0 (same_tag is), self, is) (or_true (has_tag tag (part home earlier)))
 
       by_tag : repeats p.0.0 p.1 earlier ≡ false → (has_tag tag (part home (earlier ++ p ∷ [])) ≡ true → has_tag tag (fields_of ps) ≡ false)
           → has_tag tag (part home earlier) ≡ true → has_tag tag (part home (earlier ++ p ∷ [])) ≡ true
