@@ -44,10 +44,19 @@ impl Spins {
 }
 
 /// Wakes the thread that waits for it. It carries nothing, and no promise rests on it.
-#[derive(Drop)]
 pub struct Bell {
     asleep: AtomicU64,
     waker: Waker,
+}
+
+// Written out, so that a proof sees one call where it is dropped, and not the drop of each part.
+impl Drop for Bell {
+    fn drop(self) {
+        let Bell {
+            asleep: _asleep,
+            waker: _waker,
+        } = self;
+    }
 }
 
 impl Bell {
@@ -72,7 +81,6 @@ impl Bell {
 }
 
 /// A thread that waits for its bell, and for what else is registered.
-#[derive(Drop)]
 pub struct Sleeper {
     poll: Poll,
     events: Events,
@@ -80,6 +88,19 @@ pub struct Sleeper {
     /// So many turns in a row found nothing.
     idle: u64,
     spins: u64,
+}
+
+// Written out, so that a proof sees one call where it is dropped, and not the drop of each part.
+impl Drop for Sleeper {
+    fn drop(self) {
+        let Sleeper {
+            poll: _poll,
+            events: _events,
+            bell: _bell,
+            idle: _idle,
+            spins: _spins,
+        } = self;
+    }
 }
 
 impl Sleeper {

@@ -23,11 +23,21 @@ const MOST_GIVEN: usize = 256;
 
 /// A connection between what is read and what is written. One call of the system reads what many turns are given. What was written
 /// may wait, so that one call takes it with what is written after it.
-#[derive(Drop)]
 pub struct Connection<I: Read, O: Write> {
     input: BufReader<I>,
     output: O,
     waiting: Vec<u8>,
+}
+
+// Written out, so that a proof sees one call where it is dropped, and not the drop of each part.
+impl<I: Read + Drop, O: Write + Drop> Drop for Connection<I, O> {
+    fn drop(self) {
+        let Connection {
+            input: _input,
+            output: _output,
+            waiting: _waiting,
+        } = self;
+    }
 }
 
 impl<I: Read, O: Write> Model for Connection<I, O> {

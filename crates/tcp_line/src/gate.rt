@@ -13,7 +13,6 @@ use std::sync::{Arc, Wait};
 const MOST_UNREAD: u64 = 32;
 
 /// A gate that waits, where the last turns found nothing, until the line, its listener or the worker has something.
-#[derive(Drop)]
 pub struct TcpGate {
     sleeper: Sleeper,
     worker: Arc<Bell>,
@@ -21,6 +20,20 @@ pub struct TcpGate {
     has_stirred: bool,
     unread: u64,
     past: Past<bool>,
+}
+
+// Written out, so that a proof sees one call where it is dropped, and not the drop of each part.
+impl Drop for TcpGate {
+    fn drop(self) {
+        let TcpGate {
+            sleeper: _sleeper,
+            worker: _worker,
+            line: _line,
+            has_stirred: _has_stirred,
+            unread: _unread,
+            past: _past,
+        } = self;
+    }
 }
 
 impl TcpGate {
