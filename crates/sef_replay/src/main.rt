@@ -17,21 +17,31 @@ pub use failure::{Failure, Stop};
 pub use form::Form;
 pub use migrating::print_migrated;
 pub use printing::print_day;
-use sqlite::Connection;
+use sqlite::{Alter, Connection};
+use std::alloc::Global;
+use std::io::Write;
 use std::process::ExitCode;
 pub use trade::{print_trade, trade_number};
 use wanted::{Wanted, parted, print_wanted};
+
+// Over any store, so that what is proved of the one kind is passed on in one call.
+fn print_and_close<S: Alter + Drop, W: Write>(
+    alloc: Global,
+    conn: Connection<S>,
+    wanted: Wanted,
+    writer: &mut W,
+) -> Result<(), Failure> {
+    let (told, conn) = parted(print_wanted(alloc, conn, wanted, writer));
+    drop(conn);
+    told
+}
 
 /// Prints what is wanted of the trail at a path. The file is looked at before, so that none is made where there is none, and none that is
 /// no database is touched.
 fn print_trail(rt: &HostRuntime, path: &str, wanted: Wanted) -> Result<(), Failure> {
     file::look_at(rt, path)?;
     match Connection::open(rt, path) {
-        Ok(conn) => {
-            let (told, conn) = parted(print_wanted(rt.alloc(), conn, wanted, &mut rt.stdout()));
-            drop(conn);
-            told
-        }
+        Ok(conn) => print_and_close(rt.alloc(), conn, wanted, &mut rt.stdout()),
         Err(error) => Err(Failure::from(error)),
     }
 }
