@@ -1,5 +1,5 @@
 -- Where fields are a group that stands outside of groups, no field shows it to be miscounted.
-use Rattle.std.proofs.Common.{◌≡◌, ℕ, ◌+◌, true, false, Bool, List, [], ◌∷◌, ◌++◌, length, is_some, refl, sym, ap, subst, ◌∙◌, arith, rules, ◌==◌, ◌&&◌, not, Option, Some, None, inl, inr, ◌⊎◌}
+use Rattle.std.proofs.Common.{◌≡◌, ℕ, ◌+◌, true, false, List, [], ◌∷◌, ◌++◌, length, is_some, refl, sym, ap, subst, ◌∙◌, arith, rules, ◌==◌, Option, Some, None, inl, inr, ◌⊎◌}
 use Rattle.std.specs.List.{AllByRecursion}
 use Rattle.std.proofs.lemmas.Bool.Decides.{nat_tests}
 use Rattle.std.proofs.lemmas.Bool.{cases_eq, cases_Bool, or_parts, true≢false}
@@ -16,7 +16,6 @@ use Rattle.fix_tables.specs.declared.places.Stand.TheVariants.{Aside, Within, Be
 use Rattle.fix_tables.specs.declared.places.Open.{Open}
 use Rattle.fix_tables.specs.declared.places.State.{State}
 use Rattle.fix_tables.specs.declared.places.Stepped.{Stepped}
-use Rattle.fix_tables.specs.Told.{some_or}
 use Rattle.fix_tables.specs.Faults.{has_tag}
 use Rattle.fix_tables.specs.GroupFaults.{twice, is_wrong, miscounts, miscounted}
 use Rattle.fix_tables.specs.Places.{Placed, group_of, first_tag, is_count, opened_in, entered, outer_step, inner_step, step, placed, start, begins}
