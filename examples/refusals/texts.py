@@ -70,7 +70,7 @@ def lengths(program, folder):
 
 def trails(program, folder, day):
     """`serve` with a trail in which a row is missing, and with one that somebody has open."""
-    words = [program, "serve", "--participants", "of_the_day", "--instruments", "rows_of_the_day", "--port", "47960", "--turns", "1", "--trail", "day"]
+    words = [program, "serve", "--participants", "of_the_day", "--instruments", "rows_of_the_day", "--port", "25960", "--turns", "1", "--trail", "day"]
     shutil.copy(day, os.path.join(folder, "day"))
     with contextlib.closing(sqlite3.connect(os.path.join(folder, "day"), isolation_level=None)) as database:
         for name, column in (("of_the_day", "participants"), ("rows_of_the_day", "instruments")):
