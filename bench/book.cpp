@@ -1,4 +1,4 @@
-// The work of `world_transcript book` in C++: for each instrument and side a std::map of prices to lists of orders, each list by entry,
+// The work of `test_scenarios book` in C++: for each instrument and side a std::map of prices to lists of orders, each list by entry,
 // and std::unordered_map and std::unordered_set for identifiers. A request is checked for a used identifier, planned (its fills, linked
 // orders, room on the side) and then done. book RESTING GONE INSTRUMENTS TIMED prints the nanoseconds of a request
 // of each kind, the middle one of those timed.

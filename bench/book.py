@@ -1,10 +1,10 @@
-"""Times the book and the rooms by world_transcript and their peers in C++ in turn, at several sizes; prints nanoseconds and ratios."""
+"""Times the book and the rooms by test_scenarios and their peers in C++ in turn, at several sizes; prints nanoseconds and ratios."""
 
 import os
 import subprocess
 import sys
 
-PROGRAM = "crates/world_transcript/out/world_transcript"
+PROGRAM = "crates/test_scenarios/out/test_scenarios"
 # how many rest on each side of each instrument, how many orders came and went, how many instruments
 SIZES = (
     (10, 1_000, 1),
@@ -57,8 +57,8 @@ def time_rooms(timed, place):
 def main():
     timed, place = int(sys.argv[1]), sys.argv[2]
     # builds it where it is not built, and plays its transcript
-    with open("crates/world_transcript/stdin", "rb") as file:
-        subprocess.run(["rt", "run"], cwd="crates/world_transcript", check=True, stdin=file, capture_output=True)
+    with open("crates/test_scenarios/stdin", "rb") as file:
+        subprocess.run(["rt", "run"], cwd="crates/test_scenarios", check=True, stdin=file, capture_output=True)
     for resting, gone, instruments in SIZES:
         # (where many rest, one request is timed in each instrument)
         timed_here = min(timed, instruments) if resting * instruments > 10_000 else timed

@@ -1,4 +1,4 @@
-// The work of `world_transcript rooms` in C++: rooms and quotes by the identifiers that the venue gives them in std::unordered_map,
+// The work of `test_scenarios rooms` in C++: rooms and quotes by the identifiers that the venue gives them in std::unordered_map,
 // used identifiers in std::unordered_set, the open rooms by their ends in a std::set. A request, a quote or a hit is checked, planned and
 // then done. rooms GONE TIMED prints the nanoseconds of each, the middle one of those timed.
 #include <algorithm>

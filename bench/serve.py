@@ -7,8 +7,8 @@ import subprocess
 import sys
 import time
 
-sys.path.insert(0, "examples/hostile")
-from bytes import Attack  # noqa: E402
+sys.path.insert(0, "tests/robustness")
+from fuzz import Attack  # noqa: E402
 
 PROGRAM = "crates/venue_main/out/venue_main"
 FILES = ("--participants", "examples/participants.toml", "--instruments", "examples/instruments.toml")

@@ -1,11 +1,11 @@
-"""Writes what a counterparty sends, and times world_transcript, which feeds it to a session, and cksum over it in turn."""
+"""Writes what a counterparty sends, and times test_scenarios, which feeds it to a session, and cksum over it in turn."""
 
 import os
 import subprocess
 import sys
 import time
 
-PROGRAM = "crates/world_transcript/out/world_transcript"
+PROGRAM = "crates/test_scenarios/out/test_scenarios"
 SENT = "52=20250303-14:30:00|"
 LOGON = ("A", "98=0|108=30|1137=9|")
 OTHERS = (
@@ -43,8 +43,8 @@ def main():
     with open(path, "wb") as file:
         file.write(sent)
     # builds it where it is not built, and plays its transcript
-    with open("crates/world_transcript/stdin", "rb") as file:
-        subprocess.run(["rt", "run"], cwd="crates/world_transcript", check=True, stdin=file, capture_output=True)
+    with open("crates/test_scenarios/stdin", "rb") as file:
+        subprocess.run(["rt", "run"], cwd="crates/test_scenarios", check=True, stdin=file, capture_output=True)
     best = {}
     for _ in range(TURNS):
         for name, words in (("session", [PROGRAM, "feed"]), ("cksum", ["cksum"])):

@@ -1,10 +1,10 @@
-"""Writes what participants send, and times world_transcript over it."""
+"""Writes what participants send, and times test_scenarios over it."""
 
 import os
 import subprocess
 import sys
 
-PROGRAM = "crates/world_transcript/out/world_transcript"
+PROGRAM = "crates/test_scenarios/out/test_scenarios"
 SENT = "52=20250303-14:30:00|"
 LOGON = ("A", "98=0|108=30|1137=9|")
 # how many participants there are, and how many of them send
@@ -83,7 +83,7 @@ def stream(participants, senders, messages, kind):
 
 
 def times(path):
-    """What world_transcript tells of a message: nanoseconds through the world, the sessions and the venue."""
+    """What test_scenarios tells of a message: nanoseconds through the world, the sessions and the venue."""
     with open(path, "rb") as file:
         said = subprocess.run([PROGRAM, "timed"], stdin=file, check=True, capture_output=True, text=True).stdout
     words = said.splitlines()[-1].split()
@@ -110,8 +110,8 @@ def measure(kind, crowds, gone, place):
 def main():
     most, place = int(sys.argv[1]), sys.argv[2]
     # builds it where it is not built, and plays its transcript
-    with open("crates/world_transcript/stdin", "rb") as file:
-        subprocess.run(["rt", "run"], cwd="crates/world_transcript", check=True, stdin=file, capture_output=True)
+    with open("crates/test_scenarios/stdin", "rb") as file:
+        subprocess.run(["rt", "run"], cwd="crates/test_scenarios", check=True, stdin=file, capture_output=True)
     for what, kind, crowds in KINDS:
         for gone in (gone for gone in GONE if gone <= most):
             print(f"{what}, {gone} before:")

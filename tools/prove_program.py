@@ -14,7 +14,7 @@ import subprocess
 import sys
 import time
 
-import machine
+import host
 import prover
 import repository
 
@@ -180,7 +180,7 @@ def main(programs):
     os.makedirs(os.path.dirname(LOG), exist_ok=True)
     with open(LOG, "w", encoding="utf-8") as log:
         proving = Proving(programs, log)
-        lanes = machine.lanes()
+        lanes = host.parallelism()
         proving.begin(lanes)
         while proving.checks:
             time.sleep(0.2)

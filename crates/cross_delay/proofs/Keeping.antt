@@ -9,7 +9,7 @@ use Rattle.std.proofs.lemmas.Slice.Eq.{bytes_eq-Decides}
 use Rattle.venue_rules.specs.declared.facts.Fact.{Fact}
 use Rattle.venue_rules.specs.declared.facts.HeldSide.{HeldSide}
 use Rattle.venue_rules.specs.Facts.{held_in, held_sides, is_name}
-use Rattle.venue_rules.specs.Delay.{find_held, held, held_room, releases}
+use Rattle.venue_rules.specs.Delay.{find_held, held, held_capacity, releases}
 use Rattle.cross_delay.specs.Contents.{Contents}
 use Rattle.cross_delay.specs.DelayFacts.{is_delay_fact}
 use Rattle.cross_delay.specs.Kept.{IsDelay, are_own}
@@ -74,7 +74,7 @@ held-append fs gs =
     all-pass [] = refl
     all-pass (h ∷ hs) = ap (λ ks. h ∷ ks) (all-pass hs)
 
-below : (n : ℕ) → nat_le held_room n ≡ false → n < held_room
+below : (n : ℕ) → nat_le held_capacity n ≡ false → n < held_capacity
 below n h = grind (arith, nat_tests)
 
 step-own : (step : Step) → are_own (facts_of step) ≡ true
@@ -82,9 +82,9 @@ step-own Nothing = refl
 step-own (Holds h) = refl
 step-own (Drops who id cancel) = refl
 
-step-few : (fs : List Fact) (step : Step) → IsAllowed fs step → length (held fs) ≤ held_room → length (held fs) + length (held_sides (facts_of step)) ≤ held_room
+step-few : (fs : List Fact) (step : Step) → IsAllowed fs step → length (held fs) ≤ held_capacity → length (held fs) + length (held_sides (facts_of step)) ≤ held_capacity
 step-few fs Nothing h k = omega arith
-step-few fs (Holds x) h k = let l : length (held fs) < held_room = below (length (held fs)) h.0 in omega arith
+step-few fs (Holds x) h k = let l : length (held fs) < held_capacity = below (length (held fs)) h.0 in omega arith
 step-few fs (Drops who id cancel) h k = omega arith
 
 -- what was planned from here keeps what stays true
@@ -94,12 +94,12 @@ plan-kept delay added kept plan = record {
   few = let l : length (held_sides added) ≡ length (held_sides (facts_of plan.step)) = ap (λ fs. length (held_sides fs)) plan.made in omega (arith, held-append delay.facts added, l, step-few delay.facts plan.step plan.allowed kept.few);
 }
 
-pub planned : (facts : List Fact) (delay : Contents) (step : Step) (added : List Fact) → facts ≡ delay.facts → IsAllowed facts step → added ≡ facts_of step → length added ≤ delay.spare.room → IsPlanOf delay added
-planned facts delay step added same h e room = record {
+pub planned : (facts : List Fact) (delay : Contents) (step : Step) (added : List Fact) → facts ≡ delay.facts → IsAllowed facts step → added ≡ facts_of step → length added ≤ delay.spare.headroom → IsPlanOf delay added
+planned facts delay step added same h e headroom = record {
   step = step;
   allowed = let P : List Fact → Type 0 = λ fs. IsAllowed fs step in subst P same h;
   made = e;
-  room = room;
+  headroom = headroom;
 }
 
 -- fewer sides are held once one is dropped

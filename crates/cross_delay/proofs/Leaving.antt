@@ -9,8 +9,8 @@ use Rattle.venue_rules.specs.declared.facts.Fact.TheVariants.{Entered, Traded, R
 use Rattle.venue_rules.specs.declared.facts.HeldSide.{HeldSide}
 use Rattle.venue_rules.specs.declared.facts.Release.{Release}
 use Rattle.venue_rules.specs.Facts.{held_in, held_sides, is_bytes, is_cross_id_used, is_name, is_order_id_used, uses_order_id}
-use Rattle.venue_rules.specs.Delay.{due, find_held, held, held_room, releases}
-use Rattle.sorted_names.specs.Names.{is_of}
+use Rattle.venue_rules.specs.Delay.{due, find_held, held, held_capacity, releases}
+use Rattle.client_ids.specs.ClientIds.{is_of}
 use Rattle.cross_delay.specs.ByDue.{by_due, first_due, steps}
 use Rattle.cross_delay.specs.Contents.{Contents}
 use Rattle.cross_delay.specs.Kept.{are_own}
@@ -254,5 +254,5 @@ sides-kept delay added known plan = rw plan.made (sides-step delay.facts plan.st
 
 -- whether no more sides may be held
 
-pub full-kept : (fs : List Fact) (sides : List HeldSide) → sides ≡ by_due (held fs) → nat_le held_room (length sides) ≡ is_full fs
-full-kept fs sides same = ap (nat_le held_room) (ap length same ∙ length-by_due (held fs))
+pub full-kept : (fs : List Fact) (sides : List HeldSide) → sides ≡ by_due (held fs) → nat_le held_capacity (length sides) ≡ is_full fs
+full-kept fs sides same = ap (nat_le held_capacity) (ap length same ∙ length-by_due (held fs))

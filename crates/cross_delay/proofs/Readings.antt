@@ -4,7 +4,7 @@ use Rattle.std.proofs.lemmas.List.{drop_more, take_more, drop_all}
 use Rattle.std.proofs.lemmas.List.Elements.{filter_map-append}
 use Rattle.venue_rules.specs.declared.facts.Fact.{Fact}
 use Rattle.venue_rules.specs.declared.facts.HeldSide.{HeldSide}
-use Rattle.sorted_names.specs.declared.names.Name.{Name}
+use Rattle.client_ids.specs.declared.client_id.ClientId.{ClientId}
 use Rattle.cross_delay.specs.ByDue.{step, steps}
 use Rattle.cross_delay.specs.Used.{cross_name, cross_names, order_name, order_names}
 
@@ -31,7 +31,7 @@ pub ruleset steps_on = (steps-more, steps-end)
 order-more : (fs : List Fact) (i : ℕ) (f : Fact) → i < length fs → f ≡ get_or fs i f → order_names (take (i + 1) fs) ≡ order_names (take i fs) ++ cons_option (order_name f) []
 order-more fs i f h e = ap order_names (take-read fs i f h e) ∙ filter_map-append order_name (take i fs) (f ∷ [])
 
-pub order-some : (fs : List Fact) (i : ℕ) (f : Fact) (n : Name) → i < length fs → f ≡ get_or fs i f → order_name f ≡ Some n → order_names (take (i + 1) fs) ≡ order_names (take i fs) ++ n ∷ []
+pub order-some : (fs : List Fact) (i : ℕ) (f : Fact) (n : ClientId) → i < length fs → f ≡ get_or fs i f → order_name f ≡ Some n → order_names (take (i + 1) fs) ≡ order_names (take i fs) ++ n ∷ []
 order-some fs i f n h e some = order-more fs i f h e ∙ ap (λ o. order_names (take i fs) ++ cons_option o []) some
 
 pub order-none : (fs : List Fact) (i : ℕ) (f : Fact) → i < length fs → f ≡ get_or fs i f → order_name f ≡ None → order_names (take (i + 1) fs) ≡ order_names (take i fs)
@@ -42,7 +42,7 @@ pub ruleset order_names_on = (order-some, order-none, append_assoc)
 cross-more : (fs : List Fact) (i : ℕ) (f : Fact) → i < length fs → f ≡ get_or fs i f → cross_names (take (i + 1) fs) ≡ cross_names (take i fs) ++ cons_option (cross_name f) []
 cross-more fs i f h e = ap cross_names (take-read fs i f h e) ∙ filter_map-append cross_name (take i fs) (f ∷ [])
 
-pub cross-some : (fs : List Fact) (i : ℕ) (f : Fact) (n : Name) → i < length fs → f ≡ get_or fs i f → cross_name f ≡ Some n → cross_names (take (i + 1) fs) ≡ cross_names (take i fs) ++ n ∷ []
+pub cross-some : (fs : List Fact) (i : ℕ) (f : Fact) (n : ClientId) → i < length fs → f ≡ get_or fs i f → cross_name f ≡ Some n → cross_names (take (i + 1) fs) ≡ cross_names (take i fs) ++ n ∷ []
 cross-some fs i f n h e some = cross-more fs i f h e ∙ ap (λ o. cross_names (take i fs) ++ cons_option o []) some
 
 pub cross-none : (fs : List Fact) (i : ℕ) (f : Fact) → i < length fs → f ≡ get_or fs i f → cross_name f ≡ None → cross_names (take (i + 1) fs) ≡ cross_names (take i fs)

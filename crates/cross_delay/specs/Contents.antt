@@ -3,7 +3,7 @@ use Rattle.venue_rules.specs.declared.facts.Fact.{Fact}
 
 -- what there is space for without more memory: so many facts
 pub record Spare : Type 0 where
-  pub room : ℕ
+  pub headroom : ℕ
 
 -- the facts of the delay, in order, and what there is space for
 pub record Contents : Type 0 where

@@ -1,7 +1,7 @@
 use Rattle.std.specs.Prelude.{◌≡◌, ◌≤◌, Bool, true, List, length}
 use Rattle.std.specs.List.{list_all}
 use Rattle.venue_rules.specs.declared.facts.Fact.{Fact}
-use Rattle.venue_rules.specs.Delay.{held, held_room}
+use Rattle.venue_rules.specs.Delay.{held, held_capacity}
 use Rattle.cross_delay.specs.DelayFacts.{is_delay_fact}
 
 -- these are facts of the delay alone
@@ -11,4 +11,4 @@ are_own facts = list_all is_delay_fact facts
 -- what stays true of the facts of the delay
 pub record IsDelay (facts : List Fact) : Type 0 where
   pub own : are_own facts ≡ true
-  pub few : length (held facts) ≤ held_room
+  pub few : length (held facts) ≤ held_capacity

@@ -11,7 +11,7 @@ pub mod Kept
 -- what may happen to held sides in one step
 pub mod Steps
 -- what is kept of the facts: the sides that are held, and the identifiers that were used
-pub mod Past
+pub mod GhostHistory
 pub mod ByDue
 pub mod Used
 pub mod Standing

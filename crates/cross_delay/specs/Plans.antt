@@ -2,14 +2,14 @@ use Rattle.std.specs.Prelude.{◌≡◌, ℕ, Bool, true, nat_le, List, [], ◌�
 use Rattle.venue_rules.specs.declared.facts.Fact.{Fact}
 use Rattle.venue_rules.specs.declared.facts.Fact.TheVariants.{Held, Unheld}
 use Rattle.venue_rules.specs.declared.facts.HeldSide.{HeldSide}
-use Rattle.venue_rules.specs.Delay.{held, held_room}
+use Rattle.venue_rules.specs.Delay.{held, held_capacity}
 use Rattle.cross_delay.specs.declared.held.Refusal.{Refusal}
 use Rattle.cross_delay.specs.declared.held.Refusal.TheVariants.{Full, NoMemory}
 use Rattle.cross_delay.specs.Plan.{Plan}
 
 -- no more sides may be held
 abbrev pub is_full : List Fact → Bool
-is_full facts = nat_le held_room (length (held facts))
+is_full facts = nat_le held_capacity (length (held facts))
 
 -- a plan that changes nothing
 abbrev pub no_plan : Plan

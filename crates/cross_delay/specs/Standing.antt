@@ -9,7 +9,7 @@ use Rattle.cross_delay.specs.declared.held.Held.TheInside.{Inside}
 use Rattle.cross_delay.specs.ByDue.{by_due}
 use Rattle.cross_delay.specs.Contents.{Contents}
 use Rattle.cross_delay.specs.Kept.{IsDelay}
-use Rattle.cross_delay.specs.Past.{facts_in}
+use Rattle.cross_delay.specs.GhostHistory.{facts_in}
 use Rattle.cross_delay.specs.Used.{cross_names, order_names}
 
 -- a side that is held no longer had an identifier that was used, and no two sides have one identifier
@@ -18,7 +18,7 @@ pub record IsKnown (facts : List Fact) : Type 0 where
   pub apart : (who : ℕ) (id : List ℕ) → length (filter (λ h. is_name who id h.order.who h.order.id) (held_sides facts)) ≤ 1
 
 abbrev pub contents : Inside → Contents
-contents h = record { facts = facts_in h.past; spare = record { room = h.room } }
+contents h = record { facts = facts_in h.past; spare = record { headroom = h.headroom } }
 
 -- what is kept is what the facts leave: the sides that are held, the first to fall due first, and the identifiers that were used
 pub record IsStanding (h : Inside) : Type 0 where
@@ -27,6 +27,6 @@ pub record IsStanding (h : Inside) : Type 0 where
   pub sides : h.sides.items ≡ by_due (held (facts_in h.past))
   pub orders : h.orders.names ≡ order_names (facts_in h.past)
   pub crosses : h.crosses.names ≡ cross_names (facts_in h.past)
-  pub sides_room : vec_len h.sides + h.room ≤ vec_capacity h.sides
-  pub orders_room : h.room ≤ h.orders.room
-  pub crosses_room : h.room ≤ h.crosses.room
+  pub sides_capacity : vec_len h.sides + h.headroom ≤ vec_capacity h.sides
+  pub orders_capacity : h.headroom ≤ h.orders.headroom
+  pub crosses_capacity : h.headroom ≤ h.crosses.headroom

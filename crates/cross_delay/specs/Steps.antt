@@ -29,4 +29,4 @@ pub record IsPlanOf (delay : Contents) (added : List Fact) : Type 0 where
   pub step : Step
   pub allowed : IsAllowed delay.facts step
   pub made : added ≡ facts_of step
-  pub room : length added ≤ delay.spare.room
+  pub headroom : length added ≤ delay.spare.headroom

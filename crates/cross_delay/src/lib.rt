@@ -4,9 +4,9 @@
 //! `venue_rules` that read everything off them.
 #![tactic(auto)]
 
+mod ghost_history;
 mod held;
 mod laws;
-mod past;
 mod plan;
 mod sides;
 mod used;

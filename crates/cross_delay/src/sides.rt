@@ -39,7 +39,7 @@ pub(crate) fn find_side<'a>(
 // One side more, behind those that fall due no later.
 fn hold(sides: &mut Vec<HeldSide>, side: &HeldSide)
     requires rising { AreRising 0 sides.old.items }
-    requires room { vec_len sides.old < vec_capacity sides.old }
+    requires headroom { vec_len sides.old < vec_capacity sides.old }
     ensures sides { sides.new.items ≡ put_last side.now sides.old.items }
     ensures len { vec_len sides.new ≡ vec_len sides.old + 1 }
     ensures capacity { vec_capacity sides.new ≡ vec_capacity sides.old }
@@ -62,7 +62,7 @@ fn drop_named(sides: &mut Vec<HeldSide>, release: &Release)
 // One fact more.
 fn add_fact(sides: &mut Vec<HeldSide>, fact: &Fact)
     requires rising { AreRising 0 sides.old.items }
-    requires room { vec_len sides.old < vec_capacity sides.old }
+    requires headroom { vec_len sides.old < vec_capacity sides.old }
     ensures sides { sides.new.items ≡ step sides.old.items fact.now }
     ensures len { vec_len sides.new ≤ vec_len sides.old + 1 }
     ensures capacity { vec_capacity sides.new ≡ vec_capacity sides.old }
@@ -77,7 +77,7 @@ fn add_fact(sides: &mut Vec<HeldSide>, fact: &Fact)
 /// What facts more leave of them, for which there is room.
 pub(crate) fn add_facts(sides: &mut Vec<HeldSide>, facts: &[Fact])
     requires rising { AreRising 0 sides.old.items }
-    requires room { vec_len sides.old + length facts.now ≤ vec_capacity sides.old }
+    requires headroom { vec_len sides.old + length facts.now ≤ vec_capacity sides.old }
     ensures { sides.new.items ≡ steps sides.old.items facts.now }
 {
     for fact in facts {

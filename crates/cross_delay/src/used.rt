@@ -3,15 +3,15 @@ ghost use Rattle.std.specs.Prelude.{◌≡◌, ◌≤◌, ◌++◌, length};
 ghost use Rattle.venue_rules.specs.declared.facts.Fact.TheVariants.{Unheld};
 ghost use Rattle.cross_delay.specs.Used.{cross_name, cross_names, order_name, order_names};
 
-use sorted_names::{Name, NameIndex};
+use client_ids::{ClientId, IdIndex};
 use venue_rules::{Fact, Release};
 
 // The identifier of an order that a fact of the delay uses: of a held side, or of the cancel of one.
-fn order_name(fact: &Fact) -> Option<Name>
+fn order_name(fact: &Fact) -> Option<ClientId>
     ensures { result ≡ order_name fact.now }
 {
     match fact {
-        Fact::Held(side) => Some(Name {
+        Fact::Held(side) => Some(ClientId {
             who: side.order.who,
             id: side.order.id,
         }),
@@ -21,11 +21,11 @@ fn order_name(fact: &Fact) -> Option<Name>
 }
 
 // The identifier of the cancel by which a side is held no longer.
-fn cancel_name(release: &Release) -> Option<Name>
+fn cancel_name(release: &Release) -> Option<ClientId>
     ensures { result ≡ order_name (Unheld release.now) }
 {
     match &release.cancel {
-        Some(cancel) => Some(Name {
+        Some(cancel) => Some(ClientId {
             who: release.who,
             id: *cancel,
         }),
@@ -34,11 +34,11 @@ fn cancel_name(release: &Release) -> Option<Name>
 }
 
 // The identifier of a cross that a fact of the delay uses.
-fn cross_name(fact: &Fact) -> Option<Name>
+fn cross_name(fact: &Fact) -> Option<ClientId>
     ensures { result ≡ cross_name fact.now }
 {
     match fact {
-        Fact::Held(side) => Some(Name {
+        Fact::Held(side) => Some(ClientId {
             who: side.order.who,
             id: side.cross,
         }),
@@ -48,8 +48,8 @@ fn cross_name(fact: &Fact) -> Option<Name>
 
 #[tactic(auto, using(crate::proofs::Readings::order_names_on))]
 /// The identifiers of orders that facts more use, for which there is room.
-pub(crate) fn add_order_names(orders: &mut NameIndex, facts: &[Fact])
-    requires { length facts.now ≤ orders.old.room }
+pub(crate) fn add_order_names(orders: &mut IdIndex, facts: &[Fact])
+    requires { length facts.now ≤ orders.old.headroom }
     ensures { orders.new.names ≡ orders.old.names ++ order_names facts.now }
 {
     for fact in facts {
@@ -61,8 +61,8 @@ pub(crate) fn add_order_names(orders: &mut NameIndex, facts: &[Fact])
 
 #[tactic(auto, using(crate::proofs::Readings::cross_names_on))]
 /// The identifiers of crosses that facts more use, for which there is room.
-pub(crate) fn add_cross_names(crosses: &mut NameIndex, facts: &[Fact])
-    requires { length facts.now ≤ crosses.old.room }
+pub(crate) fn add_cross_names(crosses: &mut IdIndex, facts: &[Fact])
+    requires { length facts.now ≤ crosses.old.headroom }
     ensures { crosses.new.names ≡ crosses.old.names ++ cross_names facts.now }
 {
     for fact in facts {

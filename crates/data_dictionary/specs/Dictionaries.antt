@@ -1,15 +1,15 @@
 -- The text of a data dictionary, in QuickFIX's XML: the header, the messages and the trailer line by line, then each field of theirs.
 use Rattle.std.specs.Prelude.{ℕ, Bool, true, false, List, ◌++◌, codes, decimal}
 use Rattle.std.specs.List.{flat_map}
-use Rattle.fix_tables.specs.Tables.{header_rows}
-use Rattle.fix_tables.specs.declared.table.Row.{Row}
+use Rattle.fix_validation.specs.Tables.{header_rows}
+use Rattle.fix_validation.specs.declared.table.Row.{Row}
 use Rattle.data_dictionary.specs.declared.lines.Line.{Line}
 use Rattle.data_dictionary.specs.declared.lines.Mention.{Mention}
 use Rattle.data_dictionary.specs.declared.lines.Line.TheVariants.{Field, GroupBegin, GroupEnd}
 use Rattle.data_dictionary.specs.declared.dictionaries.Dictionary.{Dictionary}
 use Rattle.data_dictionary.specs.declared.dictionaries.Dictionary.TheVariants.{Transport, Application}
 use Rattle.data_dictionary.specs.Fields.{data_type_of, name_of, type_name_of}
-use Rattle.data_dictionary.specs.Layout.{application_tags, frame_begin, frame_end, lines_in, rows_told, transport_tags}
+use Rattle.data_dictionary.specs.Layout.{application_tags, frame_begin, frame_end, lines_in, rows_stated, transport_tags}
 use Rattle.data_dictionary.specs.MessageTypes.{Listed, application_types, session_types}
 use Rattle.data_dictionary.specs.Values.{Named, values_of}
 
@@ -39,7 +39,7 @@ message_head category kind = codes "    <message name='" ++ (kind.name ++ (codes
 
 -- a message of this category, admin or app
 unfoldable pub message_text : List ℕ → Listed → List ℕ
-message_text category kind = message_head category kind ++ (table_text (rows_told kind) ++ codes "    </message>\n")
+message_text category kind = message_head category kind ++ (table_text (rows_stated kind) ++ codes "    </message>\n")
 
 unfoldable pub value_text : Named → List ℕ
 value_text value = codes "      <value enum='" ++ (value.value ++ (codes "' description='" ++ (value.name ++ codes "'/>\n")))

@@ -2,10 +2,10 @@
 use Rattle.std.specs.Prelude.{◌≡◌, ◌⊎◌, ℕ, Bool, true, false, not, ◌&&◌, ◌||◌, List, [], ◌∷◌, ◌++◌, length, nat_lt, Option, Some, None, map}
 use Rattle.std.specs.List.{list_all}
 use Rattle.std.specs.Str.{bytes_eq}
-use Rattle.fix_tables.specs.Tables.{header_rows, rows_of}
+use Rattle.fix_validation.specs.Tables.{header_rows, rows_of}
 use Rattle.fix_dictionary.specs.Kinds.{is_session, type_of}
-use Rattle.fix_tables.specs.Table.{value_fault}
-use Rattle.fix_tables.specs.declared.table.Row.{Row}
+use Rattle.fix_validation.specs.Table.{value_fault}
+use Rattle.fix_validation.specs.declared.table.Row.{Row}
 use Rattle.fix_dictionary.specs.declared.kinds.MessageType.{MessageType}
 use Rattle.data_dictionary.specs.Fields.{data_type_of, name_of}
 use Rattle.data_dictionary.specs.Layout.{each, lines_in, said_by}
@@ -21,8 +21,8 @@ abbrev pub EachRowIsSaid : Type 0
 EachRowIsSaid = SaysEachRow header_rows × ((kind : MessageType) (begin : ℕ) → SaysEachRow (rows_of kind begin))
 
 -- the types of both dictionaries, by what 35 says
-abbrev pub codes_told : List (List ℕ)
-codes_told = each (session_types ++ application_types) (λ kind. kind.code)
+abbrev pub codes_stated : List (List ℕ)
+codes_stated = each (session_types ++ application_types) (λ kind. kind.code)
 
 abbrev pub is_among : List ℕ → List (List ℕ) → Bool
 is_among text [] = false
@@ -34,9 +34,9 @@ are_distinct [] = true
 are_distinct (text ∷ texts) = not (is_among text texts) && are_distinct texts
 
 -- A type that neither dictionary lists has no table: its messages have no tags of their own. No type is listed twice.
-abbrev pub EachTableIsTold : Type 0
-EachTableIsTold = ((kind : List ℕ) (begin : ℕ) → (is_among kind codes_told ≡ true) ⊎ (length (rows_of (type_of kind) begin) ≡ 0))
-    × (are_distinct codes_told ≡ true)
+abbrev pub EachTableIsStated : Type 0
+EachTableIsStated = ((kind : List ℕ) (begin : ℕ) → (is_among kind codes_stated ≡ true) ⊎ (length (rows_of (type_of kind) begin) ≡ 0))
+    × (are_distinct codes_stated ≡ true)
 
 -- whether a type is one of the session's own
 abbrev pub is_of_session : Listed → Bool
@@ -52,8 +52,8 @@ are_rising [] = true
 are_rising (n ∷ ns) = list_all (nat_lt n) ns && are_rising ns
 
 -- The tags of each dictionary stand once, under names of their own.
-abbrev pub NamesTellFields : List ℕ → Type 0
-NamesTellFields tags = (are_rising tags ≡ true) × (are_distinct ([] ∷ map name_of tags) ≡ true)
+abbrev pub NamesStateFields : List ℕ → Type 0
+NamesStateFields tags = (are_rising tags ≡ true) × (are_distinct ([] ∷ map name_of tags) ≡ true)
 
 -- Of the fields that have values in a dictionary, each value is one that is read, in each table.
 abbrev pub is_none : {A : Type 0} → Option A → Bool
@@ -67,5 +67,5 @@ abbrev pub are_read : List ℕ → Bool
 are_read kind = all_of (rows_of (type_of kind) 0) (λ row. all_of (values_of (data_type_of row.tag)) (λ named. is_none (value_fault row.form named.value)))
 
 abbrev pub ValuesAreRead : Type 0
-ValuesAreRead = (list_all are_read codes_told ≡ true)
+ValuesAreRead = (list_all are_read codes_stated ≡ true)
     × (all_of header_rows (λ row. all_of (values_of (data_type_of row.tag)) (λ named. is_none (value_fault row.form named.value))) ≡ true)

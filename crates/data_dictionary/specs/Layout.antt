@@ -1,8 +1,8 @@
 -- The lines of a table: a field for each row, and a group round the rows of its instances.
 use Rattle.std.specs.Prelude.{ℕ, Bool, true, false, List, [], ◌∷◌, ◌++◌, nat_eq, nat_lt, map}
 use Rattle.std.specs.List.{flat_map, list_any}
-use Rattle.fix_tables.specs.Tables.{header_rows, rows_of}
-use Rattle.fix_tables.specs.declared.table.Row.{Row}
+use Rattle.fix_validation.specs.Tables.{header_rows, rows_of}
+use Rattle.fix_validation.specs.declared.table.Row.{Row}
 use Rattle.fix_dictionary.specs.Kinds.{type_of}
 use Rattle.data_dictionary.specs.declared.lines.Mention.{Mention}
 use Rattle.data_dictionary.specs.declared.lines.Line.{Line}
@@ -11,16 +11,16 @@ use Rattle.data_dictionary.specs.MessageTypes.{Listed, application_types, sessio
 
 -- what is told of each of these rows
 abbrev pub each : {A B : Type 0} → List A → (A → B) → List B
-each things told = map told things
+each things stated = map stated things
 
 -- the rows of a type, by which messages of the type are read and printed (which number a resend request begins with says only what its
 -- 16 may be)
-abbrev pub rows_told : Listed → List Row
-rows_told kind = rows_of (type_of kind.code) 0
+abbrev pub rows_stated : Listed → List Row
+rows_stated kind = rows_of (type_of kind.code) 0
 
 -- how a line names the field of a row, and a field that each message has
-abbrev pub told : Row → Mention
-told row = record { tag = row.tag; required = row.required }
+abbrev pub stated : Row → Mention
+stated row = record { tag = row.tag; required = row.required }
 
 abbrev pub required : ℕ → Mention
 required tag = record { tag = tag; required = true }
@@ -41,8 +41,8 @@ abbrev pub lines_in : ℕ → List Row → List Line
 lines_in group [] = []
 lines_in group (row ∷ rows) = elim (nat_eq row.group group) [
   | true ↦ elim (is_counted row.tag rows) [
-    | true ↦ GroupBegin (told row) ∷ lines_in row.tag rows ++ GroupEnd ∷ lines_in group rows
-    | false ↦ Field (told row) ∷ lines_in group rows
+    | true ↦ GroupBegin (stated row) ∷ lines_in row.tag rows ++ GroupEnd ∷ lines_in group rows
+    | false ↦ Field (stated row) ∷ lines_in group rows
   ]
   | false ↦ lines_in group rows
 ]
@@ -89,7 +89,7 @@ tags_of rows = each rows (λ row. row.tag)
 
 -- the tags of the frame, the header and the session's messages, and those of the application messages
 unfoldable pub transport_tags : List ℕ
-transport_tags = rising (each (frame_begin ++ frame_end) (λ field. field.tag) ++ tags_of (header_rows ++ flat_map rows_told session_types))
+transport_tags = rising (each (frame_begin ++ frame_end) (λ field. field.tag) ++ tags_of (header_rows ++ flat_map rows_stated session_types))
 
 unfoldable pub application_tags : List ℕ
-application_tags = rising (tags_of (flat_map rows_told application_types))
+application_tags = rising (tags_of (flat_map rows_stated application_types))

@@ -5,7 +5,7 @@ ghost use Rattle.std.specs.Io.KnownBytes.{Appends, Keeps};
 ghost use Rattle.data_dictionary.specs.Dictionaries.{application_text, dictionary_text, table_text, field_head, field_text, fields_text, header_text, message_head, message_text, messages_text, trailer_text, transport_text, value_text, values_text};
 ghost use Rattle.data_dictionary.specs.Faults.{UnlessWriting};
 ghost use Rattle.data_dictionary.specs.MessageTypes.{seen};
-ghost use Rattle.fix_tables.specs.Tables.{rows_of};
+ghost use Rattle.fix_validation.specs.Tables.{rows_of};
 ghost use Rattle.data_dictionary.specs.Values.{named, values_of};
 
 use crate::faults::WriteFault;
@@ -15,7 +15,7 @@ use crate::fields::{
 use crate::lines::{append, append_fields_asked, append_table, required};
 use crate::message_types::{Listed, application_types, session_types};
 use fix_dictionary::MessageType;
-use fix_tables::{header, resend_request_rows, rows_of, type_of};
+use fix_validation::{header, resend_request_rows, rows_of, type_of};
 use itoa::Buffer;
 use std::alloc::{AllocError, Global};
 use std::io::Write;

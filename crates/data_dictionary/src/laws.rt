@@ -1,5 +1,5 @@
 //! What holds of the dictionaries.
-ghost use Rattle.data_dictionary.specs.Laws.{EachRowIsSaid, EachTableIsTold, NamesTellFields, TypesAreApart, ValuesAreRead};
+ghost use Rattle.data_dictionary.specs.Laws.{EachRowIsSaid, EachTableIsStated, NamesStateFields, TypesAreApart, ValuesAreRead};
 ghost use Rattle.data_dictionary.specs.Layout.{application_tags, transport_tags};
 
 /// The lines of each table say each of its rows once, in order, with its tag, whether it is required, and the group in whose lines it
@@ -9,8 +9,8 @@ pub fn each_row_is_said()
 {}
 
 /// A type that neither dictionary lists has no table, and none is listed twice.
-pub fn each_table_is_told()
-    ensures { EachTableIsTold }
+pub fn each_table_is_stated()
+    ensures { EachTableIsStated }
 {}
 
 /// The types that the transport dictionary lists are the session's own, and none that the application dictionary lists is.
@@ -20,9 +20,9 @@ pub fn types_are_apart()
 {}
 
 /// No tag and no name of a field stands twice in a dictionary, and each field has a name: so a name tells its tag.
-pub fn names_tell_fields()
-    ensures transport { NamesTellFields transport_tags }
-    ensures application { NamesTellFields application_tags }
+pub fn names_state_fields()
+    ensures transport { NamesStateFields transport_tags }
+    ensures application { NamesStateFields application_tags }
 {}
 
 /// Each value that a dictionary has for a field is one that is read, in each table that has the field.

@@ -11,5 +11,5 @@ mod message_types;
 pub use dictionaries::{Dictionary, write_dictionary};
 pub use faults::WriteFault;
 pub use laws::{
-    each_row_is_said, each_table_is_told, names_tell_fields, types_are_apart, values_are_read,
+    each_row_is_said, each_table_is_stated, names_state_fields, types_are_apart, values_are_read,
 };

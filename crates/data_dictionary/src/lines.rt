@@ -3,10 +3,10 @@ ghost use Rattle.std.specs.Prelude.{◌≡◌, ◌++◌, OnOk};
 ghost use Rattle.std.specs.List.{flat_map};
 ghost use Rattle.fix_fields.specs.Views.{joined};
 ghost use Rattle.data_dictionary.specs.Dictionaries.{answer, attributes, fields_asked, line_text, table_text};
-ghost use Rattle.data_dictionary.specs.Layout.{is_counted, lines_in, required, told};
+ghost use Rattle.data_dictionary.specs.Layout.{is_counted, lines_in, required, stated};
 
 use crate::fields::name_of;
-use fix_tables::Row;
+use fix_validation::Row;
 use std::alloc::AllocError;
 
 /// How a line names a field: by its tag, and with whether it is required.
@@ -54,8 +54,8 @@ pub(crate) fn required(tag: u32) -> Mention
 }
 
 // What a line says of a row.
-fn told(row: &Row) -> Mention
-    ensures { result ≡ told row.now }
+fn stated(row: &Row) -> Mention
+    ensures { result ≡ stated row.now }
 {
     Mention {
         tag: row.tag,
@@ -117,10 +117,10 @@ fn append_rows(text: &mut Vec<u8>, group: u32, rows: &[Row]) -> Result<(), Alloc
         return append_rows(text, group, rest);
     }
     if !is_counted(row.tag, rest) {
-        append_line(text, Line::Field(told(row)))?;
+        append_line(text, Line::Field(stated(row)))?;
         return append_rows(text, group, rest);
     }
-    append_line(text, Line::GroupBegin(told(row)))?;
+    append_line(text, Line::GroupBegin(stated(row)))?;
     append_rows(text, row.tag, rest)?;
     append_line(text, Line::GroupEnd)?;
     append_rows(text, group, rest)

@@ -9,8 +9,8 @@ use Rattle.fix_fields.specs.Fields.{Entry}
 use Rattle.fix_fields.specs.Forms.{integer_in}
 use Rattle.fix_fields.specs.declared.value.ValueFault.{ValueFault}
 use Rattle.fix_fields.specs.declared.group.Group.{Group}
-use Rattle.fix_fields.specs.Groups.{has, is_member, is_own, is_named, is_end, kept, HasNo, IsInstance, chained, Tells, IsGroup, before_tag, cut_before}
-use Rattle.fix_fields.specs.GroupParts.{BeginsAs, IsCut, begins_with, has_no, is_read_as, tells, is_whole}
+use Rattle.fix_fields.specs.Groups.{has, is_member, is_own, is_named, is_end, kept, HasNo, IsInstance, chained, Emits, IsGroup, before_tag, cut_before}
+use Rattle.fix_fields.specs.GroupParts.{BeginsAs, IsCut, begins_with, has_no, is_read_as, emits, is_whole}
 
 -- every field has a tag that passes the test
 abbrev pub HasOnly : (ℕ → Bool) → List Entry → Type 0
@@ -31,7 +31,7 @@ pub record IsWhole (g : Group) (count : Entry) (body rest : List Entry) (many : 
   pub tag : count.0 ≡ g.count
   pub begins : BeginsRight g.first (kept g body)
   pub behind : HasNo (is_member g) rest
-  pub number : Tells many count.1
+  pub number : Emits many count.1
 
 pub by_cases : (b : Bool) (P : Bool → Type 0) → (b ≡ true → P true) → (b ≡ false → P false) → P b
 by_cases true P h k = h refl
@@ -317,7 +317,7 @@ whole-group g fields count body rest cut whole =
       tag = whole.tag;
       each = cut-are g (kept g body) members;
       behind = kept-HasNo g (is_member g) rest whole.behind;
-      number = subst (λ (n : ℕ). Tells n count.1) many whole.number;
+      number = subst (λ (n : ℕ). Emits n count.1) many whole.number;
     } in
     subst (λ (is : List (List Entry)). IsGroup g fields is) same group
 
@@ -333,7 +333,7 @@ group-whole g fields count body rest instances lacks cut group =
       tag = subst (λ (f : Entry). f.0 ≡ g.count) same.here group.tag;
       begins = subst (λ (l : List Entry). BeginsRight g.first l) same.members (begins g instances group.each);
       behind = clean g rest (subst (λ (l : List Entry). HasNo (is_member g) l) same.behind group.behind);
-      number = subst (λ (n : ℕ). Tells n count.1) many (subst (λ (f : Entry). Tells (length instances) f.1) same.here group.number);
+      number = subst (λ (n : ℕ). Emits n count.1) many (subst (λ (f : Entry). Emits (length instances) f.1) same.here group.number);
     }
 
 fails-at : (test : ℕ → Bool) (xs : List Entry) (y : Entry) (ys : List Entry) → HasNo test (xs ++ y ∷ ys) → test y.0 ≡ false
@@ -394,24 +394,24 @@ none-from : (test : ℕ → Bool) (xs : List Entry) → has_no test xs ≡ true 
 none-from test [] h = tt
 none-from test (x ∷ xs) h = (refuted (test x.0) (left (not (test x.0)) (has_no test xs) h), none-from test xs (right (not (test x.0)) (has_no test xs) h))
 
-told-to : (n : ℕ) (r : Result ℕ ValueFault) → r ≡ Ok n → is_read_as n r ≡ true
-told-to n r h = let same : (n == n) ≡ true = grind (arith, nat_tests) in rw h same
+stated-to : (n : ℕ) (r : Result ℕ ValueFault) → r ≡ Ok n → is_read_as n r ≡ true
+stated-to n r h = let same : (n == n) ≡ true = grind (arith, nat_tests) in rw h same
 
-told-from : (n : ℕ) (r : Result ℕ ValueFault) → is_read_as n r ≡ true → r ≡ Ok n
-told-from n (Ok m) h = let same : m ≡ n = grind (arith, nat_tests) in ap (λ (k : ℕ). Ok k) same
-told-from n (Err fault) h = cc
+stated-from : (n : ℕ) (r : Result ℕ ValueFault) → is_read_as n r ≡ true → r ≡ Ok n
+stated-from n (Ok m) h = let same : m ≡ n = grind (arith, nat_tests) in ap (λ (k : ℕ). Ok k) same
+stated-from n (Err fault) h = cc
 
 whole-to : (g : Group) (count : Entry) (body rest : List Entry) (many : ℕ) → IsWhole g count body rest many → is_whole g count body rest many ≡ true
 whole-to g count body rest many h =
     let tag = h.tag in
-    both _ _ (grind (arith, nat_tests)) (both _ _ (begins-to g.first (kept g body) h.begins) (both _ _ (none-to (is_member g) rest h.behind) (told-to many (integer_in 0 1_000_000_000_000_000_000 count.1) h.number)))
+    both _ _ (grind (arith, nat_tests)) (both _ _ (begins-to g.first (kept g body) h.begins) (both _ _ (none-to (is_member g) rest h.behind) (stated-to many (integer_in 0 1_000_000_000_000_000_000 count.1) h.number)))
 
 whole-from : (g : Group) (count : Entry) (body rest : List Entry) (many : ℕ) → is_whole g count body rest many ≡ true → IsWhole g count body rest many
 whole-from g count body rest many h =
     let a = count.0 == g.count in
     let b = begins_with g.first (kept g body) in
     let d = has_no (is_member g) rest in
-    let e = tells many count.1 in
+    let e = emits many count.1 in
     let tag : (count.0 == g.count) ≡ true = left a (b && (d && e)) h in
     let others = right a (b && (d && e)) h in
     let more = right b (d && e) others in
@@ -419,7 +419,7 @@ whole-from g count body rest many h =
       tag = grind (arith, nat_tests);
       begins = begins-from g.first (kept g body) (left b (d && e) others);
       behind = none-from (is_member g) rest (left d e more);
-      number = told-from many (integer_in 0 1_000_000_000_000_000_000 count.1) (right d e more);
+      number = stated-from many (integer_in 0 1_000_000_000_000_000_000 count.1) (right d e more);
     }
 
 -- parts that pass the test are a group, and no others are

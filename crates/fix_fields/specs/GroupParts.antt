@@ -35,10 +35,10 @@ abbrev pub is_read_as : ℕ → Result ℕ ValueFault → Bool
 is_read_as n (Ok m) = m == n
 is_read_as n (Err fault) = false
 
-abbrev pub tells : ℕ → List ℕ → Bool
-tells n text = is_read_as n (integer_in 0 1_000_000_000_000_000_000 text)
+abbrev pub emits : ℕ → List ℕ → Bool
+emits n text = is_read_as n (integer_in 0 1_000_000_000_000_000_000 text)
 
 -- the parts are a group with that many instances
 abbrev pub is_whole : Group → Entry → List Entry → List Entry → ℕ → Bool
 is_whole g count body rest many =
-    (count.0 == g.count) && (begins_with g.first (kept g body) && (has_no (is_member g) rest && tells many count.1))
+    (count.0 == g.count) && (begins_with g.first (kept g body) && (has_no (is_member g) rest && emits many count.1))

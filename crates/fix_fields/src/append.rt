@@ -23,7 +23,7 @@ fn append_parts(bytes: &mut Vec<u8>, parts: &[&[u8]]) -> Result<(), AllocError>
     requires { sum_by (λ part. length part.now) parts.now < 2 ^ 64 }
     ensures appends { Appends bytes.old.items bytes.new.items (joined parts.now) result }
     ensures unchanged { OnErr result (bytes.new.items ≡ bytes.old.items) }
-    ensures room { OnErr result (vec_capacity bytes.old < vec_len bytes.old + length (joined parts.now)) }
+    ensures headroom { OnErr result (vec_capacity bytes.old < vec_len bytes.old + length (joined parts.now)) }
     ensures capacity { vec_capacity bytes.old ≤ vec_capacity bytes.new }
 {
     bytes.reserve(total_len(parts))?;
@@ -37,7 +37,7 @@ fn append_parts(bytes: &mut Vec<u8>, parts: &[&[u8]]) -> Result<(), AllocError>
 #[inline]
 fn push_digit(bytes: &mut Vec<u8>, digit: u64)
     requires digit { digit < 10 }
-    requires room { vec_len bytes.old < vec_capacity bytes.old }
+    requires headroom { vec_len bytes.old < vec_capacity bytes.old }
     ensures items { bytes.new.items ≡ bytes.old.items ++ (48 + digit) ∷ [] }
     ensures len { vec_len bytes.new ≡ vec_len bytes.old + 1 }
     ensures capacity { vec_capacity bytes.new ≡ vec_capacity bytes.old }
@@ -64,7 +64,7 @@ fn push_four(bytes: &mut Vec<u8>, n: u64)
 #[tactic(auto, using(std::proofs::lemmas::Fmt::decimal_digit, crate::proofs::DecimalLemmas::decimal_two, crate::proofs::DecimalLemmas::decimal_three, crate::proofs::DecimalLemmas::decimal_four))]
 fn push_short(bytes: &mut Vec<u8>, n: u64)
     requires short { n < 10_000 }
-    requires room { vec_len bytes.old + length (decimal n) ≤ vec_capacity bytes.old }
+    requires headroom { vec_len bytes.old + length (decimal n) ≤ vec_capacity bytes.old }
     ensures items { bytes.new.items ≡ bytes.old.items ++ decimal n }
     ensures len { vec_len bytes.new ≡ vec_len bytes.old + length (decimal n) }
     ensures capacity { vec_capacity bytes.new ≡ vec_capacity bytes.old }
@@ -136,7 +136,7 @@ fn decimal_len(n: u64) -> usize
 
 // Makes room for more bytes, where there is not enough.
 #[inline]
-fn make_room(bytes: &mut Vec<u8>, more: usize) -> Result<(), AllocError>
+fn reserve_for(bytes: &mut Vec<u8>, more: usize) -> Result<(), AllocError>
     ensures items { bytes.new.items ≡ bytes.old.items }
     ensures enough { OnOk result (vec_len bytes.new + more ≤ vec_capacity bytes.new) }
     ensures refused { OnErr result (vec_capacity bytes.old < vec_len bytes.old + more) }
@@ -154,11 +154,11 @@ fn begin_field(bytes: &mut Vec<u8>, tag: u32, len: usize) -> Result<(), AllocErr
     ensures tag { OnOk result (bytes.new.items ≡ bytes.old.items ++ (decimal tag ++ 61 ∷ [])) }
     ensures left { OnOk result (vec_len bytes.new + len + 1 ≤ vec_capacity bytes.new) }
     ensures unchanged { OnErr result (bytes.new.items ≡ bytes.old.items) }
-    ensures room { OnErr result (vec_capacity bytes.old < vec_len bytes.old + (length (decimal tag) + (len + 2))) }
+    ensures headroom { OnErr result (vec_capacity bytes.old < vec_len bytes.old + (length (decimal tag) + (len + 2))) }
     ensures capacity { vec_capacity bytes.old ≤ vec_capacity bytes.new }
 {
     let tag = u64::from(tag);
-    make_room(bytes, decimal_len(tag) + len + 2)?;
+    reserve_for(bytes, decimal_len(tag) + len + 2)?;
     push_decimal(bytes, tag);
     bytes.push_reserved(b'=');
     Ok(())
@@ -168,7 +168,7 @@ fn begin_field(bytes: &mut Vec<u8>, tag: u32, len: usize) -> Result<(), AllocErr
 pub fn append_bytes(bytes: &mut Vec<u8>, tag: u32, value: &[u8]) -> Result<(), AllocError>
     ensures appends { Appends bytes.old.items bytes.new.items (field_text tag value.now) result }
     ensures unchanged { OnErr result (bytes.new.items ≡ bytes.old.items) }
-    ensures room { OnErr result (vec_capacity bytes.old < vec_len bytes.old + length (field_text tag value.now)) }
+    ensures headroom { OnErr result (vec_capacity bytes.old < vec_len bytes.old + length (field_text tag value.now)) }
     ensures capacity { vec_capacity bytes.old ≤ vec_capacity bytes.new }
 {
     begin_field(bytes, tag, value.len())?;
@@ -181,7 +181,7 @@ pub fn append_bytes(bytes: &mut Vec<u8>, tag: u32, value: &[u8]) -> Result<(), A
 pub fn append_byte(bytes: &mut Vec<u8>, tag: u32, value: u8) -> Result<(), AllocError>
     ensures appends { Appends bytes.old.items bytes.new.items (field_text tag (value ∷ [])) result }
     ensures unchanged { OnErr result (bytes.new.items ≡ bytes.old.items) }
-    ensures room { OnErr result (vec_capacity bytes.old < vec_len bytes.old + length (field_text tag (value ∷ []))) }
+    ensures headroom { OnErr result (vec_capacity bytes.old < vec_len bytes.old + length (field_text tag (value ∷ []))) }
     ensures capacity { vec_capacity bytes.old ≤ vec_capacity bytes.new }
 {
     begin_field(bytes, tag, 1)?;
@@ -240,7 +240,7 @@ fn point_of(fraction: u64) -> &'static [u8]
 pub fn append_price(bytes: &mut Vec<u8>, tag: u32, price: i64) -> Result<(), AllocError>
     ensures appends { Appends bytes.old.items bytes.new.items (field_text tag (price_text price)) result }
     ensures unchanged { OnErr result (bytes.new.items ≡ bytes.old.items) }
-    ensures room { OnErr result (vec_capacity bytes.old < vec_len bytes.old + length (field_text tag (price_text price))) }
+    ensures headroom { OnErr result (vec_capacity bytes.old < vec_len bytes.old + length (field_text tag (price_text price))) }
     ensures capacity { vec_capacity bytes.old ≤ vec_capacity bytes.new }
 {
     let mut tag_digits = Buffer::new();
@@ -265,7 +265,7 @@ pub fn append_price(bytes: &mut Vec<u8>, tag: u32, price: i64) -> Result<(), All
 pub fn append_number(bytes: &mut Vec<u8>, tag: u32, number: u64) -> Result<(), AllocError>
     ensures appends { Appends bytes.old.items bytes.new.items (field_text tag (decimal number)) result }
     ensures unchanged { OnErr result (bytes.new.items ≡ bytes.old.items) }
-    ensures room { OnErr result (vec_capacity bytes.old < vec_len bytes.old + length (field_text tag (decimal number))) }
+    ensures headroom { OnErr result (vec_capacity bytes.old < vec_len bytes.old + length (field_text tag (decimal number))) }
     ensures capacity { vec_capacity bytes.old ≤ vec_capacity bytes.new }
 {
     begin_field(bytes, tag, decimal_len(number))?;
@@ -278,7 +278,7 @@ pub fn append_number(bytes: &mut Vec<u8>, tag: u32, number: u64) -> Result<(), A
 pub fn append_moment(bytes: &mut Vec<u8>, tag: u32, moment: Moment) -> Result<(), AllocError>
     ensures appends { Appends bytes.old.items bytes.new.items (field_text tag (utc_text moment)) result }
     ensures unchanged { OnErr result (bytes.new.items ≡ bytes.old.items) }
-    ensures room { OnErr result (vec_capacity bytes.old < vec_len bytes.old + length (field_text tag (utc_text moment))) }
+    ensures headroom { OnErr result (vec_capacity bytes.old < vec_len bytes.old + length (field_text tag (utc_text moment))) }
     ensures capacity { vec_capacity bytes.old ≤ vec_capacity bytes.new }
 {
     append_bytes(bytes, tag, &print_utc(moment))

@@ -5,14 +5,14 @@ ghost use Rattle.std.specs.Iterator.{YieldsFirstBy, item_count};
 ghost use Rattle.fix_fields.specs.Fields.{Entry};
 ghost use Rattle.fix_fields.specs.Views.{entry, entries};
 ghost use Rattle.fix_fields.specs.Groups.{has, is_member, is_own, is_named, is_end, kept, cut_before, shown, HasNo, IsGroup, IsInRange, GroupGives};
-ghost use Rattle.fix_fields.specs.GroupParts.{begins_with, has_no, tells, is_whole, IsCut};
+ghost use Rattle.fix_fields.specs.GroupParts.{begins_with, has_no, emits, is_whole, IsCut};
 
 use crate::fields::Field;
 use crate::value::read_integer;
 use thiserror::Error;
 
 // More than any list has fields.
-const GREATEST_COUNT: u64 = 1_000_000_000_000_000_000;
+const MAX_COUNT: u64 = 1_000_000_000_000_000_000;
 
 /// A repeating group, as the table of a message's type names it.
 #[derive(Clone, Copy)]
@@ -216,11 +216,11 @@ fn has_no_member(fields: &[Field<'_>], group: &Group<'_>) -> bool
 }
 
 // Whether a text tells the number.
-fn tells(text: &[u8], number: usize) -> bool
-    ensures { result ≡ tells number text.now }
+fn emits(text: &[u8], number: usize) -> bool
+    ensures { result ≡ emits number text.now }
 {
-    match read_integer(text, 0, GREATEST_COUNT) {
-        Ok(told) => told == number as u64,
+    match read_integer(text, 0, MAX_COUNT) {
+        Ok(stated) => stated == number as u64,
         Err(_) => false,
     }
 }
@@ -232,7 +232,7 @@ fn is_whole(parts: &Parts<'_, '_>, group: &Group<'_>, number: usize) -> bool
     parts.count.tag == group.count
         && begins_right(parts.body, group)
         && has_no_member(parts.rest, group)
-        && tells(parts.count.value, number)
+        && emits(parts.count.value, number)
 }
 
 fn is_in_range(group: &Group<'_>, number: usize) -> bool

@@ -6,9 +6,9 @@ ghost use Rattle.fix_fields.specs.Forms.{is_printable, printable_of, identifier_
 use crate::value::ValueFault;
 use sef_moment::{Moment, read_utc};
 
-const LONGEST_IDENTIFIER: usize = 64;
+const MAX_IDENTIFIER_LEN: usize = 64;
 
-const LONGEST_TEXT: usize = 200;
+const MAX_TEXT_LEN: usize = 200;
 
 // Whether each byte is printable ASCII, from the space to the tilde.
 fn is_printable(text: &[u8]) -> bool
@@ -38,7 +38,7 @@ pub fn read_identifier(text: &[u8]) -> Result<&[u8], ValueFault>
         (λ value. identifier_of text.now ≡ Ok value.now)
         (λ fault. identifier_of text.now ≡ Err fault) }
 {
-    read_printable(text, LONGEST_IDENTIFIER)
+    read_printable(text, MAX_IDENTIFIER_LEN)
 }
 
 /// Reads a text: printable bytes, 1 to 200. A longer one is out of range.
@@ -47,7 +47,7 @@ pub fn read_text(text: &[u8]) -> Result<&[u8], ValueFault>
         (λ value. text_of text.now ≡ Ok value.now)
         (λ fault. text_of text.now ≡ Err fault) }
 {
-    read_printable(text, LONGEST_TEXT)
+    read_printable(text, MAX_TEXT_LEN)
 }
 
 /// Reads a character: one printable byte, no space.

@@ -7,22 +7,22 @@ use Rattle.fix_session.specs.declared.frame.Frame.{Frame}
 use Rattle.fix_session.specs.declared.frame.Content.{Content}
 use Rattle.fix_session.specs.declared.frame.Content.TheVariants.{Logon, Heartbeat, TestRequest, ResendRequest, SequenceReset, Logout, Reject, Application, Faulty}
 use Rattle.fix_session.specs.declared.frame.FaultyKind.TheVariants as faulty
-use Rattle.fix_session.specs.declared.frame.Place.{Place}
-use Rattle.fix_session.specs.declared.frame.Place.TheVariants.{Unnumbered, Below, Due, Above}
-use Rattle.fix_session.specs.declared.line.TickAsk.{TickAsk}
-use Rattle.fix_session.specs.declared.line.TickAsk.TheVariants as tick_asks
-use Rattle.fix_session.specs.declared.plan.Notice.{Notice}
-use Rattle.fix_session.specs.declared.plan.Notice.TheVariants as notice
+use Rattle.fix_session.specs.declared.frame.SeqNumCheck.{SeqNumCheck}
+use Rattle.fix_session.specs.declared.frame.SeqNumCheck.TheVariants.{Missing, TooLow, Expected, TooHigh}
+use Rattle.fix_session.specs.declared.session_state.TimerAction.{TimerAction}
+use Rattle.fix_session.specs.declared.session_state.TimerAction.TheVariants as tick_asks
+use Rattle.fix_session.specs.declared.plan.AdminReply.{AdminReply}
+use Rattle.fix_session.specs.declared.plan.AdminReply.TheVariants as admin_reply
 use Rattle.fix_session.specs.declared.plan.Plan.{Plan}
-use Rattle.fix_session.specs.declared.plan.Sends.TheVariants.{One}
+use Rattle.fix_session.specs.declared.plan.AdminReplies.TheVariants.{One}
 use Rattle.fix_session.specs.declared.plan.Why.{Why}
-use Rattle.fix_session.specs.declared.line.Line.{Line}
+use Rattle.fix_session.specs.declared.session_state.SessionState.{SessionState}
 use Rattle.fix_session.specs.declared.plan.Step.{Step}
 use Rattle.fix_session.specs.declared.plan.Step.TheVariants.{Idle, Did, App, Dropped}
-use Rattle.fix_session.specs.Chain.{counts, asks, era_asked, last_era, place_of}
+use Rattle.fix_session.specs.Chain.{counts, asks, era_asked, last_era, seq_num_check}
 use Rattle.fix_session.specs.State.{State, era_of}
-use Rattle.fix_session.specs.Ticks.{asked_at}
-use Rattle.fix_session.specs.Table.{affordable, stranger, stands, before_logon, after_logon, of_peer, wrong_comp, reset, reset_by_place, below, above, ahead, in_order, by_place, from_peer, logon, plan_of, plan_in_era, by_era, is_spent, are_spent}
+use Rattle.fix_session.specs.Ticks.{timer_action}
+use Rattle.fix_session.specs.Table.{affordable, logon_refusal, is_outstanding, before_logon, after_logon, of_peer, wrong_comp, reset, reset_by_check, below, above, ahead, in_order, by_check, from_peer, logon, plan_of, plan_in_era, by_era, is_spent, are_spent}
 use Rattle.fix_session.specs.Reader.{Reader}
 use Rattle.fix_session.specs.Body.{frame_in}
 use Rattle.fix_session.specs.Machine.{step, step_on, moved, plan_for, item_of, tick, tick_by, sends_now, AtEnd, Grows}
@@ -42,88 +42,88 @@ IsWork said (Dropped why) = Unit {0}
 abbrev Works : Content → Plan → Type 0
 Works said plan = IsWork said plan.answer
 
-below_works : (said : Content) (s : Line) (duplicate : Bool) (n : ℕ) → Works said (below s duplicate n)
+below_works : (said : Content) (s : SessionState) (duplicate : Bool) (n : ℕ) → Works said (below s duplicate n)
 below_works said s true n = tt
 below_works said s false n = tt
 
-logon_works : (said : Content) (s : Line) (entries : ℕ) (duplicate : Bool) (heartbeat : ℕ) (again : Option Bool) (place : Place) → Works said (logon s entries duplicate heartbeat again place)
-logon_works said s entries duplicate heartbeat again Unnumbered = tt
-logon_works said s entries duplicate heartbeat again (Below n) = if_either (Works said) (asks again) _ _ tt (below_works said s duplicate n)
-logon_works said s entries duplicate heartbeat again Due = if_either (Works said) (counts again duplicate s.due entries) _ _ tt tt
-logon_works said s entries duplicate heartbeat again (Above n) = if_either (Works said) (asks again) _ _ tt tt
+logon_works : (said : Content) (s : SessionState) (entries : ℕ) (duplicate : Bool) (heartbeat : ℕ) (again : Option Bool) (check : SeqNumCheck) → Works said (logon s entries duplicate heartbeat again check)
+logon_works said s entries duplicate heartbeat again Missing = tt
+logon_works said s entries duplicate heartbeat again (TooLow n) = if_either (Works said) (asks again) _ _ tt (below_works said s duplicate n)
+logon_works said s entries duplicate heartbeat again Expected = if_either (Works said) (counts again duplicate s.next_incoming entries) _ _ tt tt
+logon_works said s entries duplicate heartbeat again (TooHigh n) = if_either (Works said) (asks again) _ _ tt tt
 
-of_peer_works : (said : Content) (s : Line) (stranger : Option Why) (plan : Plan) → Works said plan → Works said (of_peer s stranger plan)
+of_peer_works : (said : Content) (s : SessionState) (logon_refusal : Option Why) (plan : Plan) → Works said plan → Works said (of_peer s logon_refusal plan)
 of_peer_works said s (Some reason) plan h = tt
 of_peer_works said s None plan h = h
 
-before_works : (s : Line) (entries : ℕ) (right duplicate : Bool) (place : Place) (said : Content) → Works said (before_logon s entries right duplicate place said)
-before_works s entries right duplicate place (Logon heartbeat again) =
+before_works : (s : SessionState) (entries : ℕ) (right duplicate : Bool) (check : SeqNumCheck) (said : Content) → Works said (before_logon s entries right duplicate check said)
+before_works s entries right duplicate check (Logon heartbeat again) =
     let said : Content = Logon heartbeat again in
-    of_peer_works said s (stranger place right) _ (logon_works said s entries duplicate heartbeat again place)
-before_works s entries right duplicate place (Faulty faulty.Logon fault) = of_peer_works (Faulty faulty.Logon fault) s (stranger place right) _ tt
-before_works s entries right duplicate place (Faulty faulty.Logout fault) = tt
-before_works s entries right duplicate place (Faulty faulty.Other fault) = tt
-before_works s entries right duplicate place said = tt
+    of_peer_works said s (logon_refusal check right) _ (logon_works said s entries duplicate heartbeat again check)
+before_works s entries right duplicate check (Faulty faulty.Logon fault) = of_peer_works (Faulty faulty.Logon fault) s (logon_refusal check right) _ tt
+before_works s entries right duplicate check (Faulty faulty.Logout fault) = tt
+before_works s entries right duplicate check (Faulty faulty.Other fault) = tt
+before_works s entries right duplicate check said = tt
 
-wrong_comp_works : (said : Content) (s : Line) (place : Place) → Works said (wrong_comp s place)
-wrong_comp_works said s Unnumbered = tt
-wrong_comp_works said s (Below n) = tt
-wrong_comp_works said s Due = tt
-wrong_comp_works said s (Above n) = tt
+wrong_comp_works : (said : Content) (s : SessionState) (check : SeqNumCheck) → Works said (wrong_comp s check)
+wrong_comp_works said s Missing = tt
+wrong_comp_works said s (TooLow n) = tt
+wrong_comp_works said s Expected = tt
+wrong_comp_works said s (TooHigh n) = tt
 
-reset_works : (said : Content) (s : Line) (n new : ℕ) → Works said (reset s n new)
-reset_works said s n new = if_either (Works said) (nat_le s.due new) _ _ tt tt
+reset_works : (said : Content) (s : SessionState) (n new : ℕ) → Works said (reset s n new)
+reset_works said s n new = if_either (Works said) (nat_le s.next_incoming new) _ _ tt tt
 
-ahead_works : (said : Content) (s : Line) (n : ℕ) (again : Option Resend) → Works said (ahead s n again)
-ahead_works said s n again = if_either (Works said) (stands s.standing s.due) _ _ tt tt
+ahead_works : (said : Content) (s : SessionState) (n : ℕ) (again : Option Resend) → Works said (ahead s n again)
+ahead_works said s n again = if_either (Works said) (is_outstanding s.outstanding_request s.next_incoming) _ _ tt tt
 
-above_works : (s : Line) (n : ℕ) (said : Content) → Works said (above s n said)
+above_works : (s : SessionState) (n : ℕ) (said : Content) → Works said (above s n said)
 above_works s n (ResendRequest asked) = ahead_works (ResendRequest asked) s n (Some asked)
 above_works s n Logout = tt
 above_works s n (Faulty faulty.Logout fault) = tt
 above_works s n said = ahead_works said s n None
 
-in_order_works : (s : Line) (said : Content) → Works said (in_order s said)
-in_order_works s (SequenceReset gap_fill new) = if_either (Works (SequenceReset gap_fill new)) (nat_lt s.due new) _ _ tt tt
+in_order_works : (s : SessionState) (said : Content) → Works said (in_order s said)
+in_order_works s (SequenceReset gap_fill new) = if_either (Works (SequenceReset gap_fill new)) (nat_lt s.next_incoming new) _ _ tt tt
 in_order_works s said = tt
 
-by_place_works : (s : Line) (duplicate : Bool) (said : Content) (place : Place) → Works said (by_place s duplicate said place)
-by_place_works s duplicate said Unnumbered = tt
-by_place_works s duplicate said (Below n) = below_works said s duplicate n
-by_place_works s duplicate said Due = in_order_works s said
-by_place_works s duplicate said (Above n) = above_works s n said
+by_place_works : (s : SessionState) (duplicate : Bool) (said : Content) (check : SeqNumCheck) → Works said (by_check s duplicate said check)
+by_place_works s duplicate said Missing = tt
+by_place_works s duplicate said (TooLow n) = below_works said s duplicate n
+by_place_works s duplicate said Expected = in_order_works s said
+by_place_works s duplicate said (TooHigh n) = above_works s n said
 
-reset_by_place_works : (said : Content) (s : Line) (new : ℕ) (place : Place) → Works said (reset_by_place s new place)
-reset_by_place_works said s new Unnumbered = tt
-reset_by_place_works said s new (Below n) = reset_works said s n new
-reset_by_place_works said s new Due = reset_works said s s.due new
-reset_by_place_works said s new (Above n) = reset_works said s n new
+reset_by_place_works : (said : Content) (s : SessionState) (new : ℕ) (check : SeqNumCheck) → Works said (reset_by_check s new check)
+reset_by_place_works said s new Missing = tt
+reset_by_place_works said s new (TooLow n) = reset_works said s n new
+reset_by_place_works said s new Expected = reset_works said s s.next_incoming new
+reset_by_place_works said s new (TooHigh n) = reset_works said s n new
 
-from_peer_works : (s : Line) (duplicate : Bool) (said : Content) (place : Place) → Works said (from_peer s duplicate said place)
-from_peer_works s duplicate (SequenceReset true new) place = by_place_works s duplicate (SequenceReset true new) place
-from_peer_works s duplicate (SequenceReset false new) place = reset_by_place_works (SequenceReset false new) s new place
-from_peer_works s duplicate said place = by_place_works s duplicate said place
+from_peer_works : (s : SessionState) (duplicate : Bool) (said : Content) (check : SeqNumCheck) → Works said (from_peer s duplicate said check)
+from_peer_works s duplicate (SequenceReset true new) check = by_place_works s duplicate (SequenceReset true new) check
+from_peer_works s duplicate (SequenceReset false new) check = reset_by_place_works (SequenceReset false new) s new check
+from_peer_works s duplicate said check = by_place_works s duplicate said check
 
-after_works : (s : Line) (right duplicate : Bool) (place : Place) (said : Content) → Works said (after_logon s right duplicate place said)
-after_works s true duplicate place said = from_peer_works s duplicate said place
-after_works s false duplicate place said = wrong_comp_works said s place
+after_works : (s : SessionState) (right duplicate : Bool) (check : SeqNumCheck) (said : Content) → Works said (after_logon s right duplicate check said)
+after_works s true duplicate check said = from_peer_works s duplicate said check
+after_works s false duplicate check said = wrong_comp_works said s check
 
-plan_in_works : (s : Line) (entries : ℕ) (f : Frame) → Works f.content (plan_in_era s entries f)
+plan_in_works : (s : SessionState) (entries : ℕ) (f : Frame) → Works f.content (plan_in_era s entries f)
 plan_in_works s entries f =
-    if_either (Works f.content) s.logged_on _ _ (after_works s f.comp_ids_right f.possible_duplicate (place_of f.number s.due) f.content)
-    (before_works s entries f.comp_ids_right f.possible_duplicate (place_of f.number s.due) f.content)
+    if_either (Works f.content) s.logged_on _ _ (after_works s f.comp_ids_right f.possible_duplicate (seq_num_check f.number s.next_incoming) f.content)
+    (before_works s entries f.comp_ids_right f.possible_duplicate (seq_num_check f.number s.next_incoming) f.content)
 
-by_era_works : (said : Content) (s : Line) (era : ℕ) (asked : Option ℕ) (plan : Plan) → Works said plan → Works said (by_era s era asked plan)
+by_era_works : (said : Content) (s : SessionState) (era : ℕ) (asked : Option ℕ) (plan : Plan) → Works said plan → Works said (by_era s era asked plan)
 by_era_works said s era (Some heartbeat) plan h = if_either (Works said) (nat_lt era last_era) _ _ tt tt
 by_era_works said s era None plan h = h
 
-affordable_works : (said : Content) (s : Line) (entries : ℕ) (plan : Plan) → Works said plan → Works said (affordable s entries plan)
+affordable_works : (said : Content) (s : SessionState) (entries : ℕ) (plan : Plan) → Works said plan → Works said (affordable s entries plan)
 affordable_works said s entries plan h = if_either (Works said) (is_spent entries plan) _ _ tt h
 
 plan_works : (s : State) (f : Frame) → Works f.content (plan_for s f)
 plan_works s f =
     affordable_works f.content s.line (length s.entries) (plan_of s.line (era_of s.past) (length s.entries) f)
-    (by_era_works f.content s.line (era_of s.past) (era_asked f s.line.due (length s.entries)) (plan_in_era s.line (length s.entries) f) (plan_in_works s.line (length s.entries) f))
+    (by_era_works f.content s.line (era_of s.past) (era_asked f s.line.next_incoming (length s.entries)) (plan_in_era s.line (length s.entries) f) (plan_in_works s.line (length s.entries) f))
 
 abbrev step_by : Reader → State → ℕ → Bool → Option (List ℕ × List ℕ) → State × Step
 step_by r s t up found = if up then step_on r s (max s.line.moment t) found else (moved s (max s.line.moment t), Idle)
@@ -166,15 +166,15 @@ step_grows_by r s t true (Some found) =
 pub step_grows : (r : Reader) (s : State) (t : ℕ) → Grows (era_of s.past) s.ready (step r s t).0.ready (step r s t).1
 step_grows r s t = step_grows_by r s t s.line.up (r.front s.unread).found
 
-sends_grows : (s : State) (t : ℕ) (message : Notice) (test_at : Option ℕ) → Grows (era_of s.past) s.ready (sends_now s t message test_at).0.ready (sends_now s t message test_at).1
-sends_grows s t message test_at =
+sends_grows : (s : State) (t : ℕ) (message : AdminReply) (test_request_sent_at : Option ℕ) → Grows (era_of s.past) s.ready (sends_now s t message test_request_sent_at).0.ready (sends_now s t message test_request_sent_at).1
+sends_grows s t message test_request_sent_at =
     if_either (λ (p : State × Step). Grows (era_of s.past) s.ready p.0.ready p.1) (are_spent (length s.entries) (One message)) _ _ refl refl
 
-tick_grows_by : (s : State) (t : ℕ) (asked : TickAsk) → Grows (era_of s.past) s.ready (tick_by s t asked).0.ready (tick_by s t asked).1
+tick_grows_by : (s : State) (t : ℕ) (asked : TimerAction) → Grows (era_of s.past) s.ready (tick_by s t asked).0.ready (tick_by s t asked).1
 tick_grows_by s t tick_asks.Nothing = refl
-tick_grows_by s t tick_asks.Heartbeat = sends_grows s t notice.Heartbeat s.line.test_at
-tick_grows_by s t tick_asks.Test = sends_grows s t notice.Test (Some t)
+tick_grows_by s t tick_asks.Heartbeat = sends_grows s t admin_reply.Heartbeat s.line.test_request_sent_at
+tick_grows_by s t tick_asks.TestRequest = sends_grows s t admin_reply.TestRequest (Some t)
 tick_grows_by s t tick_asks.Silent = refl
 
 pub tick_grows : (s : State) (t : ℕ) → Grows (era_of s.past) s.ready (tick s t).0.ready (tick s t).1
-tick_grows s t = tick_grows_by s (max s.line.moment t) (asked_at s.line (max s.line.moment t))
+tick_grows s t = tick_grows_by s (max s.line.moment t) (timer_action s.line (max s.line.moment t))

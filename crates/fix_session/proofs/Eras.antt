@@ -43,35 +43,35 @@ content_is (Logon h (Some false)) heartbeat is = cc
 content_is (Logon h (Some true)) heartbeat is = cc
 content_is content heartbeat is = cc
 
-unspent_parts : (due entries : ℕ) → is_unspent due entries ≡ true → (due ≡ 1) × (entries ≡ 0)
-unspent_parts due entries is =
-    let parts = and_parts (due == 1) (entries == 0) is in
-    let d : due ≡ 1 = grind (arith, nat_tests) in
+unspent_parts : (next_incoming entries : ℕ) → is_unspent next_incoming entries ≡ true → (next_incoming ≡ 1) × (entries ≡ 0)
+unspent_parts next_incoming entries is =
+    let parts = and_parts (next_incoming == 1) (entries == 0) is in
+    let d : next_incoming ≡ 1 = grind (arith, nat_tests) in
     let e : entries ≡ 0 = grind (arith, nat_tests) in
     (d, e)
 
-pub asked : (f : Frame) (due entries heartbeat : ℕ) → era_asked f due entries ≡ Some heartbeat → IsReset f heartbeat × ((due ≡ 1) × (entries ≡ 0) → ⊥)
-asked f due entries heartbeat is =
-    let all = some_true (f.comp_ids_right && (not f.possible_duplicate && (is_one f.number && not (is_unspent due entries)))) (begins_anew f.content) heartbeat is in
-    let one = and_parts f.comp_ids_right (not f.possible_duplicate && (is_one f.number && not (is_unspent due entries))) all in
-    let two = and_parts (not f.possible_duplicate) (is_one f.number && not (is_unspent due entries)) one.1 in
-    let three = and_parts (is_one f.number) (not (is_unspent due entries)) two.1 in
-    let spent : is_unspent due entries ≡ false = false_of (is_unspent due entries) three.1 in (
+pub asked : (f : Frame) (next_incoming entries heartbeat : ℕ) → era_asked f next_incoming entries ≡ Some heartbeat → IsReset f heartbeat × ((next_incoming ≡ 1) × (entries ≡ 0) → ⊥)
+asked f next_incoming entries heartbeat is =
+    let all = some_true (f.comp_ids_right && (not f.possible_duplicate && (is_one f.number && not (is_unspent next_incoming entries)))) (begins_anew f.content) heartbeat is in
+    let one = and_parts f.comp_ids_right (not f.possible_duplicate && (is_one f.number && not (is_unspent next_incoming entries))) all in
+    let two = and_parts (not f.possible_duplicate) (is_one f.number && not (is_unspent next_incoming entries)) one.1 in
+    let three = and_parts (is_one f.number) (not (is_unspent next_incoming entries)) two.1 in
+    let spent : is_unspent next_incoming entries ≡ false = false_of (is_unspent next_incoming entries) three.1 in (
       record {
         spelled = content_is f.content heartbeat (is_anew _ f.content heartbeat is);
         first = number_is f.number three.0;
         from_peer = one.0;
-        told_once = false_of f.possible_duplicate two.0;
+        emitted_once = false_of f.possible_duplicate two.0;
       },
       λ none.
-          let here : is_unspent due entries ≡ true = rw (none.0, none.1) refl in
+          let here : is_unspent next_incoming entries ≡ true = rw (none.0, none.1) refl in
           cc,
     )
 
-pub asks : (f : Frame) (due entries heartbeat : ℕ) → IsReset f heartbeat → ((due ≡ 1) × (entries ≡ 0) → ⊥) → era_asked f due entries ≡ Some heartbeat
-asks f due entries heartbeat reset some =
-    let spent : is_unspent due entries ≡ false = false_unless (is_unspent due entries) (λ is. some (unspent_parts due entries is)) in
-    rw (reset.spelled, reset.first, reset.from_peer, reset.told_once, spent) refl
+pub asks : (f : Frame) (next_incoming entries heartbeat : ℕ) → IsReset f heartbeat → ((next_incoming ≡ 1) × (entries ≡ 0) → ⊥) → era_asked f next_incoming entries ≡ Some heartbeat
+asks f next_incoming entries heartbeat reset some =
+    let spent : is_unspent next_incoming entries ≡ false = false_unless (is_unspent next_incoming entries) (λ is. some (unspent_parts next_incoming entries is)) in
+    rw (reset.spelled, reset.first, reset.from_peer, reset.emitted_once, spent) refl
 
 more_eras : (s : State) → length s.past < 999 → nat_lt (era_of s.past) last_era ≡ true
 more_eras s few = grind (arith, nat_tests)
@@ -82,31 +82,31 @@ no_more_eras s many = grind (arith, nat_tests)
 not_spent : (entries : ℕ) → entries ≤ last_number → nat_lt last_number (entries + 0) ≡ false
 not_spent entries few = grind (arith, nat_tests)
 
-heard_begins : (s : State) (t : ℕ) (rest kind : List ℕ) (f : Frame) (heartbeat : ℕ) → era_asked f s.line.due (length s.entries) ≡ Some heartbeat → length s.past < 999
+heard_begins : (s : State) (t : ℕ) (rest kind : List ℕ) (f : Frame) (heartbeat : ℕ) → era_asked f s.line.next_incoming (length s.entries) ≡ Some heartbeat → length s.past < 999
     → EraBegins s (heard_frame s t rest kind f).0 (heard_frame s t rest kind f).1 t kind f heartbeat
 unfolding written
 heard_begins s t rest kind f heartbeat asks few =
     let none : item_of (era_of s.past) f.content Did ≡ [] = anew_item (era_of s.past) f.content Did heartbeat (is_anew _ f.content heartbeat asks) in
     let same : s.ready ++ item_of (era_of s.past) f.content Did ≡ s.ready = ap (λ (l : List Item). s.ready ++ l) none ∙ append-nil s.ready in
     rw (asks, more_eras s few)
-    (record { answered = refl; past = refl; entries = refl; due = refl; heartbeat_is = refl; standing = refl; test_at = refl; logged_on = refl; ready = same; wire = refl })
+    (record { answered = refl; past = refl; entries = refl; next_incoming = refl; heartbeat_is = refl; outstanding_request = refl; test_request_sent_at = refl; logged_on = refl; ready = same; wire = refl })
 
-heard_ends : (s : State) (t : ℕ) (rest kind : List ℕ) (f : Frame) (heartbeat : ℕ) → era_asked f s.line.due (length s.entries) ≡ Some heartbeat → 999 ≤ length s.past → length s.entries ≤ last_number
+heard_ends : (s : State) (t : ℕ) (rest kind : List ℕ) (f : Frame) (heartbeat : ℕ) → era_asked f s.line.next_incoming (length s.entries) ≡ Some heartbeat → 999 ≤ length s.past → length s.entries ≤ last_number
     → NoEraBegins s (heard_frame s t rest kind f).0 (heard_frame s t rest kind f).1
 unfolding written
 heard_ends s t rest kind f heartbeat asks many few =
     let none : item_of (era_of s.past) f.content (Dropped why.Reset) ≡ [] = anew_item (era_of s.past) f.content (Dropped why.Reset) heartbeat (is_anew _ f.content heartbeat asks) in
     let same : s.ready ++ item_of (era_of s.past) f.content (Dropped why.Reset) ≡ s.ready = ap (λ (l : List Item). s.ready ++ l) none ∙ append-nil s.ready in
     rw (asks, no_more_eras s many, not_spent (length s.entries) few)
-    (record { answered = refl; up = refl; past = refl; entries = append-nil s.entries; due = refl; ready = same; wire = append-nil s.wire })
+    (record { answered = refl; up = refl; past = refl; entries = append-nil s.entries; next_incoming = refl; ready = same; wire = append-nil s.wire })
 
-pub begins : (r : Reader) (s : State) (t heartbeat : ℕ) (found : List ℕ × List ℕ) → s.line.up ≡ true → (r.front s.unread).found ≡ Some found → era_asked (frame_in r s.ids found.0) s.line.due (length s.entries) ≡ Some heartbeat → length s.past < 999
+pub begins : (r : Reader) (s : State) (t heartbeat : ℕ) (found : List ℕ × List ℕ) → s.line.up ≡ true → (r.front s.unread).found ≡ Some found → era_asked (frame_in r s.ids found.0) s.line.next_incoming (length s.entries) ≡ Some heartbeat → length s.past < 999
     → EraBegins s (step r s t).0 (step r s t).1 (max s.line.moment t) (kind_in found.0) (frame_in r s.ids found.0) heartbeat
 begins r s t heartbeat found up is asks few =
     subst (λ (p : State × Step). EraBegins s p.0 p.1 (max s.line.moment t) (kind_in found.0) (frame_in r s.ids found.0) heartbeat) (sym (step_heard r s t found up is))
     (heard_begins s (max s.line.moment t) (settled r found.1) (kind_in found.0) (frame_in r s.ids found.0) heartbeat asks few)
 
-pub ends : (r : Reader) (s : State) (t heartbeat : ℕ) (found : List ℕ × List ℕ) → s.line.up ≡ true → (r.front s.unread).found ≡ Some found → era_asked (frame_in r s.ids found.0) s.line.due (length s.entries) ≡ Some heartbeat → 999 ≤ length s.past → length s.entries ≤ last_number
+pub ends : (r : Reader) (s : State) (t heartbeat : ℕ) (found : List ℕ × List ℕ) → s.line.up ≡ true → (r.front s.unread).found ≡ Some found → era_asked (frame_in r s.ids found.0) s.line.next_incoming (length s.entries) ≡ Some heartbeat → 999 ≤ length s.past → length s.entries ≤ last_number
     → NoEraBegins s (step r s t).0 (step r s t).1
 ends r s t heartbeat found up is asks many few =
     subst (λ (p : State × Step). NoEraBegins s p.0 p.1) (sym (step_heard r s t found up is))

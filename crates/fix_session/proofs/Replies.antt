@@ -5,19 +5,19 @@ use Rattle.fix_dictionary.specs.declared.messages.Item.{Item}
 use Rattle.resend_store.specs.declared.entry.Entry.{Entry}
 use Rattle.resend_store.specs.declared.entry.Entry.TheVariants as entry
 use Rattle.fix_session.specs.declared.comp_ids.CompIds.{CompIds}
-use Rattle.fix_session.specs.declared.plan.Notice.{Notice}
-use Rattle.fix_session.specs.declared.plan.Notice.TheVariants as notice
+use Rattle.fix_session.specs.declared.plan.AdminReply.{AdminReply}
+use Rattle.fix_session.specs.declared.plan.AdminReply.TheVariants as admin_reply
 use Rattle.fix_session.specs.declared.plan.Step.{Step}
-use Rattle.fix_session.specs.declared.plan.Sends.{Sends}
-use Rattle.fix_session.specs.declared.plan.Sends.TheVariants.{Nothing, One, Two}
-use Rattle.fix_session.specs.declared.line.TickAsk.{TickAsk}
-use Rattle.fix_session.specs.declared.line.TickAsk.TheVariants as tick_asks
+use Rattle.fix_session.specs.declared.plan.AdminReplies.{AdminReplies}
+use Rattle.fix_session.specs.declared.plan.AdminReplies.TheVariants.{Nothing, One, Two}
+use Rattle.fix_session.specs.declared.session_state.TimerAction.{TimerAction}
+use Rattle.fix_session.specs.declared.session_state.TimerAction.TheVariants as tick_asks
 use Rattle.fix_session.specs.Reader.{Reader}
 use Rattle.fix_session.specs.Sent.{apps_of, apps, apps_past, numbered_in, numbered, marks, past_after, entries_in}
 use Rattle.fix_session.specs.Body.{frame_in}
 use Rattle.fix_session.specs.State.{State}
 use Rattle.fix_session.specs.Table.{are_spent, are_numbers_spent}
-use Rattle.fix_session.specs.Ticks.{asked_at}
+use Rattle.fix_session.specs.Ticks.{timer_action}
 use Rattle.fix_session.specs.Machine.{step, step_on, tick, tick_by, sends_now, sent, pushed, plan_for}
 use Rattle.fix_session.specs.Runs.{Event, Push, Step_at, Tick_at, Break, Resume, Send, Pop, Unpop, Take_wire, History, begin, happens, run, popped, reply_of, replies}
 use Rattle.fix_session.proofs.Rows.{if_either}
@@ -26,7 +26,7 @@ apps-append : (xs ys : List Entry) → apps (xs ++ ys) ≡ apps xs ++ apps ys
 apps-append [] ys = refl
 apps-append (x ∷ xs) ys = rw (apps-append xs ys) (sym (append_assoc (apps_of x) (apps xs) (apps ys)))
 
-session_entries : (es : List Entry) (sends : Sends) → apps (es ++ marks sends) ≡ apps es
+session_entries : (es : List Entry) (admin_replies : AdminReplies) → apps (es ++ marks admin_replies) ≡ apps es
 session_entries es Nothing = ap apps (append-nil es)
 session_entries es (One a) = rw (apps-append es (entry.Session ∷ [])) (append-nil (apps es))
 session_entries es (Two a b) = rw (apps-append es (entry.Session ∷ entry.Session ∷ [])) (append-nil (apps es))
@@ -35,34 +35,34 @@ apps_past-append : (xs ys : List (List Entry)) → apps_past (xs ++ ys) ≡ apps
 apps_past-append [] ys = refl
 apps_past-append (x ∷ xs) ys = rw (apps_past-append xs ys) (sym (append_assoc (apps x) (apps_past xs) (apps_past ys)))
 
-era_entries : (begins : Bool) (past : List (List Entry)) (es : List Entry) (sends : Sends) →
-    numbered_in (past_after begins past es) (entries_in begins es ++ marks sends) ≡ numbered_in past es
-era_entries false past es sends = ap (λ (l : List App). apps_past past ++ l) (session_entries es sends)
-era_entries true past es sends =
-    ap (λ (l : List App). apps_past (past ++ es ∷ []) ++ l) (session_entries [] sends)
+era_entries : (begins : Bool) (past : List (List Entry)) (es : List Entry) (admin_replies : AdminReplies) →
+    numbered_in (past_after begins past es) (entries_in begins es ++ marks admin_replies) ≡ numbered_in past es
+era_entries false past es admin_replies = ap (λ (l : List App). apps_past past ++ l) (session_entries es admin_replies)
+era_entries true past es admin_replies =
+    ap (λ (l : List App). apps_past (past ++ es ∷ []) ++ l) (session_entries [] admin_replies)
     ∙ append-nil (apps_past (past ++ es ∷ []))
     ∙ apps_past-append past (es ∷ [])
     ∙ ap (λ (l : List App). apps_past past ++ l) (append-nil (apps es))
 
 step_on_same : (r : Reader) (s : State) (t : ℕ) (found : Option (List ℕ × List ℕ)) → numbered (step_on r s t found).0 ≡ numbered s
 step_on_same r s t None = refl
-step_on_same r s t (Some found) = era_entries (plan_for s (frame_in r s.ids found.0)).begins s.past s.entries (plan_for s (frame_in r s.ids found.0)).sends
+step_on_same r s t (Some found) = era_entries (plan_for s (frame_in r s.ids found.0)).begins s.past s.entries (plan_for s (frame_in r s.ids found.0)).admin_replies
 
 pub step_same : (r : Reader) (s : State) (t : ℕ) → numbered (step r s t).0 ≡ numbered s
 step_same r s t = if_either (λ (p : State × Step). numbered p.0 ≡ numbered s) s.line.up _ _ (step_on_same r s (max s.line.moment t) (r.front s.unread).found) refl
 
-sends_now_same : (s : State) (t : ℕ) (message : Notice) (test_at : Option ℕ) → numbered (sends_now s t message test_at).0 ≡ numbered s
-sends_now_same s t message test_at =
+sends_now_same : (s : State) (t : ℕ) (message : AdminReply) (test_request_sent_at : Option ℕ) → numbered (sends_now s t message test_request_sent_at).0 ≡ numbered s
+sends_now_same s t message test_request_sent_at =
     if_either (λ (p : State × Step). numbered p.0 ≡ numbered s) (are_spent (length s.entries) (One message)) _ _ refl (era_entries false s.past s.entries (One message))
 
-tick_by_same : (s : State) (t : ℕ) (asked : TickAsk) → numbered (tick_by s t asked).0 ≡ numbered s
+tick_by_same : (s : State) (t : ℕ) (asked : TimerAction) → numbered (tick_by s t asked).0 ≡ numbered s
 tick_by_same s t tick_asks.Nothing = refl
-tick_by_same s t tick_asks.Heartbeat = sends_now_same s t notice.Heartbeat s.line.test_at
-tick_by_same s t tick_asks.Test = sends_now_same s t notice.Test (Some t)
+tick_by_same s t tick_asks.Heartbeat = sends_now_same s t admin_reply.Heartbeat s.line.test_request_sent_at
+tick_by_same s t tick_asks.TestRequest = sends_now_same s t admin_reply.TestRequest (Some t)
 tick_by_same s t tick_asks.Silent = refl
 
 pub tick_same : (s : State) (t : ℕ) → numbered (tick s t).0 ≡ numbered s
-tick_same s t = tick_by_same s (max s.line.moment t) (asked_at s.line (max s.line.moment t))
+tick_same s t = tick_by_same s (max s.line.moment t) (timer_action s.line (max s.line.moment t))
 
 pub pushed_same : (r : Reader) (s : State) (piece : List ℕ) → numbered (pushed r s piece) ≡ numbered s
 pushed_same r s piece = if_either (λ (new : State). numbered new ≡ numbered s) s.line.up _ _ refl refl

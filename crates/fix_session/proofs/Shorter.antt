@@ -33,9 +33,9 @@ abbrev LeavesLess : State → State × Step → Type 0
 LeavesLess s out = Shortens out.1 (length s.unread) (length out.0.unread)
 
 on_shortens : (r : Reader) (s : State) (t : ℕ) (passed : ℕ) (found : Option (List ℕ × List ℕ)) → Stands (drop passed s.unread) found → LeavesLess s (step_on r s t found)
-on_shortens r s t passed None stands = omega arith
-on_shortens r s t passed (Some found) stands =
-    let less = begun (drop passed s.unread) found.0 found.1 stands in
+on_shortens r s t passed None is_outstanding = omega arith
+on_shortens r s t passed (Some found) is_outstanding =
+    let less = begun (drop passed s.unread) found.0 found.1 is_outstanding in
     let rest = length-drop (r.front found.1).passed found.1 in
     shortens (plan_for s (frame_in r s.ids found.0)).answer (length s.unread) (length (settled r found.1)) (omega (arith, less, rest, length-drop passed s.unread))
 
@@ -47,5 +47,5 @@ pub steps_shorten : (r : Reader) (s : State) (t : ℕ) → LeavesLess s (step r 
 steps_shorten r s t =
     let at : ℕ = max s.line.moment t in
     shortens_if s s.line.up (step_on r s at (r.front s.unread).found) (moved s at, Idle)
-    (on_shortens r s at (r.front s.unread).passed (r.front s.unread).found (r.is_front s.unread).stands)
+    (on_shortens r s at (r.front s.unread).passed (r.front s.unread).found (r.is_front s.unread).is_outstanding)
     (omega arith)

@@ -3,11 +3,11 @@ use Rattle.std.specs.Prelude.{◌≡◌, ℕ, List, [], ◌∷◌, ◌++◌, tru
 use Rattle.resend_store.specs.declared.entry.Entry.TheVariants.{Session}
 use Rattle.fix_session.specs.declared.frame.Frame.{Frame}
 use Rattle.fix_session.specs.declared.frame.Content.TheVariants.{Logon}
-use Rattle.fix_session.specs.declared.plan.Notice.TheVariants as notice
+use Rattle.fix_session.specs.declared.plan.AdminReply.TheVariants as admin_reply
 use Rattle.fix_session.specs.declared.plan.Step.{Step}
 use Rattle.fix_session.specs.declared.plan.Step.TheVariants.{Did, Dropped}
 use Rattle.fix_session.specs.declared.plan.Why.TheVariants as why
-use Rattle.fix_session.specs.Sent.{notice_frame}
+use Rattle.fix_session.specs.Sent.{admin_reply_frame}
 use Rattle.fix_session.specs.State.{State}
 
 -- a Logon of the counterparty with number 1, ResetSeqNumFlag and this heartbeat interval, that is no possible duplicate
@@ -15,7 +15,7 @@ pub record IsReset (f : Frame) (heartbeat : ℕ) : Type 0 where
   pub spelled : f.content ≡ Logon heartbeat (Some true)
   pub first : f.number ≡ Some 1
   pub from_peer : f.comp_ids_right ≡ true
-  pub told_once : f.possible_duplicate ≡ false
+  pub emitted_once : f.possible_duplicate ≡ false
 
 -- Behind such a Logon, heard at moment t, both sides number from 1, and each has spent it; no request and no test stands. What was
 -- numbered is kept, what is ready stays, and the reply is queued behind what was.
@@ -23,13 +23,13 @@ pub record EraBegins (s new : State) (answer : Step) (t : ℕ) (kind : List ℕ)
   pub answered : answer ≡ Did
   pub past : new.past ≡ s.past ++ s.entries ∷ []
   pub entries : new.entries ≡ Session ∷ []
-  pub due : new.line.due ≡ 2
+  pub next_incoming : new.line.next_incoming ≡ 2
   pub heartbeat_is : new.line.heartbeat ≡ heartbeat
-  pub standing : new.line.standing ≡ None
-  pub test_at : new.line.test_at ≡ None
+  pub outstanding_request : new.line.outstanding_request ≡ None
+  pub test_request_sent_at : new.line.test_request_sent_at ≡ None
   pub logged_on : new.line.logged_on ≡ true
   pub ready : new.ready ≡ s.ready
-  pub wire : new.wire ≡ s.wire ++ notice_frame s.ids t kind f.content 1 (notice.Logon heartbeat (Some true))
+  pub wire : new.wire ≡ s.wire ++ admin_reply_frame s.ids t kind f.content 1 (admin_reply.Logon heartbeat (Some true))
 
 -- where 1,000 eras have begun such a Logon ends the connection, with nothing sent or spent
 pub record NoEraBegins (s new : State) (answer : Step) : Type 0 where
@@ -37,6 +37,6 @@ pub record NoEraBegins (s new : State) (answer : Step) : Type 0 where
   pub up : new.line.up ≡ false
   pub past : new.past ≡ s.past
   pub entries : new.entries ≡ s.entries
-  pub due : new.line.due ≡ s.line.due
+  pub next_incoming : new.line.next_incoming ≡ s.line.next_incoming
   pub ready : new.ready ≡ s.ready
   pub wire : new.wire ≡ s.wire

@@ -19,10 +19,10 @@ use Rattle.fix_session.specs.declared.frame.Content.TheVariants as content
 use Rattle.fix_session.specs.declared.comp_ids.CompIds.{CompIds}
 use Rattle.fix_session.specs.declared.plan.LogoutText.{LogoutText}
 use Rattle.fix_session.specs.declared.plan.LogoutText.TheVariants.{Plain, TooLow, NumberMissing, CompIdProblem}
-use Rattle.fix_session.specs.declared.plan.Notice.{Notice}
-use Rattle.fix_session.specs.declared.plan.Notice.TheVariants as notice
-use Rattle.fix_session.specs.declared.plan.Sends.{Sends}
-use Rattle.fix_session.specs.declared.plan.Sends.TheVariants.{Nothing, One, Two}
+use Rattle.fix_session.specs.declared.plan.AdminReply.{AdminReply}
+use Rattle.fix_session.specs.declared.plan.AdminReply.TheVariants as admin_reply
+use Rattle.fix_session.specs.declared.plan.AdminReplies.{AdminReplies}
+use Rattle.fix_session.specs.declared.plan.AdminReplies.TheVariants.{Nothing, One, Two}
 use Rattle.fix_session.specs.declared.plan.Plan.{Plan}
 use Rattle.fix_session.specs.State.{State}
 
@@ -47,13 +47,13 @@ test_id (content.TestRequest id) = Some id
 test_id said = None
 
 -- the session message of a notice, for a frame that states this type and has this content
-abbrev pub admin_of : List ℕ → Content → Notice → Admin
-admin_of kind said (notice.Logon heartbeat reset) = admin.Logon (record { heartbeat_interval = heartbeat; reset = reset })
-admin_of kind said notice.Heartbeat = admin.Heartbeat (record { test_id = None })
-admin_of kind said notice.Answer = admin.Heartbeat (record { test_id = test_id said })
-admin_of kind said notice.Test = admin.TestRequest (record { test_id = codes "TEST" })
-admin_of kind said (notice.ResendRequest from) = admin.ResendRequest (record { begin = from; end = 0 })
-admin_of kind said (notice.Reject of fault) =
+abbrev pub admin_of : List ℕ → Content → AdminReply → Admin
+admin_of kind said (admin_reply.Logon heartbeat reset) = admin.Logon (record { heartbeat_interval = heartbeat; reset = reset })
+admin_of kind said admin_reply.Heartbeat = admin.Heartbeat (record { test_id = None })
+admin_of kind said admin_reply.HeartbeatReply = admin.Heartbeat (record { test_id = test_id said })
+admin_of kind said admin_reply.TestRequest = admin.TestRequest (record { test_id = codes "TEST" })
+admin_of kind said (admin_reply.ResendRequest from) = admin.ResendRequest (record { begin = from; end = 0 })
+admin_of kind said (admin_reply.Reject of fault) =
     admin.Reject (record {
       reference_number = of;
       reference_tag = fault.tag;
@@ -61,7 +61,7 @@ admin_of kind said (notice.Reject of fault) =
       reason = Some fault.reason;
       text = None;
     })
-admin_of kind said (notice.Logout text) = admin.Logout (record { text = logout_text text })
+admin_of kind said (admin_reply.Logout text) = admin.Logout (record { text = logout_text text })
 
 -- 43=Y where a message is sent again
 abbrev pub duplicate : Option ℕ → Option Bool
@@ -99,15 +99,15 @@ unfoldable pub framed : Message → List ℕ
 framed m = frame (decimal (length (message_text m))) (message_text m)
 
 -- the frame of a notice, as first sent
-unfoldable pub notice_frame : CompIds → ℕ → List ℕ → Content → ℕ → Notice → List ℕ
-notice_frame ids t kind said number a = framed (admin_message ids number t (admin_of kind said a))
+unfoldable pub admin_reply_frame : CompIds → ℕ → List ℕ → Content → ℕ → AdminReply → List ℕ
+admin_reply_frame ids t kind said number a = framed (admin_message ids number t (admin_of kind said a))
 
 -- the frames of notices, as first sent, from this number on
-abbrev pub sends_frames : CompIds → ℕ → List ℕ → Content → ℕ → Sends → List ℕ
+abbrev pub sends_frames : CompIds → ℕ → List ℕ → Content → ℕ → AdminReplies → List ℕ
 sends_frames ids t kind said number Nothing = []
-sends_frames ids t kind said number (One a) = notice_frame ids t kind said number a
+sends_frames ids t kind said number (One a) = admin_reply_frame ids t kind said number a
 sends_frames ids t kind said number (Two a b) =
-    notice_frame ids t kind said number a ++ notice_frame ids t kind said (number + 1) b
+    admin_reply_frame ids t kind said number a ++ admin_reply_frame ids t kind said (number + 1) b
 
 -- the frame of a message that is sent again
 unfoldable pub again_frame : CompIds → ℕ → Resent → List ℕ
@@ -127,8 +127,8 @@ asked_frames ids t entries (Some request) = again_frames ids t (resent request.b
 unfoldable pub written : CompIds → List Entry → ℕ → List ℕ → Content → Plan → List ℕ
 written ids entries t kind said plan =
     if plan.begins
-    then sends_frames ids t kind said 1 plan.sends
-    else asked_frames ids t entries plan.again ++ sends_frames ids t kind said (length entries + 1) plan.sends
+    then sends_frames ids t kind said 1 plan.admin_replies
+    else asked_frames ids t entries plan.again ++ sends_frames ids t kind said (length entries + 1) plan.admin_replies
 
 -- the eras that are over, and the entries of the era, where a new one begins or does not
 abbrev pub past_after : Bool → List (List Entry) → List Entry → List (List Entry)
@@ -138,7 +138,7 @@ abbrev pub entries_in : Bool → List Entry → List Entry
 entries_in begins entries = if begins then [] else entries
 
 -- the entries that these messages make
-abbrev pub marks : Sends → List Entry
+abbrev pub marks : AdminReplies → List Entry
 marks Nothing = []
 marks (One a) = entry.Session ∷ []
 marks (Two a b) = entry.Session ∷ entry.Session ∷ []

@@ -5,7 +5,7 @@ ghost use Rattle.fix_dictionary.specs.declared.messages.App.{App};
 ghost use Rattle.fix_dictionary.specs.declared.messages.Item.{Item};
 ghost use Rattle.fix_session.specs.declared.comp_ids.CompIds.{CompIds};
 ghost use Rattle.fix_session.specs.Body.{frame_in, kind_in};
-ghost use Rattle.fix_session.specs.Chain.{accepted, due_after, era_after, era_asked, Rises};
+ghost use Rattle.fix_session.specs.Chain.{accepted, next_incoming_after, era_after, era_asked, Rises};
 ghost use Rattle.fix_session.specs.Eras.{EraBegins, IsReset, NoEraBegins};
 ghost use Rattle.fix_session.specs.Heard.{Heard};
 ghost use Rattle.fix_session.specs.Machine.{step, tick, sent, pushed, AtEnd, Grows};
@@ -25,7 +25,7 @@ use fix_frame::stream_laws;
 pub fn taken_then_ready()
     ensures accepted { (r : Reader) (ids : CompIds) (events : List Event) → (run r events (begin ids)).taken ++ (run r events (begin ids)).session.ready ≡ accepted (run r events (begin ids)).heard }
     ensures era { (r : Reader) (ids : CompIds) (events : List Event) → era_of (run r events (begin ids)).session.past ≡ era_after (run r events (begin ids)).heard }
-    ensures due { (r : Reader) (ids : CompIds) (events : List Event) → (run r events (begin ids)).session.line.due ≡ due_after (run r events (begin ids)).heard }
+    ensures next_incoming { (r : Reader) (ids : CompIds) (events : List Event) → (run r events (begin ids)).session.line.next_incoming ≡ next_incoming_after (run r events (begin ids)).heard }
 {}
 
 /// Whatever is heard, the eras of what is accepted, and within an era the numbers, rise: each message once.
@@ -36,11 +36,11 @@ pub fn numbers_rise()
 /// A frame asks for a new era exactly where it is a Logon with ResetSeqNumFlag as the rule has it, and not both sides have their
 /// first number to give. A step that hears such a frame begins an era, and none past the thousandth.
 pub fn new_eras()
-    ensures asked { (f : Frame) (due entries heartbeat : ℕ) → era_asked f due entries ≡ Some heartbeat → IsReset f heartbeat × ((due ≡ 1) × (entries ≡ 0) → ⊥) }
-    ensures asks { (f : Frame) (due entries heartbeat : ℕ) → IsReset f heartbeat → ((due ≡ 1) × (entries ≡ 0) → ⊥) → era_asked f due entries ≡ Some heartbeat }
-    ensures begins { (r : Reader) (s : State) (t heartbeat : ℕ) (found : List ℕ × List ℕ) → s.line.up ≡ true → (r.front s.unread).found ≡ Some found → era_asked (frame_in r s.ids found.0) s.line.due (length s.entries) ≡ Some heartbeat → length s.past < 999
+    ensures asked { (f : Frame) (next_incoming entries heartbeat : ℕ) → era_asked f next_incoming entries ≡ Some heartbeat → IsReset f heartbeat × ((next_incoming ≡ 1) × (entries ≡ 0) → ⊥) }
+    ensures asks { (f : Frame) (next_incoming entries heartbeat : ℕ) → IsReset f heartbeat → ((next_incoming ≡ 1) × (entries ≡ 0) → ⊥) → era_asked f next_incoming entries ≡ Some heartbeat }
+    ensures begins { (r : Reader) (s : State) (t heartbeat : ℕ) (found : List ℕ × List ℕ) → s.line.up ≡ true → (r.front s.unread).found ≡ Some found → era_asked (frame_in r s.ids found.0) s.line.next_incoming (length s.entries) ≡ Some heartbeat → length s.past < 999
         → EraBegins s (step r s t).0 (step r s t).1 (max s.line.moment t) (kind_in found.0) (frame_in r s.ids found.0) heartbeat }
-    ensures ends { (r : Reader) (s : State) (t heartbeat : ℕ) (found : List ℕ × List ℕ) → s.line.up ≡ true → (r.front s.unread).found ≡ Some found → era_asked (frame_in r s.ids found.0) s.line.due (length s.entries) ≡ Some heartbeat → 999 ≤ length s.past → length s.entries ≤ last_number
+    ensures ends { (r : Reader) (s : State) (t heartbeat : ℕ) (found : List ℕ × List ℕ) → s.line.up ≡ true → (r.front s.unread).found ≡ Some found → era_asked (frame_in r s.ids found.0) s.line.next_incoming (length s.entries) ≡ Some heartbeat → 999 ≤ length s.past → length s.entries ≤ last_number
         → NoEraBegins s (step r s t).0 (step r s t).1 }
 {}
 

@@ -9,11 +9,11 @@ ghost use Rattle.fix_session.specs.State.{fresh, resumed, broken};
 ghost use Rattle.fix_session.specs.Table.{are_numbers_spent};
 
 use crate::comp_ids::CompIds;
-use crate::line::{Line, TickAsk};
-use crate::plan::{Notice, Step, Why};
-use crate::table::LAST_NUMBER;
+use crate::plan::{AdminReply, Step, Why};
+use crate::session_state::{SessionState, TimerAction};
+use crate::table::MAX_SEQ_NUM;
 use crate::unread::{forget, next_body, no_bytes, settle};
-use crate::wire::{Wire, write_app, write_notice};
+use crate::wire::{Wire, write_admin_reply, write_app};
 use crate::work::{Work, add_plan, join, prepare};
 use fix_dictionary::{App, BoxedApp, Identifier, Item};
 use fix_frame::Cutter;
@@ -46,7 +46,7 @@ pub struct Unsent {
 pub struct Session {
     alloc: Global,
     ids: CompIds,
-    line: Line,
+    line: SessionState,
     cutter: Cutter,
     store: Store,
     ready: VecDeque<Item>,
@@ -97,7 +97,7 @@ impl Session {
                 own: *own,
                 peer: *peer,
             },
-            line: Line::new(),
+            line: SessionState::new(),
             cutter: no_bytes(alloc),
             store: Store::new(alloc),
             ready: VecDeque::new(alloc),
@@ -244,20 +244,20 @@ impl Session {
         ensures state { OnOk result (self.new.state ≡ (machine.tick self.old.state t).0) }
         ensures answer { IfOk result (λ answer. answer ≡ (machine.tick self.old.state t).1) }
         ensures err { OnErr result (self.new.state ≡ self.old.state) }
-        ensures due { OnErr result ((machine.tick self.old.state t).1 ≡ Step.Did) }
+        ensures next_incoming { OnErr result ((machine.tick self.old.state t).1 ≡ Step.Did) }
     {
         let t = later(self.line.moment, t);
-        match self.line.asked_at(t) {
-            TickAsk::Nothing => {
+        match self.line.timer_action(t) {
+            TimerAction::Nothing => {
                 self.line.moment = t;
                 Ok(Step::Idle)
             }
-            TickAsk::Heartbeat => {
-                let test_at = self.line.test_at;
-                self.send_now(t, Notice::Heartbeat, test_at)
+            TimerAction::Heartbeat => {
+                let test_request_sent_at = self.line.test_request_sent_at;
+                self.send_now(t, AdminReply::Heartbeat, test_request_sent_at)
             }
-            TickAsk::Test => self.send_now(t, Notice::Test, Some(t)),
-            TickAsk::Silent => {
+            TimerAction::TestRequest => self.send_now(t, AdminReply::TestRequest, Some(t)),
+            TimerAction::Silent => {
                 self.drop_line(t);
                 Ok(Step::Dropped(Why::Silent))
             }
@@ -276,25 +276,25 @@ impl Session {
     fn send_now(
         &mut self,
         t: Moment,
-        message: Notice,
-        test_at: Option<Moment>,
+        message: AdminReply,
+        test_request_sent_at: Option<Moment>,
     ) -> Result<Step, AllocError>
-        ensures state { OnOk result (self.new.state ≡ (machine.sends_now self.old.state t message test_at).0) }
-        ensures answer { IfOk result (λ answer. answer ≡ (machine.sends_now self.old.state t message test_at).1) }
+        ensures state { OnOk result (self.new.state ≡ (machine.sends_now self.old.state t message test_request_sent_at).0) }
+        ensures answer { IfOk result (λ answer. answer ≡ (machine.sends_now self.old.state t message test_request_sent_at).1) }
         ensures err { OnErr result (self.new.state ≡ self.old.state) }
-        ensures due { OnErr result ((machine.sends_now self.old.state t message test_at).1 ≡ Step.Did) }
+        ensures next_incoming { OnErr result ((machine.sends_now self.old.state t message test_request_sent_at).1 ≡ Step.Did) }
     {
         let number = self.store.next_number();
-        if number > LAST_NUMBER {
+        if number > MAX_SEQ_NUM {
             self.drop_line(t);
             return Ok(Step::Dropped(Why::NumbersSpent));
         }
         self.store.reserve(1)?;
-        write_notice(self.alloc, &self.ids, t, number, message, &mut self.wire)?;
+        write_admin_reply(self.alloc, &self.ids, t, number, message, &mut self.wire)?;
         self.store.add_admin_reserved();
         self.line.moment = t;
-        self.line.sent_at = t;
-        self.line.test_at = test_at;
+        self.line.last_sent_at = t;
+        self.line.test_request_sent_at = test_request_sent_at;
         Ok(Step::Did)
     }
 
@@ -304,7 +304,7 @@ impl Session {
         ensures full { (result ≡ Err SendFault.Full) ↔ (are_numbers_spent self.old.state ≡ true) }
         ensures err { OnErr result (self.new.state ≡ self.old.state) }
     {
-        if self.store.next_number() > LAST_NUMBER {
+        if self.store.next_number() > MAX_SEQ_NUM {
             return Err(SendFault::Full);
         }
         let Ok(app) = copy_of(self.alloc, app) else {
@@ -324,7 +324,7 @@ impl Session {
         ensures err { OnErr result (self.new.state ≡ self.old.state) }
     {
         let number = self.store.next_number();
-        if number > LAST_NUMBER {
+        if number > MAX_SEQ_NUM {
             let fault = SendFault::Full;
             return Err(Unsent { app, fault });
         }
@@ -346,7 +346,7 @@ impl Session {
         self.store.add_app_reserved(app, t);
         self.line.moment = t;
         if is_written {
-            self.line.sent_at = t;
+            self.line.last_sent_at = t;
         }
         Ok(())
     }
@@ -371,7 +371,7 @@ fn ready_app(
 ) -> Result<(), AllocError>
     requires { IsSequenceNumber number }
     ensures ok { OnOk result (wire.new ≡ (if is_written then wire.old ++ framed (app_message ids.now number t app.now) else wire.old)) }
-    ensures room { OnOk result (1 ≤ store.new.room) }
+    ensures headroom { OnOk result (1 ≤ store.new.headroom) }
     ensures past { store.new.past ≡ store.old.past }
     ensures entries { store.new.entries ≡ store.old.entries }
     ensures err { OnErr result (wire.new ≡ wire.old) }

@@ -11,10 +11,10 @@ ghost use Rattle.fix_session.specs.Table.{before, count};
 use crate::comp_ids::CompIds;
 use crate::frame::Content;
 use crate::messages::{admin_of, gap_fill, header};
-use crate::plan::{Notice, Plan, Sends};
+use crate::plan::{AdminReplies, AdminReply, Plan};
 use fix_dictionary::{App, BodyRef, HeaderRef, ResendRequest, SequenceNumber};
+use fix_encoder::print_parts;
 use fix_frame::write_frame;
-use fix_printing::print_parts;
 use resend_store::{Resend, Store};
 use sef_moment::Moment;
 use std::alloc::{AllocError, Global};
@@ -113,18 +113,18 @@ pub(crate) struct Occasion<'i, 'k, 'c> {
 }
 
 // Appends the frame of a notice, as first sent.
-#[tactic(auto, unfolding(crate::specs::Sent::notice_frame))]
-fn append_notice(
+#[tactic(auto, unfolding(crate::specs::Sent::admin_reply_frame))]
+fn append_admin_reply(
     alloc: Global,
     on: &Occasion,
     number: u32,
-    notice: Notice,
+    admin_reply: AdminReply,
     wire: &mut Wire,
 ) -> Result<(), AllocError>
     requires { IsSequenceNumber number }
-    ensures { Appends wire.old wire.new (sent.notice_frame on.now.ids.now on.now.t on.now.kind.now on.now.content.now number notice) result }
+    ensures { Appends wire.old wire.new (sent.admin_reply_frame on.now.ids.now on.now.t on.now.kind.now on.now.content.now number admin_reply) result }
 {
-    let admin = admin_of(alloc, on.kind, on.content, notice)?;
+    let admin = admin_of(alloc, on.kind, on.content, admin_reply)?;
     let header = header(on.ids, SequenceNumber::new(number), on.t, None);
     wire.append(&header, BodyRef::Admin(&admin))
 }
@@ -177,23 +177,23 @@ fn append_again(
 }
 
 // Appends the frames of new session messages, from this number on.
-fn append_sends(
+fn append_admin_replies(
     alloc: Global,
     on: &Occasion,
     number: u32,
-    sends: Sends,
+    admin_replies: AdminReplies,
     wire: &mut Wire,
 ) -> Result<(), AllocError>
     requires first { 1 ≤ number }
-    requires last { number + count sends ≤ 1000000000 }
-    ensures { Appends wire.old wire.new (sent.sends_frames on.now.ids.now on.now.t on.now.kind.now on.now.content.now number sends) result }
+    requires last { number + count admin_replies ≤ 1000000000 }
+    ensures { Appends wire.old wire.new (sent.sends_frames on.now.ids.now on.now.t on.now.kind.now on.now.content.now number admin_replies) result }
 {
-    match sends {
-        Sends::Nothing => Ok(()),
-        Sends::One { message } => append_notice(alloc, on, number, message, wire),
-        Sends::Two { first, second } => {
-            append_notice(alloc, on, number, first, wire)?;
-            append_notice(alloc, on, number + 1, second, wire)
+    match admin_replies {
+        AdminReplies::Nothing => Ok(()),
+        AdminReplies::One { message } => append_admin_reply(alloc, on, number, message, wire),
+        AdminReplies::Two { first, second } => {
+            append_admin_reply(alloc, on, number, first, wire)?;
+            append_admin_reply(alloc, on, number + 1, second, wire)
         }
     }
 }
@@ -208,14 +208,14 @@ fn append_plan(
     plan: &Plan,
     wire: &mut Wire,
 ) -> Result<(), AllocError>
-    requires { before plan.now.begins (length store.now.entries) + count plan.now.sends ≤ 999999999 }
+    requires { before plan.now.begins (length store.now.entries) + count plan.now.admin_replies ≤ 999999999 }
     ensures { Appends wire.old wire.new (sent.written on.now.ids.now store.now.entries on.now.t on.now.kind.now on.now.content.now plan.now) result }
 {
     if plan.begins {
-        return append_sends(alloc, on, 1, plan.sends, wire);
+        return append_admin_replies(alloc, on, 1, plan.admin_replies, wire);
     }
     append_again(on.ids, on.t, store, plan.again, wire)?;
-    append_sends(alloc, on, store.next_number(), plan.sends, wire)
+    append_admin_replies(alloc, on, store.next_number(), plan.admin_replies, wire)
 }
 
 // What was done, where what a refused call queued behind the first bytes is taken back.
@@ -238,7 +238,7 @@ pub(crate) fn write_plan(
     plan: &Plan,
     wire: &mut Wire,
 ) -> Result<(), AllocError>
-    requires { before plan.now.begins (length store.now.entries) + count plan.now.sends ≤ 999999999 }
+    requires { before plan.now.begins (length store.now.entries) + count plan.now.admin_replies ≤ 999999999 }
     ensures ok { OnOk result (wire.new ≡ wire.old ++ sent.written on.now.ids.now store.now.entries on.now.t on.now.kind.now on.now.content.now plan.now) }
     ensures err { OnErr result (wire.new ≡ wire.old) }
 {
@@ -253,11 +253,11 @@ fn append_alone(
     ids: &CompIds,
     t: Moment,
     number: u32,
-    notice: Notice,
+    admin_reply: AdminReply,
     wire: &mut Wire,
 ) -> Result<(), AllocError>
     requires { IsSequenceNumber number }
-    ensures { Appends wire.old wire.new (sent.notice_frame ids.now t [] Content.Heartbeat number notice) result }
+    ensures { Appends wire.old wire.new (sent.admin_reply_frame ids.now t [] Content.Heartbeat number admin_reply) result }
 {
     let content = Content::Heartbeat;
     let on = Occasion {
@@ -266,24 +266,24 @@ fn append_alone(
         kind: &[],
         content: &content,
     };
-    append_notice(alloc, &on, number, notice, wire)
+    append_admin_reply(alloc, &on, number, admin_reply, wire)
 }
 
 /// Queues the frame of a notice, as first sent, that answers no frame; or nothing.
-pub(crate) fn write_notice(
+pub(crate) fn write_admin_reply(
     alloc: Global,
     ids: &CompIds,
     t: Moment,
     number: u32,
-    notice: Notice,
+    admin_reply: AdminReply,
     wire: &mut Wire,
 ) -> Result<(), AllocError>
     requires { IsSequenceNumber number }
-    ensures ok { OnOk result (wire.new ≡ wire.old ++ sent.notice_frame ids.now t [] Content.Heartbeat number notice) }
+    ensures ok { OnOk result (wire.new ≡ wire.old ++ sent.admin_reply_frame ids.now t [] Content.Heartbeat number admin_reply) }
     ensures err { OnErr result (wire.new ≡ wire.old) }
 {
     let len = wire.len();
-    let done = append_alone(alloc, ids, t, number, notice, wire);
+    let done = append_alone(alloc, ids, t, number, admin_reply, wire);
     taken_back(wire, len, done)
 }
 

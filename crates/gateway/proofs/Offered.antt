@@ -9,15 +9,15 @@ use Rattle.fix_session.specs.Reader.{Reader, settled}
 use Rattle.fix_session.specs.Sent.{written, framed, app_message}
 use Rattle.fix_session.specs.State.{State}
 use Rattle.fix_session.specs.Table.{are_spent, are_numbers_spent}
-use Rattle.fix_session.specs.Ticks.{asked_at}
-use Rattle.fix_session.specs.declared.plan.Sends.TheVariants.{One}
-use Rattle.fix_session.specs.declared.plan.Notice.{Notice}
-use Rattle.fix_session.specs.declared.line.TickAsk.{TickAsk}
-use Rattle.fix_session.specs.declared.line.TickAsk.TheVariants as tick_asks
+use Rattle.fix_session.specs.Ticks.{timer_action}
+use Rattle.fix_session.specs.declared.plan.AdminReplies.TheVariants.{One}
+use Rattle.fix_session.specs.declared.plan.AdminReply.{AdminReply}
+use Rattle.fix_session.specs.declared.session_state.TimerAction.{TimerAction}
+use Rattle.fix_session.specs.declared.session_state.TimerAction.TheVariants as tick_asks
 use Rattle.gateway.specs.declared.line.Accept.TheVariants as accept
 use Rattle.gateway.specs.declared.piece.Given.TheVariants as gave
-use Rattle.taken_and_owed.specs.declared.outgoing.Outgoing.TheVariants.{Message, Cut}
-use Rattle.gateway.specs.Thread.{Standing, Event, Accepts, Collects, Writes, Breaks_off, Reads, Keeps, Repeats, Steps, Hands, Ticks, moves, runs, hands}
+use Rattle.outbound_queue.specs.declared.outgoing.Outgoing.TheVariants.{Message, Cut}
+use Rattle.gateway.specs.Thread.{ThreadState, Event, Accepts, Collects, Writes, Breaks_off, Reads, Keeps, Repeats, Steps, Hands, Ticks, moves, runs, hands}
 use Rattle.gateway.specs.Offered.{Connection, Connections, AreFirstParts, AllFirstParts, IsFirstPart, closed, offers, queues, notes, noted}
 
 -- bytes were queued behind these
@@ -43,22 +43,22 @@ wire_of out = out.0.wire
 steps_grow : (r : Reader) (s : State) (t : ℕ) → Grows s.wire (session.step r s t).0.wire
 steps_grow r s t = grows_if wire_of s.wire s.line.up _ _ (step_grows r s (max s.line.moment t) (r.front s.unread).found) (same s.wire)
 
-sends_grow : (s : State) (t : ℕ) (message : Notice) (test_at : Option ℕ) → Grows s.wire (session.sends_now s t message test_at).0.wire
-sends_grow s t message test_at = grows_if wire_of s.wire (are_spent (length s.entries) (One message)) _ _ (same s.wire) (_, refl)
+sends_grow : (s : State) (t : ℕ) (message : AdminReply) (test_request_sent_at : Option ℕ) → Grows s.wire (session.sends_now s t message test_request_sent_at).0.wire
+sends_grow s t message test_request_sent_at = grows_if wire_of s.wire (are_spent (length s.entries) (One message)) _ _ (same s.wire) (_, refl)
 
-tick_grows : (s : State) (t : ℕ) (ask : TickAsk) → Grows s.wire (session.tick_by s t ask).0.wire
+tick_grows : (s : State) (t : ℕ) (ask : TimerAction) → Grows s.wire (session.tick_by s t ask).0.wire
 tick_grows s t tick_asks.Nothing = same s.wire
 tick_grows s t tick_asks.Heartbeat = sends_grow s t _ _
-tick_grows s t tick_asks.Test = sends_grow s t _ _
+tick_grows s t tick_asks.TestRequest = sends_grow s t _ _
 tick_grows s t tick_asks.Silent = same s.wire
 
 sent_grows : (s : State) (app : App) (t : ℕ) → Grows s.wire (session.sent s app t).wire
 sent_grows s app t = grows_if (λ (xs : List ℕ). xs) s.wire s.line.logged_on _ _ (framed (app_message s.ids (length s.entries + 1) t app), refl) (same s.wire)
 
-abbrev standing_wire : Standing → List ℕ
+abbrev standing_wire : ThreadState → List ℕ
 standing_wire s = s.session.wire
 
-reply_grows : (r : Reader) (s : Standing) (app : App) (t : ℕ) → Grows s.session.wire (moves r s (Collects (Message app) t)).session.wire
+reply_grows : (r : Reader) (s : ThreadState) (app : App) (t : ℕ) → Grows s.session.wire (moves r s (Collects (Message app) t)).session.wire
 reply_grows r s app t =
     grows_if standing_wire s.session.wire (are_numbers_spent s.session) _ _ (same s.session.wire) (sent_grows s.session app (max s.session.line.moment t))
 
@@ -69,7 +69,7 @@ pushed_same r s piece = if_same s.line.up
     if_same true = refl
     if_same false = refl
 
-hands_same : (s : Standing) (ready : List Item) → (hands s ready).session.wire ≡ s.session.wire
+hands_same : (s : ThreadState) (ready : List Item) → (hands s ready).session.wire ≡ s.session.wire
 hands_same s [] = refl
 hands_same s (x ∷ rest) = refl
 
@@ -102,7 +102,7 @@ queues_more c before after grows parts =
 stays : (c : Connections) (before after : List ℕ) → after ≡ before → AreFirstParts c before → AreFirstParts c after
 stays c before after is parts = subst (λ (wire : List ℕ). AreFirstParts c wire) (sym is) parts
 
-event_notes : (r : Reader) (s : Standing) (e : Event) (c : Connections) → AreFirstParts c s.session.wire → AreFirstParts (notes r s e c) (moves r s e).session.wire
+event_notes : (r : Reader) (s : ThreadState) (e : Event) (c : Connections) → AreFirstParts c s.session.wire → AreFirstParts (notes r s e c) (moves r s e).session.wire
 event_notes r s (Accepts accept.Up t) c parts = ends c s.session.wire parts
 event_notes r s (Accepts accept.Quiet t) c parts = parts
 event_notes r s (Accepts accept.Over t) c parts = parts
@@ -119,8 +119,8 @@ event_notes r s (Keeps piece) c parts = parts
 event_notes r s (Repeats piece) c parts = stays c s.session.wire _ (pushed_same r s.session piece) parts
 event_notes r s (Steps t) c parts = queues_more c s.session.wire _ (steps_grow r s.session t) parts
 event_notes r s Hands c parts = stays c s.session.wire _ (hands_same s s.session.ready) parts
-event_notes r s (Ticks t) c parts = queues_more c s.session.wire _ (tick_grows s.session (max s.session.line.moment t) (asked_at s.session.line (max s.session.line.moment t))) parts
+event_notes r s (Ticks t) c parts = queues_more c s.session.wire _ (tick_grows s.session (max s.session.line.moment t) (timer_action s.session.line (max s.session.line.moment t))) parts
 
-pub offered : (r : Reader) (events : List Event) (s : Standing) (c : Connections) → AreFirstParts c s.session.wire → AreFirstParts (noted r events s c) (runs r events s).session.wire
+pub offered : (r : Reader) (events : List Event) (s : ThreadState) (c : Connections) → AreFirstParts c s.session.wire → AreFirstParts (noted r events s c) (runs r events s).session.wire
 offered r [] s c parts = parts
 offered r (e ∷ events) s c parts = offered r events (moves r s e) (notes r s e c) (event_notes r s e c parts)

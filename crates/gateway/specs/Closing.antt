@@ -6,17 +6,17 @@ use Rattle.fix_dictionary.specs.declared.messages.Item.{Item}
 use Rattle.fix_session.specs.Chain.{accepted}
 use Rattle.fix_session.specs.Reader.{Reader}
 use Rattle.fix_session.specs.State.{State}
-use Rattle.taken_and_owed.specs.declared.outgoing.Outgoing.{Outgoing}
-use Rattle.gateway.specs.Calls.{heard_of, unmarked}
-use Rattle.gateway.specs.Thread.{Thread, Mark, events_of}
+use Rattle.outbound_queue.specs.declared.outgoing.Outgoing.{Outgoing}
+use Rattle.gateway.specs.Calls.{heard_of, without_cuts}
+use Rattle.gateway.specs.Thread.{Thread, TurnRecord, events_of}
 
 -- what was numbered for the counterparty, then what is left in its seat, then what waits for it, is what it is owed; of one that
 -- was cut, the mark aside, these are a first part of it
 abbrev pub Reached : List App → List App → List Outgoing → List Outgoing → Bool → Type 0
-Reached owed numbered left waiting false = numbered ++ unmarked (left ++ waiting) ≡ owed
-Reached owed numbered left waiting true = (rest : List App) × ((numbered ++ unmarked (left ++ waiting)) ++ rest ≡ owed)
+Reached owed numbered left waiting false = numbered ++ without_cuts (left ++ waiting) ≡ owed
+Reached owed numbered left waiting true = (rest : List App) × ((numbered ++ without_cuts (left ++ waiting)) ++ rest ≡ owed)
 
 -- what was taken of a new session in these turns, then what is left in its seat, then what is ready, is what its heard frames spell
-abbrev pub IsTakenWhole : Thread → List Mark → State → List Item → Option Item → Type 0
-IsTakenWhole start marks session taken left =
-    (r : Reader) → taken ++ (option_to_list left ++ session.ready) ≡ accepted (heard_of r start.session.ids (events_of marks))
+abbrev pub IsTakenWhole : Thread → List TurnRecord → State → List Item → Option Item → Type 0
+IsTakenWhole start turn_records session taken left =
+    (r : Reader) → taken ++ (option_to_list left ++ session.ready) ≡ accepted (heard_of r start.session.ids (events_of turn_records))

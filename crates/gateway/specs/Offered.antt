@@ -3,8 +3,8 @@ use Rattle.std.specs.Prelude.{◌≡◌, ℕ, List, [], ◌∷◌, ◌++◌, dro
 use Rattle.fix_session.specs.Reader.{Reader}
 use Rattle.gateway.specs.declared.line.Accept.TheVariants as accept
 use Rattle.gateway.specs.declared.piece.Given.TheVariants as gave
-use Rattle.taken_and_owed.specs.declared.outgoing.Outgoing.TheVariants.{Message, Cut}
-use Rattle.gateway.specs.Thread.{Standing, Event, Accepts, Collects, Writes, Breaks_off, Reads, Keeps, Repeats, Steps, Hands, Ticks, moves}
+use Rattle.outbound_queue.specs.declared.outgoing.Outgoing.TheVariants.{Message, Cut}
+use Rattle.gateway.specs.Thread.{ThreadState, Event, Accepts, Collects, Writes, Breaks_off, Reads, Keeps, Repeats, Steps, Hands, Ticks, moves}
 
 -- what was queued on a connection, and what the line was offered: all of it was taken, but for a last part of what it broke off in
 pub record Connection : Type 0 where
@@ -30,7 +30,7 @@ abbrev pub queues : Connections → List ℕ → List ℕ → Connections
 queues c before after = record c { now = record { queued = c.now.queued ++ drop (length before) after; offered = c.now.offered } }
 
 -- the connections after an event of a thread: one ends where the line breaks or another begins
-abbrev pub notes : Reader → Standing → Event → Connections → Connections
+abbrev pub notes : Reader → ThreadState → Event → Connections → Connections
 notes r s (Accepts accept.Up t) c = closed c
 notes r s (Accepts accept.Quiet t) c = c
 notes r s (Accepts accept.Over t) c = c
@@ -49,12 +49,12 @@ notes r s (Steps t) c = queues c s.session.wire (moves r s (Steps t)).session.wi
 notes r s Hands c = c
 notes r s (Ticks t) c = queues c s.session.wire (moves r s (Ticks t)).session.wire
 
-abbrev pub noted : Reader → List Event → Standing → Connections → Connections
+abbrev pub noted : Reader → List Event → ThreadState → Connections → Connections
 noted r [] s c = c
 noted r (e ∷ events) s c = noted r events (moves r s e) (notes r s e c)
 
 -- the connections of a run of events
-abbrev pub connections : Reader → List Event → Standing → Connections
+abbrev pub connections : Reader → List Event → ThreadState → Connections
 connections r events s = noted r events s (record { over = []; now = no_bytes })
 
 -- the line was offered a first part of what was queued

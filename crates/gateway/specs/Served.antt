@@ -5,7 +5,7 @@ use Rattle.intake_seats.specs.Ends.{IsSameHander}
 use Rattle.intake_seats.specs.Given.{HandEnd, TakeEnd}
 use Rattle.fix_dictionary.specs.declared.messages.Item.{Item}
 use Rattle.fix_session.specs.State.{Seen}
-use Rattle.taken_and_owed.specs.declared.outgoing.Outgoing.{Outgoing}
+use Rattle.outbound_queue.specs.declared.outgoing.Outgoing.{Outgoing}
 use Rattle.gateway.specs.Said.{Said}
 use Rattle.gateway.specs.Thread.{Thread, at_start}
 use Rattle.gateway.specs.Whole.{HasLed}
@@ -14,11 +14,11 @@ use Rattle.gateway.specs.Whole.{HasLed}
 pub record Served : Type 0 where
   pub thread : Thread
   pub passed : List Bool
-  pub told : List ℕ
+  pub emitted : List ℕ
   pub end : HandEnd Unit
 
 abbrev pub served : Seen → List Said → List ℕ → List Bool → HandEnd Item → TakeEnd Outgoing → HandEnd Unit → Served
-served session said told passed hand take end = record { thread = at_start session hand take said; passed = passed; told = told; end = end }
+served session said emitted passed hand take end = record { thread = at_start session hand take said; passed = passed; emitted = emitted; end = end }
 
 -- the ends are those of the three boards, and nothing is in hand
 abbrev pub IsReady : TableId → TableId → TableId → Served → Type 0
@@ -26,10 +26,10 @@ IsReady intake replies ends s = (s.thread.hand.board ≡ intake) × (s.thread.ta
 
 -- so many turns lead from start to end, nothing is in hand, and the mark was handed, once
 pub record HasServed (turns : ℕ) (start end : Served) : Type 0 where
-  pub led : HasLed turns start.thread end.thread start.passed end.passed start.told end.told
+  pub led : HasLed turns start.thread end.thread start.passed end.passed start.emitted end.emitted
   pub free : end.thread.take.in_hand ≡ None
   pub seat : IsSameHander start.end end.end
-  pub marked : start.end.given ≡ [] → end.end.given ≡ tt ∷ []
+  pub end_handed : start.end.given ≡ [] → end.end.given ≡ tt ∷ []
 
 -- each from its start
 pub record AreServed (turns : ℕ) (starts ends : List Served) : Type 0 where

@@ -11,26 +11,26 @@ use Rattle.gateway.specs.declared.line.Accept.{Accept}
 use Rattle.gateway.specs.declared.line.Accept.TheVariants as accept
 use Rattle.gateway.specs.declared.piece.Given.{Given}
 use Rattle.gateway.specs.declared.piece.Given.TheVariants as gave
-use Rattle.taken_and_owed.specs.declared.outgoing.Outgoing.{Outgoing}
-use Rattle.taken_and_owed.specs.declared.outgoing.Outgoing.TheVariants.{Message, Cut}
-use Rattle.gateway.specs.declared.turn.Collect.{Collect}
-use Rattle.gateway.specs.declared.turn.Collect.TheVariants as collect
-use Rattle.gateway.specs.declared.turn.Wrote.{Wrote}
-use Rattle.gateway.specs.declared.turn.Wrote.TheVariants as wrote
-use Rattle.gateway.specs.declared.turn.Repeat.{Repeat}
-use Rattle.gateway.specs.declared.turn.Repeat.TheVariants as repeat
+use Rattle.outbound_queue.specs.declared.outgoing.Outgoing.{Outgoing}
+use Rattle.outbound_queue.specs.declared.outgoing.Outgoing.TheVariants.{Message, Cut}
+use Rattle.gateway.specs.declared.turn.CollectOutcome.{CollectOutcome}
+use Rattle.gateway.specs.declared.turn.CollectOutcome.TheVariants as collect
+use Rattle.gateway.specs.declared.turn.WriteOutcome.{WriteOutcome}
+use Rattle.gateway.specs.declared.turn.WriteOutcome.TheVariants as wrote
+use Rattle.gateway.specs.declared.turn.RepushOutcome.{RepushOutcome}
+use Rattle.gateway.specs.declared.turn.RepushOutcome.TheVariants as repeat
 use Rattle.gateway.specs.declared.turn.Reading.{Reading}
 use Rattle.gateway.specs.declared.turn.Reading.TheVariants as reading
 use Rattle.gateway.specs.declared.stepping.StepsEnd.TheVariants as ends
 use Rattle.gateway.specs.Steps.{Settled}
 use Rattle.gateway.specs.declared.turn.Stepped.{Stepped}
-use Rattle.gateway.specs.declared.turn.Beat.{Beat}
+use Rattle.gateway.specs.declared.turn.TickStep.{TickStep}
 use Rattle.gateway.specs.declared.turn.Work.{Work}
 use Rattle.gateway.specs.declared.turn.Turn.{Turn}
-use Rattle.gateway.specs.declared.turn.Handed.{Handed}
-use Rattle.gateway.specs.declared.turn.Handed.TheVariants as handed
-use Rattle.gateway.specs.declared.turn.Ticked.{Ticked}
-use Rattle.gateway.specs.declared.turn.Ticked.TheVariants as ticked
+use Rattle.gateway.specs.declared.turn.HandOutcome.{HandOutcome}
+use Rattle.gateway.specs.declared.turn.HandOutcome.TheVariants as handed
+use Rattle.gateway.specs.declared.turn.TickOutcome.{TickOutcome}
+use Rattle.gateway.specs.declared.turn.TickOutcome.TheVariants as ticked
 use Rattle.gateway.specs.Said.{Said, Accepted, Gave, Took, Broke_off}
 
 -- what contracts see of a thread
@@ -51,14 +51,14 @@ abbrev pub at_start : Seen → HandEnd Item → TakeEnd Outgoing → List Said �
 at_start session hand take said = record { session = session.state; kept = None; hand = hand; take = take; said = said }
 
 -- the same without the looks at the seats
-pub record Standing : Type 0 where
+pub record ThreadState : Type 0 where
   pub session : State
   pub kept : Option (List ℕ)
   pub given : List Item  -- handed to the venue
   pub collected : List Outgoing  -- taken from the reply seat
   pub said : List Said
 
-abbrev pub standing : Thread → Standing
+abbrev pub standing : Thread → ThreadState
 standing a =
     record { session = a.session; kept = a.kept; given = a.hand.given; collected = a.take.taken; said = a.said }
 
@@ -84,36 +84,36 @@ pub data Event : Type 0 where
   Ticks : (t : ℕ) → Event
 
 -- the line breaks
-abbrev pub breaks : Standing → Standing
+abbrev pub breaks : ThreadState → ThreadState
 breaks s = record s { session = broken s.session; kept = None }
 
-abbrev pub accepts : Standing → Accept → ℕ → Standing
+abbrev pub accepts : ThreadState → Accept → ℕ → ThreadState
 accepts s accept.Up t = record s { session = resumed s.session (max s.session.line.moment t); kept = None }
 accepts s accept.Quiet t = s
 accepts s accept.Over t = s
 accepts s accept.Fault t = breaks s
 
-abbrev pub reads : Reader → Standing → Given → Standing
+abbrev pub reads : Reader → ThreadState → Given → ThreadState
 reads r s (gave.Got piece) = record s { session = session.pushed r s.session piece }
 reads r s gave.Quiet = s
 reads r s gave.Ended = breaks s
 reads r s gave.Fault = breaks s
 
-abbrev pub collects : Standing → Outgoing → ℕ → Standing
+abbrev pub collects : ThreadState → Outgoing → ℕ → ThreadState
 collects s (Message app) t =
     if are_numbers_spent s.session
     then s
     else record s { session = session.sent s.session app (max s.session.line.moment t); collected = s.collected ++ Message app ∷ [] }
 collects s Cut t = record (breaks s) { collected = s.collected ++ Cut ∷ [] }
 
-abbrev pub hands : Standing → List Item → Standing
+abbrev pub hands : ThreadState → List Item → ThreadState
 hands s [] = s
 hands s (x ∷ rest) = record s { session = record s.session { ready = rest }; given = s.given ++ x ∷ [] }
 
 abbrev pub unqueued : State → State
 unqueued s = record s { wire = [] }
 
-abbrev pub moves : Reader → Standing → Event → Standing
+abbrev pub moves : Reader → ThreadState → Event → ThreadState
 moves r s (Accepts answer t) = record (accepts s answer t) { said = s.said ++ Accepted answer ∷ [] }
 moves r s (Collects owed t) = collects s owed t
 moves r s Writes = record s { session = unqueued s.session; said = s.said ++ Took s.session.wire ∷ [] }
@@ -125,7 +125,7 @@ moves r s (Steps t) = record s { session = (session.step r s.session t).0 }
 moves r s Hands = hands s s.session.ready
 moves r s (Ticks t) = record s { session = (session.tick s.session t).0 }
 
-abbrev pub runs : Reader → List Event → Standing → Standing
+abbrev pub runs : Reader → List Event → ThreadState → ThreadState
 runs r [] s = s
 runs r (e ∷ events) s = runs r events (moves r s e)
 
@@ -135,18 +135,18 @@ abbrev pub accept_events : ℕ → Option Accept → List Event
 accept_events t None = []
 accept_events t (Some answer) = Accepts answer t ∷ []
 
-abbrev pub collect_events : ℕ → Collect → List Event
+abbrev pub collect_events : ℕ → CollectOutcome → List Event
 collect_events t collect.Nothing = []
 collect_events t (collect.Sent app) = Collects (Message app.value) t ∷ []
 collect_events t collect.Cut = Collects Cut t ∷ []
 collect_events t collect.Refused = []
 
-abbrev pub write_events : Wrote → List Event
+abbrev pub write_events : WriteOutcome → List Event
 write_events wrote.Nothing = []
 write_events wrote.All = Writes ∷ []
 write_events wrote.Fault = Breaks_off ∷ []
 
-abbrev pub repeat_events : Repeat → List Event
+abbrev pub repeat_events : RepushOutcome → List Event
 repeat_events repeat.Nothing = []
 repeat_events (repeat.Pushed piece) = Repeats piece ∷ []
 repeat_events repeat.Refused = []
@@ -156,12 +156,12 @@ read_events reading.Plenty = []
 read_events (reading.Answered given) = Reads given ∷ []
 read_events (reading.Kept piece) = Keeps piece ∷ []
 
-abbrev pub hand_events : Handed → List Event
+abbrev pub hand_events : HandOutcome → List Event
 hand_events handed.Given = Hands ∷ []
 hand_events handed.Nothing = []
 hand_events handed.Refused = []
 
-abbrev pub tick_events : ℕ → Ticked → List Event
+abbrev pub tick_events : ℕ → TickOutcome → List Event
 tick_events t ticked.Refused = []
 tick_events t ticked.Done = Ticks t ∷ []
 tick_events t ticked.Dropped = Ticks t ∷ []
@@ -174,29 +174,29 @@ steps_at (suc n) t = Steps t ∷ steps_at n t
 abbrev pub step_events : ℕ → ℕ → Stepped → List Event
 step_events steps t stepped = steps_at steps t ++ write_events stepped.wrote
 
-abbrev pub beat_events : ℕ → Beat → List Event
+abbrev pub beat_events : ℕ → TickStep → List Event
 beat_events t beat = tick_events t beat.ticked ++ write_events beat.wrote
 
 -- What else the phases tell
 
 -- the last look at the reply seat found it full, exactly where something was collected or refused
-abbrev pub Found : Collect → ℕ → Type 0
+abbrev pub Found : CollectOutcome → ℕ → Type 0
 Found collect.Nothing last = ¬ (last % 4 ≡ 2)
 Found found last = last % 4 ≡ 2
 
 -- what was pushed again is what was kept
-abbrev pub WasKept : Repeat → Option (List ℕ) → Type 0
+abbrev pub WasKept : RepushOutcome → Option (List ℕ) → Type 0
 WasKept repeat.Nothing kept = kept ≡ None
 WasKept (repeat.Pushed piece) kept = kept ≡ Some piece
 WasKept repeat.Refused kept = kept ≢ None
 
 -- nothing is kept from then on, unless it was refused again
-abbrev pub IsFree : Repeat → Option (List ℕ) → Type 0
+abbrev pub IsFree : RepushOutcome → Option (List ℕ) → Type 0
 IsFree repeat.Refused kept = Unit {0}
 IsFree pushed kept = kept ≡ None
 
 -- a message that is ready is a look at the intake seat
-abbrev pub looks_of : Handed → ℕ
+abbrev pub looks_of : HandOutcome → ℕ
 looks_of handed.Nothing = 0
 looks_of handed = 1
 
@@ -214,7 +214,7 @@ is_read (Some (reading.Answered given)) = true
 is_read (Some (reading.Kept piece)) = true
 
 -- neither had a write failed nor was a kept piece refused again
-abbrev pub is_unhindered : Wrote → Repeat → Bool
+abbrev pub is_unhindered : WriteOutcome → RepushOutcome → Bool
 is_unhindered wrote.Fault repeat = false
 is_unhindered wrote repeat.Refused = false
 is_unhindered wrote repeat = true
@@ -252,7 +252,7 @@ pub record Works (r : Reader) (t : ℕ) (may_read : Bool) (steps : ℕ) (work : 
   pub stepped_out : work.stepped.end ≡ ends.Dropped → (runs r (before_hand steps t work) (standing before)).session.wire ≡ []
   pub ticked_out : work.beat.ticked ≡ ticked.Dropped → after.session.wire ≡ []
 
-abbrev pub collected_events : ℕ → Option Collect → List Event
+abbrev pub collected_events : ℕ → Option CollectOutcome → List Event
 collected_events t None = []
 collected_events t (Some collected) = collect_events t collected
 
@@ -265,12 +265,12 @@ abbrev pub before_work : Turn → List Event
 before_work turn = accept_events turn.moment turn.accepted ++ collected_events turn.moment turn.collected
 
 -- a turn, and how many steps it made
-pub record Mark : Type 0 where
+pub record TurnRecord : Type 0 where
   pub turn : Turn
   pub steps : ℕ
 
-abbrev pub turn_events : Mark → List Event
-turn_events mark = before_work mark.turn ++ worked_events mark.steps mark.turn.moment mark.turn.work
+abbrev pub turn_events : TurnRecord → List Event
+turn_events turn_record = before_work turn_record.turn ++ worked_events turn_record.steps turn_record.turn.moment turn_record.turn.work
 
 -- there will be no more connections
 abbrev pub is_over : Option Accept → Bool
@@ -278,24 +278,24 @@ is_over (Some accept.Over) = true
 is_over answer = false
 
 -- the mark was collected
-abbrev pub is_mark : Collect → Bool
-is_mark collect.Cut = true
-is_mark collected = false
+abbrev pub is_cut_token : CollectOutcome → Bool
+is_cut_token collect.Cut = true
+is_cut_token collected = false
 
 -- a turn leaves its work out where the mark was collected, and nowhere else
 abbrev pub LeavesWork : Bool → Option Work → Type 0
 LeavesWork true None = Unit {0}
 LeavesWork false (Some work) = Unit {0}
-LeavesWork mark work = ⊥
+LeavesWork turn_record work = ⊥
 
 -- what a turn leaves out: all where the line is over, the work where the mark was collected, and else nothing
-abbrev pub EndsBy : Bool → Option Collect → Option Work → Type 0
+abbrev pub EndsBy : Bool → Option CollectOutcome → Option Work → Type 0
 EndsBy true None None = Unit {0}
-EndsBy false (Some collected) work = LeavesWork (is_mark collected) work
+EndsBy false (Some collected) work = LeavesWork (is_cut_token collected) work
 EndsBy over collected work = ⊥
 
 -- the last look at the reply seat, where there was one
-abbrev pub LookedAt : Option Collect → ℕ → Type 0
+abbrev pub LookedAt : Option CollectOutcome → ℕ → Type 0
 LookedAt None last = Unit {0}
 LookedAt (Some collected) last = Found collected last
 
@@ -308,81 +308,81 @@ tries None = 0
 tries (Some work) = looks_of work.handed
 
 -- what the work of a turn did, if there was any
-abbrev pub WorksIf : Reader → Mark → Thread → Thread → Option Work → Type 0
-WorksIf r mark middle after None = after ≡ middle
-WorksIf r mark middle after (Some work) =
-    Works r mark.turn.moment (mark.turn.passed && not (is_some mark.turn.accepted)) mark.steps work middle after
+abbrev pub WorksIf : Reader → TurnRecord → Thread → Thread → Option Work → Type 0
+WorksIf r turn_record middle after None = after ≡ middle
+WorksIf r turn_record middle after (Some work) =
+    Works r turn_record.turn.moment (turn_record.turn.passed && not (is_some turn_record.turn.accepted)) turn_record.steps work middle after
 
 -- what one turn did
-pub record IsTurn (r : Reader) (mark : Mark) (before after : Thread) : Type 0 where
-  pub ends_by : EndsBy (is_over mark.turn.accepted) mark.turn.collected mark.turn.work
+pub record IsTurn (r : Reader) (turn_record : TurnRecord) (before after : Thread) : Type 0 where
+  pub ends_by : EndsBy (is_over turn_record.turn.accepted) turn_record.turn.collected turn_record.turn.work
   -- the line was asked for a connection where there was none, and nowhere else
-  pub asked : is_some mark.turn.accepted ≡ not before.session.line.up
+  pub asked : is_some turn_record.turn.accepted ≡ not before.session.line.up
   -- up to the first write, the thread moved by the turn's events alone
   pub middle : Thread
-  pub moved : standing middle ≡ runs r (before_work mark.turn) (standing before)
+  pub moved : standing middle ≡ runs r (before_work turn_record.turn) (standing before)
   -- and so it did from there on
-  pub worked : WorksIf r mark middle after mark.turn.work
+  pub worked : WorksIf r turn_record middle after turn_record.turn.work
   -- the ends of the seats are the same; a look at the reply seat was made, and one at the intake seat where a message was ready
   pub take : IsSameTaker before.take after.take
   pub hand : IsSameHander before.hand after.hand
-  pub take_looked : before.take.looks + one_if (is_some mark.turn.collected) ≤ after.take.looks
-  pub hand_looked : before.hand.looks + tries mark.turn.work ≤ after.hand.looks
-  pub found : LookedAt mark.turn.collected after.take.last
-  pub unlooked : mark.turn.collected ≡ None → after.take ≡ before.take
+  pub take_looked : before.take.looks + one_if (is_some turn_record.turn.collected) ≤ after.take.looks
+  pub hand_looked : before.hand.looks + tries turn_record.turn.work ≤ after.hand.looks
+  pub found : LookedAt turn_record.turn.collected after.take.last
+  pub unlooked : turn_record.turn.collected ≡ None → after.take ≡ before.take
 
 -- Turns one after another
 
 -- what the last look at the reply seat in these turns led to, or else this
-abbrev pub or_else : Option Collect → Option Collect → Option Collect
+abbrev pub or_else : Option CollectOutcome → Option CollectOutcome → Option CollectOutcome
 or_else None found = found
 or_else (Some collected) found = Some collected
 
-abbrev pub last_look : Option Collect → List Mark → Option Collect
+abbrev pub last_look : Option CollectOutcome → List TurnRecord → Option CollectOutcome
 last_look found [] = found
-last_look found (mark ∷ marks) = last_look (or_else mark.turn.collected found) marks
+last_look found (turn_record ∷ turn_records) = last_look (or_else turn_record.turn.collected found) turn_records
 
-abbrev pub Follow : Reader → List Mark → Thread → Thread → Type 0
+abbrev pub Follow : Reader → List TurnRecord → Thread → Thread → Type 0
 Follow r [] before after = after ≡ before
-Follow r (mark ∷ marks) before after = (middle : Thread) × IsTurn r mark before middle × Follow r marks middle after
+Follow r (turn_record ∷ turn_records) before after = (middle : Thread) × IsTurn r turn_record before middle × Follow r turn_records middle after
 
-abbrev pub events_of : List Mark → List Event
+abbrev pub events_of : List TurnRecord → List Event
 events_of [] = []
-events_of (mark ∷ marks) = turn_events mark ++ events_of marks
+events_of (turn_record ∷ turn_records) = turn_events turn_record ++ events_of turn_records
 
 -- so many turns, fewer only after one that leaves out its work
-abbrev pub IsCount : ℕ → List Mark → Type 0
+abbrev pub IsCount : ℕ → List TurnRecord → Type 0
 IsCount zero [] = Unit {0}
-IsCount zero (mark ∷ marks) = ⊥
+IsCount zero (turn_record ∷ turn_records) = ⊥
 IsCount (suc n) [] = ⊥
-IsCount (suc n) (mark ∷ marks) = MatchOption mark.turn.work (marks ≡ []) (λ _. IsCount n marks)
+IsCount (suc n) (turn_record ∷ turn_records) = MatchOption turn_record.turn.work (turn_records ≡ []) (λ _. IsCount n turn_records)
 
 -- what the gate and the clock answered
-abbrev pub gates : List Mark → List Bool
+abbrev pub gates : List TurnRecord → List Bool
 gates [] = []
-gates (mark ∷ marks) = mark.turn.passed ∷ gates marks
+gates (turn_record ∷ turn_records) = turn_record.turn.passed ∷ gates turn_records
 
-abbrev pub moments : List Mark → List ℕ
+abbrev pub moments : List TurnRecord → List ℕ
 moments [] = []
-moments (mark ∷ marks) = mark.turn.moment ∷ moments marks
+moments (turn_record ∷ turn_records) = turn_record.turn.moment ∷ moments turn_records
 
 -- the looks at the reply seat, and those at the intake seat, that turns make at least
-abbrev pub looked : List Mark → ℕ
+abbrev pub looked : List TurnRecord → ℕ
 looked [] = 0
-looked (mark ∷ marks) = one_if (is_some mark.turn.collected) + looked marks
+looked (turn_record ∷ turn_records) = one_if (is_some turn_record.turn.collected) + looked turn_records
 
-abbrev pub tried : List Mark → ℕ
+abbrev pub tried : List TurnRecord → ℕ
 tried [] = 0
-tried (mark ∷ marks) = tries mark.turn.work + tried marks
+tried (turn_record ∷ turn_records) = tries turn_record.turn.work + tried turn_records
 
 -- the whole of a session's thread: so many turns lead from what stood before to what stands after
-pub record Loops (r : Reader) (turns : ℕ) (marks : List Mark) (before after : Thread) : Type 0 where
-  pub follow : Follow r marks before after
-  pub count : IsCount turns marks
-  pub moved : standing after ≡ runs r (events_of marks) (standing before)
+pub record Loops (r : Reader) (turns : ℕ) (turn_records : List TurnRecord) (before after : Thread) : Type 0 where
+  pub follow : Follow r turn_records before after
+  pub count : IsCount turns turn_records
+  pub moved : standing after ≡ runs r (events_of turn_records) (standing before)
   pub take : IsSameTaker before.take after.take
   pub hand : IsSameHander before.hand after.hand
-  pub take_looked : before.take.looks + looked marks ≤ after.take.looks
-  pub hand_looked : before.hand.looks + tried marks ≤ after.hand.looks
+  pub take_looked : before.take.looks + looked turn_records ≤ after.take.looks
+  pub hand_looked : before.hand.looks + tried turn_records ≤ after.hand.looks
   -- where these turns looked at the reply seat, the last look found it full, exactly where it led to something
-  pub found : LookedAt (last_look None marks) after.take.last
+  pub found : LookedAt (last_look None turn_records) after.take.last

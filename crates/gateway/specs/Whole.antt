@@ -4,8 +4,8 @@ use Rattle.fix_session.specs.Reader.{Reader}
 use Rattle.fix_session.specs.Chain.{accepted}
 use Rattle.fix_session.specs.Sent.{numbered}
 use Rattle.fix_session.specs.State.{fresh}
-use Rattle.gateway.specs.Thread.{Thread, Mark, Loops, standing, events_of, gates, moments}
-use Rattle.gateway.specs.Calls.{heard_of, unmarked}
+use Rattle.gateway.specs.Thread.{Thread, TurnRecord, Loops, standing, events_of, gates, moments}
+use Rattle.gateway.specs.Calls.{heard_of, without_cuts}
 use Rattle.gateway.specs.Said.{faults_in}
 use Rattle.gateway.specs.Faults.{TookAll}
 use Rattle.gateway.specs.Offered.{AreFirstParts, connections}
@@ -18,19 +18,19 @@ pub record IsNew (start : Thread) : Type 0 where
 
 -- what stands after these turns of a new session: what was given and then what is ready is what its heard frames spell,
 -- and what is numbered for its counterparty is what was collected, the mark aside
-pub record Spells (r : Reader) (start : Thread) (marks : List Mark) (end : Thread) : Type 0 where
-  pub accepted : end.hand.given ++ end.session.ready ≡ accepted (heard_of r start.session.ids (events_of marks))
-  pub numbered : numbered end.session ≡ unmarked end.take.taken
+pub record Spells (r : Reader) (start : Thread) (turn_records : List TurnRecord) (end : Thread) : Type 0 where
+  pub accepted : end.hand.given ++ end.session.ready ≡ accepted (heard_of r start.session.ids (events_of turn_records))
+  pub numbered : numbered end.session ≡ without_cuts end.take.taken
 
 -- so many turns lead from start to end, but for the piece that was kept last; the gate and the clock answered once in each
-pub record HasLed (turns : ℕ) (start end : Thread) (passed passed' : List Bool) (told told' : List ℕ) : Type 0 where
-  pub marks : List Mark
+pub record HasLed (turns : ℕ) (start end : Thread) (passed passed' : List Bool) (emitted emitted' : List ℕ) : Type 0 where
+  pub turn_records : List TurnRecord
   pub kept : Option (List ℕ)
-  pub loops : (r : Reader) → Loops r turns marks start (record end { kept = kept })
+  pub loops : (r : Reader) → Loops r turns turn_records start (record end { kept = kept })
   -- where the line told no fault, it took all that it was offered
-  pub took : faults_in end.said ≡ faults_in start.said → TookAll (events_of marks)
+  pub took : faults_in end.said ≡ faults_in start.said → TookAll (events_of turn_records)
   -- on each connection the line was offered a first part of what was queued there
-  pub offered : (r : Reader) → start.session.wire ≡ [] → AreFirstParts (connections r (events_of marks) (standing start)) end.session.wire
-  pub at_gate : passed' ≡ passed ++ gates marks
-  pub at_clock : told' ≡ told ++ moments marks
-  pub spells : (r : Reader) → IsNew start → Spells r start marks end
+  pub offered : (r : Reader) → start.session.wire ≡ [] → AreFirstParts (connections r (events_of turn_records) (standing start)) end.session.wire
+  pub at_gate : passed' ≡ passed ++ gates turn_records
+  pub at_clock : emitted' ≡ emitted ++ moments turn_records
+  pub spells : (r : Reader) → IsNew start → Spells r start turn_records end

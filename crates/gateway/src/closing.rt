@@ -85,10 +85,10 @@ pub fn close_venue<L: Line + Drop, K: Drop>(
     ensures lines { IfOk result (λ c. c.lines.items ≡ map (λ e. e.line) ended.items) }
     ensures count { IfOk result (λ c. (length c.left.items ≡ intake.words) × (length c.replies_left.items ≡ replies.words)) }
     ensures kept { IfOk result (λ c. (c.venue ≡ parts.venue) × (c.keeper ≡ parts.keeper) × (c.queues ≡ parts.queues)) }
-    ensures taken { IfOk result (λ c. (turns k : ℕ) (start : Thread) (passed passed' : List Bool) (told told' : List ℕ) (e : _) (t : _) (x : _) → slice_get ended.items k ≡ Some e → slice_get parts.takes.items k ≡ Some t → slice_get c.left.items k ≡ Some x
-        → (led : HasLed turns start (at_start e.session e.hand e.take (L.said e.line)) passed passed' told told') → IsNew start → IsTakenWhole start led.marks e.session.state t.taken x) }
-    ensures reached { IfOk result (λ c. (turns k : ℕ) (start : Thread) (passed passed' : List Bool) (told told' : List ℕ) (owed : List App) (e : _) (h : _) (q : _) (x : _) → slice_get ended.items k ≡ Some e → slice_get parts.hands.items k ≡ Some h → slice_get parts.queues.items k ≡ Some q → slice_get c.replies_left.items k ≡ Some x
-        → HasLed turns start (at_start e.session e.hand e.take (L.said e.line)) passed passed' told told' → IsNew start → IsOwed owed h.given q.waiting.items q.is_cut
+    ensures taken { IfOk result (λ c. (turns k : ℕ) (start : Thread) (passed passed' : List Bool) (emitted emitted' : List ℕ) (e : _) (t : _) (x : _) → slice_get ended.items k ≡ Some e → slice_get parts.takes.items k ≡ Some t → slice_get c.left.items k ≡ Some x
+        → (led : HasLed turns start (at_start e.session e.hand e.take (L.said e.line)) passed passed' emitted emitted') → IsNew start → IsTakenWhole start led.turn_records e.session.state t.taken x) }
+    ensures reached { IfOk result (λ c. (turns k : ℕ) (start : Thread) (passed passed' : List Bool) (emitted emitted' : List ℕ) (owed : List App) (e : _) (h : _) (q : _) (x : _) → slice_get ended.items k ≡ Some e → slice_get parts.hands.items k ≡ Some h → slice_get parts.queues.items k ≡ Some q → slice_get c.replies_left.items k ≡ Some x
+        → HasLed turns start (at_start e.session e.hand e.take (L.said e.line)) passed passed' emitted emitted' → IsNew start → IsOwed owed h.given q.waiting.items q.is_cut
         → Reached owed (numbered e.session.state) (option_to_list x) q.waiting.items q.is_cut) }
 {
     laws::one_reader();

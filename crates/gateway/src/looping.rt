@@ -2,7 +2,7 @@
 ghost use Rattle.std.specs.Prelude.{◌≡◌, List, [], ◌∷◌, ◌++◌, Option, None};
 ghost use Rattle.fix_session.specs.Reader.{Reader};
 ghost use Rattle.intake_seats.specs.Ends.{IsSameHander};
-ghost use Rattle.gateway.specs.Thread.{Mark, Loops, gates, moments};
+ghost use Rattle.gateway.specs.Thread.{TurnRecord, Loops, gates, moments};
 ghost use Rattle.gateway.specs.Thread.{at_start};
 ghost use Rattle.gateway.specs.Whole.{HasLed};
 
@@ -26,7 +26,7 @@ fn run_turns<R: Wait, L: Line, C: Clock, G: Gate>(
 )
     requires intake { thread.old.hand.board ≡ intake.now }
     requires replies { thread.old.take.board ≡ replies.now }
-    ensures loops { (marks : List Mark) × ((r : Reader) → Loops r turns marks thread.old thread.new) × (G.passed gate.new ≡ G.passed gate.old ++ gates marks) × (C.answered clock.new ≡ C.answered clock.old ++ moments marks) }
+    ensures loops { (turn_records : List TurnRecord) × ((r : Reader) → Loops r turns turn_records thread.old thread.new) × (G.passed gate.new ≡ G.passed gate.old ++ gates turn_records) × (C.answered clock.new ≡ C.answered clock.old ++ moments turn_records) }
 {
     for number in 0..turns {
         let turn = thread.turn(rt, clock, gate, intake, replies, number);
@@ -38,14 +38,14 @@ fn run_turns<R: Wait, L: Line, C: Clock, G: Gate>(
 }
 
 // Hands the mark of a session that ends: where none was handed at its seat, it is, once.
-fn hand_mark<G: Gate>(end: &mut HandSeat<()>, ends: &Board<()>, gate: &mut G)
+fn hand_end_token<G: Gate>(end: &mut HandSeat<()>, ends: &Board<()>, gate: &mut G)
     requires own { end.old.board ≡ ends.now }
     ensures seat { IsSameHander end.old end.new }
-    ensures marked { end.old.given ≡ [] → end.new.given ≡ tt ∷ [] }
+    ensures end_handed { end.old.given ≡ [] → end.new.given ≡ tt ∷ [] }
     ensures gate { G.passed gate.new ≡ G.passed gate.old }
 {
     if end.hand(ends, ()).is_ok() {
-        gate.stirred();
+        gate.progressed();
     }
 }
 
@@ -81,13 +81,13 @@ pub fn session_loop<R: Wait, L: Line, C: Clock, G: Gate>(
     ensures session { HasLed turns (at_start session hand take (L.said line)) (at_start result.session result.hand result.take (L.said result.line)) (G.passed gate.old) (G.passed gate.new) (C.answered clock.old) (C.answered clock.new) }
     ensures nothing_in_hand { result.take.in_hand ≡ None }
     ensures seat { IsSameHander end.old end.new }
-    ensures marked { end.old.given ≡ [] → end.new.given ≡ tt ∷ [] }
+    ensures end_handed { end.old.given ≡ [] → end.new.given ≡ tt ∷ [] }
 {
     laws::taken_then_ready();
     laws::replies_in_order();
     laws::one_reader();
     let mut thread = SessionThread::new(session, line, hand, take);
     run_turns(rt, &mut thread, clock, gate, intake, replies, turns);
-    hand_mark(end, ends, gate);
+    hand_end_token(end, ends, gate);
     thread.into_parts()
 }

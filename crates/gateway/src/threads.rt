@@ -198,7 +198,7 @@ pub fn join_all<R: Threads, L: Line + Drop, C: Clock + Drop, G: Gate + Drop>(
 }
 
 /// Runs the threads of all sessions, does this work beside them, and joins them in their order.
-pub fn run_beside<
+pub fn run_in_parallel<
     'e,
     R: Threads + Wait + Sync,
     L: Line + Send + Drop + 'e,

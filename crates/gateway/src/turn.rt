@@ -9,7 +9,7 @@ ghost use Rattle.gateway.specs.Thread.{standing, runs};
 
 use crate::line::{Accept, Gate, Line, LineFault, Read};
 use crate::looping::Ended;
-use crate::piece::{Given, PIECE, Piece};
+use crate::piece::{Given, Piece, READ_SIZE};
 use crate::stepping::{StepsEnd, step_to_the_end};
 use fix_dictionary::{BoxedApp, Item};
 use fix_session::{Session, Step, laws};
@@ -22,7 +22,7 @@ use venue_worker::{Clock, Outgoing};
 
 /// What a look at the reply seat led to.
 #[derive(Drop)]
-pub enum Collect {
+pub enum CollectOutcome {
     /// The seat was not full.
     Nothing,
     /// A reply was sent; which one, contracts alone see.
@@ -35,7 +35,7 @@ pub enum Collect {
 
 /// What became of the queued bytes.
 #[derive(Clone, Copy)]
-pub enum Wrote {
+pub enum WriteOutcome {
     /// There were none.
     Nothing,
     All,
@@ -44,7 +44,7 @@ pub enum Wrote {
 
 /// What became of a piece that was kept.
 #[derive(Drop)]
-pub enum Repeat {
+pub enum RepushOutcome {
     Nothing,
     Pushed { piece: Piece },
     Refused,
@@ -64,12 +64,12 @@ pub enum Reading {
 #[derive(Clone, Copy)]
 pub struct Stepped {
     pub end: StepsEnd,
-    pub wrote: Wrote,
+    pub wrote: WriteOutcome,
 }
 
 /// What became of the first ready message.
 #[derive(Clone, Copy)]
-pub enum Handed {
+pub enum HandOutcome {
     /// There was none.
     Nothing,
     Given,
@@ -79,7 +79,7 @@ pub enum Handed {
 
 /// What became of a tick.
 #[derive(Clone, Copy)]
-pub enum Ticked {
+pub enum TickOutcome {
     Done,
     Dropped,
     /// Refused for memory.
@@ -88,21 +88,21 @@ pub enum Ticked {
 
 /// The tick of a turn, and what became of the queued bytes where it dropped the line.
 #[derive(Clone, Copy)]
-pub struct Beat {
-    pub ticked: Ticked,
-    pub wrote: Wrote,
+pub struct TickStep {
+    pub ticked: TickOutcome,
+    pub wrote: WriteOutcome,
 }
 
 /// What a turn did with the gate open or shut, from the first write on.
 #[derive(Drop)]
 pub struct Work {
-    pub wrote: Wrote,
-    pub repeat: Repeat,
+    pub wrote: WriteOutcome,
+    pub repeat: RepushOutcome,
     /// None where the line was not to be read.
     pub reading: Option<Reading>,
     pub stepped: Stepped,
-    pub handed: Handed,
-    pub beat: Beat,
+    pub handed: HandOutcome,
+    pub beat: TickStep,
 }
 
 /// What was done in one turn.
@@ -115,18 +115,18 @@ pub struct Turn {
     /// None where the line was up.
     pub accepted: Option<Accept>,
     /// None where the line is over.
-    pub collected: Option<Collect>,
+    pub collected: Option<CollectOutcome>,
     /// None where the line is over, or the mark was collected.
     pub work: Option<Work>,
 }
 
 /// A session reads no more while so many messages are ready.
-pub const MOST_READY: usize = 1024;
+pub const MAX_READY: usize = 1024;
 
 /// A session between its line and its two seats.
 pub struct SessionThread<L: Line> {
     pub(crate) session: Session,
-    pub(crate) buffer: [u8; PIECE],
+    pub(crate) buffer: [u8; READ_SIZE],
     /// So many bytes at the front of the buffer came and were refused for memory.
     pub(crate) kept: Option<usize>,
     pub(crate) line: L,
@@ -157,7 +157,7 @@ impl<L: Line> SessionThread<L> {
     {
         SessionThread {
             session,
-            buffer: [0; PIECE],
+            buffer: [0; READ_SIZE],
             kept: None,
             line,
             hand,
@@ -215,7 +215,7 @@ impl<L: Line> SessionThread<L> {
     }
 
     // Sends the reply that is in the seat, or drops the line where it is the mark.
-    fn collect(&mut self, replies: &Board<Outgoing>, t: Moment) -> Collect
+    fn collect(&mut self, replies: &Board<Outgoing>, t: Moment) -> CollectOutcome
         requires board { self.old.take.board ≡ replies.now }
         ensures moves { (r : Reader) → standing self.new ≡ runs r (thread.collect_events t result) (standing self.old) }
         ensures hand { self.new.hand ≡ self.old.hand }
@@ -224,61 +224,61 @@ impl<L: Line> SessionThread<L> {
         ensures found { thread.Found result self.new.take.last }
     {
         match self.take.take(replies) {
-            None => Collect::Nothing,
+            None => CollectOutcome::Nothing,
             Some(Outgoing::Cut) => {
                 self.take.clear(replies);
                 self.break_line();
-                Collect::Cut
+                CollectOutcome::Cut
             }
             Some(Outgoing::Message(app)) => {
                 let sent = Snapshot::of(&app);
                 if let Err(unsent) = self.session.send_boxed(app, t) {
                     drop(self.take.put_back(replies, Outgoing::Message(unsent.app)));
-                    return Collect::Refused;
+                    return CollectOutcome::Refused;
                 }
                 self.take.clear(replies);
-                Collect::Sent { app: sent }
+                CollectOutcome::Sent { app: sent }
             }
         }
     }
 
     // Hands what is queued to the line.
-    fn write_out<R: Wait>(&mut self, rt: &R) -> Wrote
+    fn write_out<R: Wait>(&mut self, rt: &R) -> WriteOutcome
         ensures moves { (r : Reader) → standing self.new ≡ runs r (thread.write_events result) (standing self.old) }
         ensures seats { (self.new.hand ≡ self.old.hand) × (self.new.take ≡ self.old.take) }
         ensures out { self.new.session.wire ≡ [] }
     {
         let wire = self.session.wire();
         if wire.is_empty() {
-            return Wrote::Nothing;
+            return WriteOutcome::Nothing;
         }
         match self.line.write(rt, wire) {
             Ok(()) => {
                 self.session.clear_wire();
-                Wrote::All
+                WriteOutcome::All
             }
             Err(LineFault) => {
                 self.break_line();
-                Wrote::Fault
+                WriteOutcome::Fault
             }
         }
     }
 
     // Pushes the piece that was kept, if there is one.
-    fn repeat(&mut self) -> Repeat
+    fn repeat(&mut self) -> RepushOutcome
         ensures moves { (r : Reader) → standing self.new ≡ runs r (thread.repeat_events result) (standing self.old) }
         ensures seats { (self.new.hand ≡ self.old.hand) × (self.new.take ≡ self.old.take) }
         ensures kept { thread.WasKept result self.old.kept }
         ensures free { thread.IsFree result self.new.kept }
     {
         let Some(count) = self.kept else {
-            return Repeat::Nothing;
+            return RepushOutcome::Nothing;
         };
         match push(&mut self.session, &self.buffer, count) {
-            None => Repeat::Refused,
+            None => RepushOutcome::Refused,
             Some(piece) => {
                 self.kept = None;
-                Repeat::Pushed { piece }
+                RepushOutcome::Pushed { piece }
             }
         }
     }
@@ -291,7 +291,7 @@ impl<L: Line> SessionThread<L> {
         ensures plenty { result ≡ Reading.Plenty → 1024 ≤ length self.old.session.ready }
         ensures few { thread.is_read (Some result) ≡ true → length self.old.session.ready < 1024 }
     {
-        if self.session.ready_len() >= MOST_READY {
+        if self.session.ready_len() >= MAX_READY {
             return Reading::Plenty;
         }
         match self.line.read(rt, &mut self.buffer) {
@@ -327,34 +327,34 @@ impl<L: Line> SessionThread<L> {
     }
 
     // Gives the first ready message to the venue.
-    fn hand_on(&mut self, intake: &Board<Item>) -> Handed
+    fn hand_on(&mut self, intake: &Board<Item>) -> HandOutcome
         requires board { self.old.hand.board ≡ intake.now }
         ensures moves { (r : Reader) → standing self.new ≡ runs r (thread.hand_events result) (standing self.old) }
         ensures take { self.new.take ≡ self.old.take }
         ensures hand { IsSameHander self.old.hand self.new.hand }
         ensures looked { self.old.hand.looks + thread.looks_of result ≤ self.new.hand.looks }
-        ensures nothing { result ≡ Handed.Nothing → self.old.session.ready ≡ [] }
+        ensures nothing { result ≡ HandOutcome.Nothing → self.old.session.ready ≡ [] }
     {
         let Some(item) = self.session.pop_ready() else {
-            return Handed::Nothing;
+            return HandOutcome::Nothing;
         };
         match self.hand.hand(intake, item) {
-            Ok(()) => Handed::Given,
+            Ok(()) => HandOutcome::Given,
             Err(item) => {
                 self.session.unpop_ready(item);
-                Handed::Refused
+                HandOutcome::Refused
             }
         }
     }
 
-    fn tick(&mut self, t: Moment) -> Ticked
+    fn tick(&mut self, t: Moment) -> TickOutcome
         ensures moves { (r : Reader) → standing self.new ≡ runs r (thread.tick_events t result) (standing self.old) }
         ensures seats { (self.new.hand ≡ self.old.hand) × (self.new.take ≡ self.old.take) }
     {
         match self.session.tick(t) {
-            Err(_) => Ticked::Refused,
-            Ok(Step::Dropped(_)) => Ticked::Dropped,
-            Ok(_) => Ticked::Done,
+            Err(_) => TickOutcome::Refused,
+            Ok(Step::Dropped(_)) => TickOutcome::Dropped,
+            Ok(_) => TickOutcome::Done,
         }
     }
 
@@ -376,23 +376,23 @@ impl<L: Line> SessionThread<L> {
         let end = self.step_all(t);
         let wrote = match end {
             StepsEnd::Dropped => self.write_out(rt),
-            StepsEnd::Idle | StepsEnd::Refused => Wrote::Nothing,
+            StepsEnd::Idle | StepsEnd::Refused => WriteOutcome::Nothing,
         };
         Stepped { end, wrote }
     }
 
     // Ticks; where the line drops, what is queued is written at once.
-    fn beat<R: Wait>(&mut self, rt: &R, t: Moment) -> Beat
+    fn beat<R: Wait>(&mut self, rt: &R, t: Moment) -> TickStep
         ensures moves { (r : Reader) → standing self.new ≡ runs r (thread.beat_events t result) (standing self.old) }
         ensures seats { (self.new.hand ≡ self.old.hand) × (self.new.take ≡ self.old.take) }
-        ensures out { result.ticked ≡ Ticked.Dropped → self.new.session.wire ≡ [] }
+        ensures out { result.ticked ≡ TickOutcome.Dropped → self.new.session.wire ≡ [] }
     {
         let ticked = self.tick(t);
         let wrote = match ticked {
-            Ticked::Dropped => self.write_out(rt),
-            Ticked::Done | Ticked::Refused => Wrote::Nothing,
+            TickOutcome::Dropped => self.write_out(rt),
+            TickOutcome::Done | TickOutcome::Refused => WriteOutcome::Nothing,
         };
-        Beat { ticked, wrote }
+        TickStep { ticked, wrote }
     }
 
     // Reads the line, where it may be read.
@@ -447,7 +447,7 @@ impl<L: Line> SessionThread<L> {
         ensures take { IsSameTaker self.old.take self.new.take }
         ensures hand { IsSameHander self.old.hand self.new.hand }
         ensures passed { G.passed gate.new ≡ G.passed gate.old ++ result.passed ∷ [] }
-        ensures told { C.answered clock.new ≡ C.answered clock.old ++ result.moment ∷ [] }
+        ensures emitted { C.answered clock.new ≡ C.answered clock.old ++ result.moment ∷ [] }
     {
         let passed = gate.pass(rt, number);
         let t = clock.now();
@@ -462,7 +462,7 @@ impl<L: Line> SessionThread<L> {
             };
         }
         let collected = self.collect(replies, t);
-        if is_mark(&collected) {
+        if is_cut_token(&collected) {
             return Turn {
                 passed,
                 moment: t,
@@ -497,28 +497,31 @@ impl<L: Line> SessionThread<L> {
         ensures take { IsSameTaker self.old.take self.new.take }
         ensures hand { IsSameHander self.old.hand self.new.hand }
         ensures passed { G.passed gate.new ≡ G.passed gate.old ++ result.passed ∷ [] }
-        ensures told { C.answered clock.new ≡ C.answered clock.old ++ result.moment ∷ [] }
+        ensures emitted { C.answered clock.new ≡ C.answered clock.old ++ result.moment ∷ [] }
     {
         let turn = self.bare_turn(rt, clock, gate, intake, replies, number);
-        if has_stirred(&turn) {
-            gate.stirred();
+        if has_progressed(&turn) {
+            gate.progressed();
         }
         turn
     }
 }
 
 // A seat was emptied or filled.
-fn has_stirred(turn: &Turn) -> bool {
-    let collected = matches!(turn.collected, Some(Collect::Sent { .. } | Collect::Cut));
+fn has_progressed(turn: &Turn) -> bool {
+    let collected = matches!(
+        turn.collected,
+        Some(CollectOutcome::Sent { .. } | CollectOutcome::Cut)
+    );
     let given = match &turn.work {
-        Some(work) => matches!(work.handed, Handed::Given),
+        Some(work) => matches!(work.handed, HandOutcome::Given),
         None => false,
     };
     collected || given
 }
 
 // Has a session hear the first so many bytes of a buffer; none where memory was refused.
-fn push(session: &mut Session, buffer: &[u8; PIECE], count: usize) -> Option<Piece>
+fn push(session: &mut Session, buffer: &[u8; READ_SIZE], count: usize) -> Option<Piece>
     requires within { count ≤ 4096 }
     ensures pushed { (r : Reader) → IfSome result (λ _. session.new.state ≡ pushed r session.old.state (take count buffer.now)) }
     ensures refused { IfNone result (session.new.state ≡ session.old.state) }
@@ -545,15 +548,15 @@ fn is_over(accepted: Option<Accept>) -> bool
 }
 
 // The mark was collected.
-fn is_mark(collected: &Collect) -> bool
-    ensures { result ≡ thread.is_mark collected.now }
+fn is_cut_token(collected: &CollectOutcome) -> bool
+    ensures { result ≡ thread.is_cut_token collected.now }
 {
-    matches!(collected, Collect::Cut)
+    matches!(collected, CollectOutcome::Cut)
 }
 
 // The line may be read, and neither had a write failed nor was a kept piece refused again.
-fn is_to_be_read(may_read: bool, wrote: Wrote, repeat: &Repeat) -> bool
+fn is_to_be_read(may_read: bool, wrote: WriteOutcome, repeat: &RepushOutcome) -> bool
     ensures { result ≡ (may_read && thread.is_unhindered wrote repeat.now) }
 {
-    may_read && !matches!(wrote, Wrote::Fault) && !matches!(repeat, Repeat::Refused)
+    may_read && !matches!(wrote, WriteOutcome::Fault) && !matches!(repeat, RepushOutcome::Refused)
 }

@@ -5,8 +5,8 @@ use Rattle.std.proofs.lemmas.Bool.Decides.{nat_tests}
 use Rattle.std.proofs.lemmas.List.{length-map}
 use Rattle.toml.specs.Data.{Data, Members, string, integer, float, boolean, datetime, array, table, as_table, get}
 use Rattle.toml.specs.Parse.{parse_document}
-use Rattle.venue_files.specs.Document.{is_no_list, is_no_name, is_without_entry, lacks, text_at}
-use Rattle.venue_files.proofs.DocumentLemmas.{key-there, name-there, some-entries}
+use Rattle.config_format.specs.Document.{is_no_list, is_no_name, is_without_entry, lacks, text_at}
+use Rattle.config_format.proofs.DocumentLemmas.{key-there, name-there, some-entries}
 use Rattle.instruments.specs.declared.fault.FileFault.{FileFault}
 use Rattle.instruments.specs.declared.fault.FileFault.TheVariants.{NotToml, Missing, Twice, TooMany, BadValue, NoMemory}
 use Rattle.instruments.specs.declared.instruments.Instrument.{Instrument}

@@ -6,7 +6,7 @@ use Rattle.instruments.specs.declared.fault.FileFault.{FileFault}
 use Rattle.instruments.specs.declared.fault.FileFault.TheVariants.{NotToml, Missing, Twice, TooMany, BadValue, NoMemory}
 use Rattle.instruments.specs.declared.instruments.Instrument.{Instrument}
 use Rattle.instruments.specs.Rows.{are_distinct, most_instruments}
-use Rattle.venue_files.specs.Document.{entries_in, is_no_list, is_no_name, is_without_entry, lacks, text_at}
+use Rattle.config_format.specs.Document.{entries_in, is_no_list, is_no_name, is_without_entry, lacks, text_at}
 use Rattle.instruments.specs.Numbers.{is_no_number, number_at, number_or}
 
 -- What an instrument file says, as a TOML document.

@@ -1,6 +1,6 @@
 use Rattle.std.specs.Prelude.{ℕ, ◌^◌, Bool, ◌&&◌, nat_le, List, length, bytes_eq}
 use Rattle.std.specs.List.{list_all}
-use Rattle.venue_files.specs.Rows.{are_distinct_by}
+use Rattle.config_format.specs.Rows.{are_distinct_by}
 use Rattle.instruments.specs.declared.instruments.Instrument.{Instrument}
 use Rattle.instruments.specs.Symbols.{is_symbol}
 

@@ -7,8 +7,8 @@ ghost use Rattle.instruments.specs.Rows.{is_delay};
 
 use crate::fault::DelayFault;
 use crate::instruments::{Instrument, Instruments};
+use config_format::Name as Symbol;
 use std::alloc::{AllocError, Global};
-use venue_files::Name as Symbol;
 
 fn is_delay(ms: u64) -> bool
     ensures { result ≡ is_delay ms }

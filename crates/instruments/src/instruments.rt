@@ -8,10 +8,10 @@ ghost use Rattle.instruments.specs.Rows.{is_delay, is_instrument, is_instrument_
 
 use crate::fault::FileFault;
 use crate::reading::read_document;
+use config_format::Name as Symbol;
 use std::alloc::{AllocError, Global};
 use std::marker::Model;
 use toml::Value;
-use venue_files::Name as Symbol;
 
 /// One listed instrument.
 #[derive(Drop)]

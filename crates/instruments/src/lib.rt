@@ -7,6 +7,6 @@ mod instruments;
 mod numbers;
 mod reading;
 
+pub use config_format::Name as Symbol;
 pub use fault::{DelayFault, FileFault};
 pub use instruments::{Instrument, Instruments};
-pub use venue_files::Name as Symbol;

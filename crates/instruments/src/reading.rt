@@ -5,24 +5,24 @@ ghost use Rattle.std.specs.List.{list_all, list_any};
 ghost use Rattle.toml.specs.View.{view};
 ghost use Rattle.instruments.specs.Symbols.{is_symbol};
 ghost use Rattle.instruments.specs.Rows.{are_distinct, is_instrument, is_instrument_file, is_same_symbol, most_instruments};
-ghost use Rattle.venue_files.specs.Document.{text_at};
+ghost use Rattle.config_format.specs.Document.{text_at};
 ghost use Rattle.instruments.specs.Reading.{Refuses, has_bad_value, has_too_many, instruments, is_bad_instrument, is_missing, read_of, row_of, rows_of};
 
 use crate::fault::FileFault;
 use crate::instruments::{Instrument, Instruments};
 use crate::numbers::{is_no_number, number_at, number_or};
-use std::alloc::{AllocError, Global};
-use toml::Value;
-use venue_files::{
+use config_format::{
     Name as Symbol, entries, is_absent, is_no_list, is_no_name, is_without_entry, list_lacks,
     text_at,
 };
+use std::alloc::{AllocError, Global};
+use toml::Value;
 
 /// How many instruments a file may list.
-const MOST_INSTRUMENTS: usize = 256;
+const MAX_INSTRUMENTS: usize = 256;
 
 /// The delay between linked orders where the file states none, in milliseconds (17 CFR 37.9(b)(1)).
-const USUAL_DELAY: u64 = 15_000;
+const DEFAULT_DELAY: u64 = 15_000;
 
 /// Whether a key is absent that has to be there, or the list has no entry.
 pub(crate) fn is_missing(file: &Value) -> bool
@@ -70,7 +70,7 @@ pub(crate) fn has_bad_value(file: &Value) -> bool
 pub(crate) fn has_too_many(file: &Value) -> bool
     ensures { result ≡ has_too_many (view file.now) }
 {
-    entries(file, "instrument").len() > MOST_INSTRUMENTS
+    entries(file, "instrument").len() > MAX_INSTRUMENTS
 }
 
 /// The row of an entry.
@@ -84,7 +84,7 @@ fn row_of(alloc: Global, entry: &Value) -> Result<Instrument, AllocError>
         tick: number_at(entry, "tick"),
         least: number_at(entry, "least"),
         request_life: number_at(entry, "rfq_life"),
-        delay: number_or(entry, USUAL_DELAY, "delay_ms"),
+        delay: number_or(entry, DEFAULT_DELAY, "delay_ms"),
     })
 }
 

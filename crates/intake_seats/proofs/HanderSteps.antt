@@ -46,7 +46,7 @@ module _ {M : Type 0} where
       → (then : ℕ → Me (Option M) (View M) → Type 0)
       → (CountsGiven (get_or s.words h.number 0) (length h.given) → then (get_or s.words h.number 0) (looked (get_or s.words h.number 0) (hander_alone h), c))
       → Goes n s h.number id (hander_alone h, c) then (get_or s.words h.number 0)
-  looks_on n slots id h c s b at free then told =
+  looks_on n slots id h c s b at free then emitted =
       let k : ℕ = h.number in let x : ℕ = get_or s.words k 0 in let a = b.account k in let know = b.each_hander id (hander_alone h) 0 h at refl in let settled = b.each_seat k know.0 in (
         looked x (hander_alone h),
         keeps,
@@ -54,7 +54,7 @@ module _ {M : Type 0} where
         hander_moves n s b id h record { number = k; given = h.given; claiming = h.claiming; last = x; looks = h.looks + 1 } x s.homes a.stage at refl refl (λ _ _. refl)
             (settled.0, subst (λ (g : List M). length g ≤ 2 ^ 60) (sym know.2) settled.1, subst (λ (g : List M). FitsStage (get_elem? s.homes k) g a.taken a.stage) (sym know.2) settled.2)
             refl know.3,
-        told (counts x (get_elem? s.homes k) a h.given settled know.2 (sym know.3 ∙ free)),
+        emitted (counts x (get_elem? s.homes k) a h.given settled know.2 (sym know.3 ∙ free)),
       )
 
   pub hander_looks : (n slots id : ℕ) (h : Hander M) (c : List (ℕ × Option M)) → h.claiming ≡ false → Allows (IsBoard n) slots id (hander_alone h, c) h.number (λ x. x) (hander_looked (step slots h.number 0 0 none) (hander_alone h, c))
@@ -89,7 +89,7 @@ module _ {M : Type 0} where
 
   pub hands : (n slots id : ℕ) (h : Hander M) (x : M) (c : List (ℕ × Option M)) → h.claiming ≡ true → length h.given < 2 ^ 60
       → Allows (IsBoard n) slots id (hander_alone h, (h.number, Some x) ∷ c) h.number (λ w. (w + 1) % 2 ^ 64) (handed (step slots h.number 1 0 none) (hander_alone h, (h.number, Some x) ∷ c))
-  hands n slots id h x c claim room s b wide at _ =
+  hands n slots id h x c claim headroom s b wide at _ =
       let k : ℕ = h.number in let w : ℕ = get_or s.words k 0 in
       let a = b.account k in let know = b.each_hander id (hander_alone h) 0 h at refl in let settled = b.each_seat k know.0 in
       let st = filling_is a.stage (sym know.3 ∙ claim) in
@@ -125,5 +125,5 @@ module _ {M : Type 0} where
 
   pub hands_as : (n slots id k : ℕ) (me : Me (Option M) (View M)) (h : Hander M) (x : M) (c : List (ℕ × Option M)) → me ≡ (hander_alone h, (k, Some x) ∷ c) → k ≡ h.number → h.claiming ≡ true → length h.given < 2 ^ 60
       → Allows (IsBoard n) slots id me k (λ w. (w + 1) % 2 ^ 64) (handed (step slots k 1 0 none) me)
-  hands_as n slots id k me h x c is at claim room = subst (λ (z : Me (Option M) (View M) × ℕ). Allows (IsBoard n) slots id z.0 z.1 (λ w. (w + 1) % 2 ^ 64) (handed (step slots z.1 1 0 none) z.0))
-      (λ i. (sym (is ∙ ap (λ (j : ℕ). (hander_alone h, (j, Some x) ∷ c)) at) i, sym at i)) (hands n slots id h x c claim room)
+  hands_as n slots id k me h x c is at claim headroom = subst (λ (z : Me (Option M) (View M) × ℕ). Allows (IsBoard n) slots id z.0 z.1 (λ w. (w + 1) % 2 ^ 64) (handed (step slots z.1 1 0 none) z.0))
+      (λ i. (sym (is ∙ ap (λ (j : ℕ). (hander_alone h, (j, Some x) ∷ c)) at) i, sym at i)) (hands n slots id h x c claim headroom)

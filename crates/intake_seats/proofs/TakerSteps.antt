@@ -47,7 +47,7 @@ module _ {M : Type 0} where
       → (then : ℕ → Me (Option M) (View M) → Type 0)
       → (get_or s.words t.number 0 / 4 ≡ length t.taken → then (get_or s.words t.number 0) (looked (get_or s.words t.number 0) (taker_alone t), c))
       → Goes n s t.number id (taker_alone t, c) then (get_or s.words t.number 0)
-  looks_on n slots id t c s b at then told =
+  looks_on n slots id t c s b at then emitted =
       let k : ℕ = t.number in let x : ℕ = get_or s.words k 0 in let a = b.account k in let know = b.each_taker id (taker_alone t) 0 t at refl in let settled = b.each_seat k know.0 in (
         looked x (taker_alone t),
         keeps,
@@ -55,7 +55,7 @@ module _ {M : Type 0} where
         taker_moves n s b id t record { number = k; taken = t.taken; in_hand = t.in_hand; last = x; looks = t.looks + 1 } x s.homes a.stage at refl refl (λ _ _. refl)
             (subst (λ (g : List M). x ≡ 4 * length g + code a.stage) (sym know.2) settled.0, settled.1, subst (λ (g : List M). FitsStage (get_elem? s.homes k) a.given g a.stage) (sym know.2) settled.2)
             refl know.3,
-        told (counts x (get_elem? s.homes k) a t.taken settled know.2),
+        emitted (counts x (get_elem? s.homes k) a t.taken settled know.2),
       )
 
   pub taker_looks : (n slots id : ℕ) (t : Taker M) (c : List (ℕ × Option M)) → Allows (IsBoard n) slots id (taker_alone t, c) t.number (λ x. x) (taker_looked (step slots t.number 0 0 none) (taker_alone t, c))

@@ -2,8 +2,8 @@
 ghost use Rattle.std.specs.Prelude.{◌≡◌, ◌≤◌, [], IfOk, vec_capacity};
 ghost use Rattle.intake_seats.specs.Ends.{opening_view, takers_alone, new_hands, new_takes, AreHands, AreTakes, AreUnusedHands, AreUnusedTakes};
 
+use crate::atomic_steps::{FirstHander, FirstTaker};
 use crate::hander::HandSeat;
-use crate::plays::{FirstHander, FirstTaker};
 use crate::taker::TakeSeat;
 use crate::views::View;
 use atomic_table::{Seat, Table, TableRule};
@@ -11,7 +11,7 @@ use std::alloc::{AllocError, Global};
 use std::marker::Model;
 
 /// A board has at most so many seats.
-pub const MOST_SEATS: usize = 32;
+pub const MAX_SEATS: usize = 32;
 
 /// The word of a seat is 4 times the number of messages that were taken, plus its state: empty 0, filling 1, full 2 or taking 3.
 pub(crate) const EMPTY: u64 = 0;
@@ -19,7 +19,7 @@ pub(crate) const EMPTY: u64 = 0;
 pub(crate) const FULL: u64 = 2;
 
 /// A hander gives no more messages than these.
-pub(crate) const MOST_GIVEN: u64 = 1 << 60;
+pub(crate) const MAX_GIVEN: u64 = 1 << 60;
 
 /// What holds of the words, the slots and the views between any two steps.
 pub struct BoardRule;
@@ -67,7 +67,7 @@ impl<M> Board<M> {
     {
         let mut hands = Vec::with_capacity(alloc, seats)?;
         let mut takes = Vec::with_capacity(alloc, seats)?;
-        let words = [0u64; MOST_SEATS];
+        let words = [0u64; MAX_SEATS];
         let (table, mut whole) = Table::vacant(alloc, &words[..seats], seats, &seats)?;
         let board = Board { table };
         deal_hands(&board, &mut whole, &mut hands, seats);
@@ -93,7 +93,7 @@ fn deal_hands<M>(
 )
     requires own { (whole.old.table_id ≡ board.now) × (board.now.words ≡ seats) }
     requires whole { whole.old.me ≡ (opening_view seats, []) }
-    requires room { (hands.old.items ≡ []) × (seats ≤ vec_capacity hands.old) }
+    requires headroom { (hands.old.items ≡ []) × (seats ≤ vec_capacity hands.old) }
     ensures own { whole.new.table_id ≡ whole.old.table_id }
     ensures whole { whole.new.me ≡ (takers_alone seats, []) }
     ensures hands { hands.new.items ≡ new_hands board.now seats }
@@ -113,7 +113,7 @@ fn deal_takes<M>(
 )
     requires own { (whole.old.table_id ≡ board.now) × (board.now.words ≡ seats) }
     requires whole { whole.old.me ≡ (takers_alone seats, []) }
-    requires room { (takes.old.items ≡ []) × (seats ≤ vec_capacity takes.old) }
+    requires headroom { (takes.old.items ≡ []) × (seats ≤ vec_capacity takes.old) }
     ensures takes { takes.new.items ≡ new_takes board.now seats }
 {
     for number in 0..seats {

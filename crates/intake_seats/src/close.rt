@@ -3,9 +3,9 @@ ghost use Rattle.std.specs.Prelude.{◌≡◌, ◌≤◌, [], All, None, IfOk, I
 ghost use Rattle.std.specs.Slots.{slots_items, slots_len, IsFull};
 ghost use Rattle.intake_seats.specs.Ends.{AreHands, AreTakes, IsLeft, with_handers, with_takers};
 
+use crate::atomic_steps::Unites;
 use crate::board::Board;
 use crate::hander::HandSeat;
-use crate::plays::Unites;
 use crate::taker::TakeSeat;
 use crate::views::View;
 use atomic_table::{Closed, Seat};
@@ -89,7 +89,7 @@ fn join_takes<M>(
 // Moves what the slots have to the list, which has room.
 fn empty_slots<M>(mut closed: Closed<Option<M>, Global>, left: &mut Vec<Option<M>>)
     requires full { IsFull closed.slots }
-    requires room { (left.old.items ≡ []) × (slots_len closed.slots ≤ vec_capacity left.old) }
+    requires headroom { (left.old.items ≡ []) × (slots_len closed.slots ≤ vec_capacity left.old) }
     ensures { left.new.items ≡ slots_items closed.slots }
 {
     let count = closed.slot_count();

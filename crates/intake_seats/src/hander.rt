@@ -2,8 +2,8 @@
 ghost use Rattle.std.specs.Prelude.{◌≡◌, ◌+◌, ◌*◌, ◌<◌, [], ◌∷◌, ◌++◌, length, MatchResult};
 ghost use Rattle.intake_seats.specs.Ends.{handing, IsSameHander, IsShut};
 
-use crate::board::{Board, EMPTY, MOST_GIVEN};
-use crate::plays::{Claims, HanderLooks, Hands};
+use crate::atomic_steps::{Claims, HanderLooks, Hands};
+use crate::board::{Board, EMPTY, MAX_GIVEN};
 use crate::views::View;
 use atomic_table::Seat;
 use std::marker::Model;
@@ -38,7 +38,7 @@ impl<M> HandSeat<M> {
     {
         let steps = &board.table.shared;
         let found = steps.load::<HanderLooks>(&mut self.seat, self.number);
-        if found % 4 != EMPTY || found / 4 >= MOST_GIVEN {
+        if found % 4 != EMPTY || found / 4 >= MAX_GIVEN {
             return Err(message);
         }
         // No other end leaves this state, so one try decides.

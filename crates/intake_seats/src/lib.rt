@@ -2,15 +2,15 @@
 //! No call waits.
 #![tactic(auto)]
 
+mod atomic_steps;
 mod board;
 mod close;
 mod hander;
 pub mod laws;
-mod plays;
 mod taker;
 mod views;
 
-pub use board::{Board, MOST_SEATS};
+pub use board::{Board, MAX_SEATS};
 pub use close::Unclosed;
 pub use hander::HandSeat;
 pub use taker::TakeSeat;

@@ -4,8 +4,8 @@ ghost use mathlib.Core.Logic.{◌↔◌};
 ghost use Rattle.std.specs.Option.{is_some, option_to_list};
 ghost use Rattle.intake_seats.specs.Ends.{taking, IsSameTaker};
 
+use crate::atomic_steps::{Clears, PutsBack, TakerLooks, Takes};
 use crate::board::{Board, FULL};
-use crate::plays::{Clears, PutsBack, TakerLooks, Takes};
 use crate::views::View;
 use atomic_table::Seat;
 use std::marker::Model;

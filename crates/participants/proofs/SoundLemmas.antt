@@ -4,8 +4,8 @@ use Rattle.std.proofs.lemmas.Bool.{true≢false, or_parts}
 use Rattle.std.proofs.lemmas.Bool.Decides.{nat_tests}
 use Rattle.toml.specs.Data.{Data, Members, table, as_table, get}
 use Rattle.toml.specs.Parse.{parse_document}
-use Rattle.venue_files.specs.Document.{is_no_list, is_no_name, is_without_entry, lacks, text_at}
-use Rattle.venue_files.proofs.DocumentLemmas.{key-there, name-there, some-entries}
+use Rattle.config_format.specs.Document.{is_no_list, is_no_name, is_without_entry, lacks, text_at}
+use Rattle.config_format.proofs.DocumentLemmas.{key-there, name-there, some-entries}
 use Rattle.participants.specs.declared.fault.FileFault.{FileFault}
 use Rattle.participants.specs.declared.fault.FileFault.TheVariants.{NotToml, Missing, Twice, UnknownName, TooMany, BadValue, NoMemory}
 use Rattle.participants.specs.ParticipantFile.{ParticipantFile}

@@ -6,8 +6,8 @@ use Rattle.participants.specs.declared.fault.FileFault.{FileFault}
 use Rattle.participants.specs.declared.fault.FileFault.TheVariants.{NotToml, Missing, Twice, UnknownName, TooMany, BadValue, NoMemory}
 use Rattle.participants.specs.ParticipantFile.{ParticipantFile}
 use Rattle.participants.specs.Rows.{are_distinct, most_participants}
-use Rattle.venue_files.specs.Rows.{are_distinct_by}
-use Rattle.venue_files.specs.Document.{entries_in, is_no_list, is_no_name, is_without_entry, lacks, text_at}
+use Rattle.config_format.specs.Rows.{are_distinct_by}
+use Rattle.config_format.specs.Document.{entries_in, is_no_list, is_no_name, is_without_entry, lacks, text_at}
 
 -- What a participant file says, as a TOML document.
 

@@ -1,6 +1,6 @@
 use Rattle.std.specs.Prelude.{ℕ, Bool, not, ◌&&◌, ◌||◌, ◌==◌, nat_le, nat_lt, List, ◌∷◌, length, bytes_eq}
 use Rattle.std.specs.List.{list_all}
-use Rattle.venue_files.specs.Rows.{are_distinct_by}
+use Rattle.config_format.specs.Rows.{are_distinct_by}
 use Rattle.participants.specs.ParticipantFile.{ParticipantFile}
 use Rattle.participants.specs.Names.{is_name}
 

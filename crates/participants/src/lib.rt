@@ -7,7 +7,7 @@ mod reading;
 mod table;
 mod who;
 
+pub use config_format::Name;
 pub use fault::FileFault;
 pub use participants::Participants;
-pub use venue_files::Name;
 pub use who::Who;

@@ -6,16 +6,16 @@ ghost use Rattle.participants.specs.Names.{is_name};
 ghost use Rattle.participants.specs.ParticipantFile.{ParticipantFile};
 ghost use Rattle.participants.specs.Rows.{is_participant_file};
 ghost use Rattle.participants.specs.Reading.{IsFaultOf, Reads};
-ghost use Rattle.participants.specs.Relations.{apart, are_unrelated, find_participant, name_of, related, three_unrelated, Tells};
+ghost use Rattle.participants.specs.Relations.{apart, are_unrelated, find_participant, name_of, related, three_unrelated, Emits};
 
 use crate::fault::FileFault;
 use crate::reading::read_document;
 use crate::table::related_table;
 use crate::who::Who;
+use config_format::Name;
 use std::alloc::{AllocError, Global};
 use std::marker::Model;
 use toml::Value;
-use venue_files::Name;
 
 /// The venue's name, the participants in the file's order, and the related pairs by their places.
 pub struct Participants {
@@ -203,7 +203,7 @@ impl Participants {
     /// (17 CFR 37.9(a)(3)).
     pub fn three_unrelated(&self, requester: Who, recipients: &[Who]) -> bool
         ensures test { result ≡ three_unrelated self.now requester recipients.now }
-        ensures related { Tells self.now requester recipients.now result }
+        ensures related { Emits self.now requester recipients.now result }
     {
         self.has_three(requester, recipients)
     }

@@ -5,20 +5,20 @@ ghost use Rattle.std.specs.List.{list_all, list_any, position_or_len};
 ghost use Rattle.toml.specs.View.{view};
 ghost use Rattle.participants.specs.Names.{is_name};
 ghost use Rattle.participants.specs.Rows.{are_distinct, most_participants};
-ghost use Rattle.venue_files.specs.Document.{text_at};
+ghost use Rattle.config_format.specs.Document.{text_at};
 ghost use Rattle.participants.specs.Reading.{Refuses, are_distinct_named, has_bad_value, has_too_many, has_twice, has_unknown, is_apart, is_bad_pair, is_bad_participant, is_known, is_missing, is_same_named, named, participants, places, read_of, related_pairs, rows_of};
 
 use crate::fault::FileFault;
 use crate::participants::{Participants, place_of};
 use crate::who::Who;
-use std::alloc::{AllocError, Global};
-use toml::Value;
-use venue_files::{
+use config_format::{
     Name, entries, is_absent, is_no_list, is_no_name, is_without_entry, list_lacks, text_at,
 };
+use std::alloc::{AllocError, Global};
+use toml::Value;
 
 /// How many participants a file may name.
-const MOST_PARTICIPANTS: usize = 32;
+const MAX_PARTICIPANTS: usize = 32;
 
 /// Whether a key is absent that has to be there, or a list has no entry.
 pub(crate) fn is_missing(file: &Value) -> bool
@@ -87,7 +87,7 @@ pub(crate) fn has_bad_value(file: &Value) -> bool
 pub(crate) fn has_too_many(file: &Value) -> bool
     ensures { result ≡ has_too_many (view file.now) }
 {
-    entries(file, "participant").len() > MOST_PARTICIPANTS
+    entries(file, "participant").len() > MAX_PARTICIPANTS
 }
 
 /// The names of the participants.

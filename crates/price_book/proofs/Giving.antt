@@ -9,7 +9,7 @@ use Rattle.fix_dictionary.specs.declared.values.Side.TheVariants.{Buy, Sell}
 use Rattle.venue_rules.specs.declared.facts.OrderFact.{OrderFact}
 use Rattle.venue_rules.specs.Book.{Resting, accepts, opposite}
 use Rattle.price_book.specs.declared.row.Row.{Row}
-use Rattle.price_book.specs.declared.slot.Slot.{Slot}
+use Rattle.price_book.specs.declared.stored_order.StoredOrder.{StoredOrder}
 use Rattle.price_book.specs.Live.{seen_slot}
 use Rattle.price_book.specs.Numbered.{slot_at, AreKept}
 use Rattle.price_book.specs.Rows.{row_of, rows_of, comes_before, AreRanked}
@@ -61,7 +61,7 @@ met-refused o (r ∷ rs) zero row ranked h e off =
     ap (λ b. cond b (r ∷ met o rs) (met o rs)) first ∙ all-refused o rs (λ k d j. worse-refused o.side o.price (row_of r) (get_or (rows_of rs) k d) (ranked 0 (suc k) d (omega arith) (omega (arith, j))) first)
 met-refused o (r ∷ rs) (suc i) row ranked h e off = met-refused o rs i row (λ a b d j k. ranked (suc a) (suc b) d (omega (arith, j)) (omega (arith, k))) (omega (arith, h)) e off
 
-met-one : (o : OrderFact) (rs : List Resting) (es : List (ℕ × Slot)) (i : ℕ) (row : Row) (s : Slot) → AreKept rs es → i < length (rows_of rs) → row ≡ get_or (rows_of rs) i row → slot_at es row.number ≡ Some s → accepts o.side o.price row.price ≡ true → met o (drop i rs) ≡ seen_slot s ∷ met o (drop (suc i) rs)
+met-one : (o : OrderFact) (rs : List Resting) (es : List (ℕ × StoredOrder)) (i : ℕ) (row : Row) (s : StoredOrder) → AreKept rs es → i < length (rows_of rs) → row ≡ get_or (rows_of rs) i row → slot_at es row.number ≡ Some s → accepts o.side o.price row.price ≡ true → met o (drop i rs) ≡ seen_slot s ∷ met o (drop (suc i) rs)
 met-one o [] es i row s kept h e some on = absurd (omega (arith, h))
 met-one o (r ∷ rs) es zero row s kept h e some on =
     let same : seen_slot s ≡ r = ap (λ p. unwrap_or p (seen_slot s)) (sym (ap (option_map seen_slot) some) ∙ ap (λ (q : Row). option_map seen_slot (slot_at es q.number)) e ∙ All-head (λ (r : Resting). option_map seen_slot (slot_at es r.entry.number) ≡ Some r) r rs kept) in
@@ -71,10 +71,10 @@ met-one o (r ∷ rs) es (suc i) row s kept h e some on = met-one o rs es i row s
 next : (i : ℕ) → suc i ≡ i + 1
 next i = omega arith
 
-pub met-next : (o : OrderFact) (rs : List Resting) (es : List (ℕ × Slot)) (i : ℕ) (row : Row) (s : Slot) → AreKept rs es → i < length (rows_of rs) → row ≡ get_or (rows_of rs) i row → slot_at es row.number ≡ Some s → accepts o.side o.price row.price ≡ true → met o (drop i rs) ≡ seen_slot s ∷ met o (drop (i + 1) rs)
+pub met-next : (o : OrderFact) (rs : List Resting) (es : List (ℕ × StoredOrder)) (i : ℕ) (row : Row) (s : StoredOrder) → AreKept rs es → i < length (rows_of rs) → row ≡ get_or (rows_of rs) i row → slot_at es row.number ≡ Some s → accepts o.side o.price row.price ≡ true → met o (drop i rs) ≡ seen_slot s ∷ met o (drop (i + 1) rs)
 met-next o rs es i row s kept h e some on = met-one o rs es i row s kept h e some on ∙ ap (λ k. seen_slot s ∷ met o (drop k rs)) (next i)
 
-pub met-kept : (rs : List Resting) (es : List (ℕ × Slot)) (i : ℕ) (row : Row) → AreKept rs es → i < length (rows_of rs) → row ≡ get_or (rows_of rs) i row → slot_at es row.number ≡ None → ⊥
+pub met-kept : (rs : List Resting) (es : List (ℕ × StoredOrder)) (i : ℕ) (row : Row) → AreKept rs es → i < length (rows_of rs) → row ≡ get_or (rows_of rs) i row → slot_at es row.number ≡ None → ⊥
 met-kept [] es i row kept h e none = omega (arith, h)
 met-kept (r ∷ rs) es zero row kept h e none = never (sym (ap (option_map seen_slot) none) ∙ ap (λ (q : Row). option_map seen_slot (slot_at es q.number)) e ∙ All-head (λ (r : Resting). option_map seen_slot (slot_at es r.entry.number) ≡ Some r) r rs kept)
   where

@@ -3,14 +3,14 @@ use Rattle.std.proofs.lemmas.List.{drop_all}
 use Rattle.venue_rules.specs.declared.facts.Fact.{Fact}
 use Rattle.venue_rules.specs.declared.facts.Fact.TheVariants.{Entered, Traded, Removed, Held, Unheld, Asked, Quoted, Withdrawn, Closed}
 use Rattle.venue_rules.specs.declared.facts.Entry.{Entry}
-use Rattle.venue_rules.specs.declared.facts.Place.{Place}
-use Rattle.venue_rules.specs.declared.facts.Place.TheVariants.{Book as InBook, Room as InRoom}
+use Rattle.venue_rules.specs.declared.facts.TradeSource.{TradeSource}
+use Rattle.venue_rules.specs.declared.facts.TradeSource.TheVariants.{Book as InBook, Room as InRoom}
 use Rattle.venue_rules.specs.Facts.{entries, entry_in}
 use Rattle.venue_rules.specs.Book.{Resting, is_day}
 use Rattle.price_book.specs.Live.{is_live, whole_order, joined_by, entered, reduced, reduced_in, without, step, steps, change, changes, less_by, left_after, left_behind, entering, Ledger, AreLedgers, Absent}
 use Rattle.price_book.proofs.Readings.{drop-read}
 use Rattle.price_book.proofs.Living.{cut, cut-live, gone, gone-live, live-cut, day-live, same-number}
-use Rattle.price_book.proofs.Ladders.{reduced-absent, without-absent}
+use Rattle.price_book.proofs.SideQueues.{reduced-absent, without-absent}
 use Rattle.price_book.proofs.Numbers.{pushed-absent, ledger-head}
 
 -- An order that enters, and what the facts behind its entry do: as if it entered last, with what they leave of it.
@@ -131,7 +131,7 @@ free-gone n rs r free = λ l. absent-without r.entry.number n rs (free (gone-liv
 abbrev after : Resting → Fact → Resting
 after r f = record { entry = r.entry; left = left_after r.entry.number r.left f }
 
-placed : (p : Place) (q : ℕ) (rs : List Resting) (r : Resting) → Free r rs → let s : Resting = record { entry = r.entry; left = less_by r.entry.number p q r.left } in (reduced_in p q (joined_by r rs) ≡ joined_by s (reduced_in p q rs)) × Free s (reduced_in p q rs)
+placed : (p : TradeSource) (q : ℕ) (rs : List Resting) (r : Resting) → Free r rs → let s : Resting = record { entry = r.entry; left = less_by r.entry.number p q r.left } in (reduced_in p q (joined_by r rs) ≡ joined_by s (reduced_in p q rs)) × Free s (reduced_in p q rs)
 placed (InBook a b) q rs r free =
     let first : Free (cut a q r) (reduced a q rs) = free-cut a q rs r free in
     (ap (reduced b q) (reduced-joined a q rs r free) ∙ reduced-joined b q (reduced a q rs) (cut a q r) first, free-cut b q (reduced a q rs) (cut a q r) first)

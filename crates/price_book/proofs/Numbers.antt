@@ -7,14 +7,14 @@ use Rattle.std.proofs.lemmas.Bool.Decides.{nat_tests}
 use Rattle.venue_rules.specs.declared.facts.Entry.{Entry}
 use Rattle.venue_rules.specs.Book.{Resting}
 use Rattle.venue_rules.specs.declared.facts.Fact.{Fact}
-use Rattle.price_book.specs.declared.slot.Slot.{Slot}
+use Rattle.price_book.specs.declared.stored_order.StoredOrder.{StoredOrder}
 use Rattle.price_book.specs.Live.{seen_slot, is_live, find_live, joined_by, reduced, without, changes, Ledger, AreLedgers, Absent, IsPlaceOf}
-use Rattle.price_book.specs.declared.orders_kept.OrdersKept.{OrdersKept}
-use Rattle.price_book.specs.Rungs.{IsInStep}
+use Rattle.price_book.specs.declared.resting_orders.RestingOrders.{RestingOrders}
+use Rattle.price_book.specs.SideIndex.{IsConsistent}
 use Rattle.price_book.specs.Views.{is_current}
 use Rattle.price_book.specs.Numbered.{numbered, slot_at, IsNumbered, number_at}
 use Rattle.price_book.proofs.Living.{same-number, other-number, ledger-lower}
-use Rattle.price_book.proofs.Ladders.{ledger-absent}
+use Rattle.price_book.proofs.SideQueues.{ledger-absent}
 
 -- the order of a number
 
@@ -193,32 +193,32 @@ pub pushed-absent : (low : ℕ) (rs : List Resting) (r : Resting) → Ledger low
 pushed-absent low [] r l = tt
 pushed-absent low (s ∷ rs) r l = (eq_sym r.entry.number s.entry.number ∙ other-number s.entry.number r.entry.number (last-above s.entry.number rs r l.2), pushed-absent s.entry.number rs r l.2)
 
-map-cond : (b : Bool) (o p : Option Slot) → option_map seen_slot (cond b o p) ≡ cond b (option_map seen_slot o) (option_map seen_slot p)
+map-cond : (b : Bool) (o p : Option StoredOrder) → option_map seen_slot (cond b o p) ≡ cond b (option_map seen_slot o) (option_map seen_slot p)
 map-cond true o p = refl
 map-cond false o p = refl
 
-pub put-numbered : (r : Resting) (s : Slot) (rs : List Resting) (es fs : List (ℕ × Slot)) → is_live r ≡ true → Ledger 0 (joined_by r rs) → seen_slot s ≡ r → ((m : ℕ) → slot_at fs m ≡ cond (r.entry.number == m) (Some s) (slot_at es m)) → IsNumbered rs es → IsNumbered (joined_by r rs) fs
+pub put-numbered : (r : Resting) (s : StoredOrder) (rs : List Resting) (es fs : List (ℕ × StoredOrder)) → is_live r ≡ true → Ledger 0 (joined_by r rs) → seen_slot s ≡ r → ((m : ℕ) → slot_at fs m ≡ cond (r.entry.number == m) (Some s) (slot_at es m)) → IsNumbered rs es → IsNumbered (joined_by r rs) fs
 put-numbered r s rs es fs live ledger seen change kept m =
     let grown : joined_by r rs ≡ rs ++ r ∷ [] = ap (λ b. cond b (rs ++ r ∷ []) rs) live in
     ap (option_map seen_slot) (change m) ∙ map-cond (r.entry.number == m) (Some s) (slot_at es m) ∙ ap (λ t. cond (r.entry.number == m) (Some t) (option_map seen_slot (slot_at es m))) seen ∙ ap (cond (r.entry.number == m) (Some r)) (kept m)
     ∙ sym (ap (numbered m) grown ∙ numbered-pushed m rs r (pushed-absent 0 rs r (rw grown at ledger)))
 
-pub forget-numbered : (n : ℕ) (rs : List Resting) (es fs : List (ℕ × Slot)) → Ledger 0 rs → ((m : ℕ) → slot_at fs m ≡ cond (n == m) None (slot_at es m)) → IsNumbered rs es → IsNumbered (without n rs) fs
+pub forget-numbered : (n : ℕ) (rs : List Resting) (es fs : List (ℕ × StoredOrder)) → Ledger 0 rs → ((m : ℕ) → slot_at fs m ≡ cond (n == m) None (slot_at es m)) → IsNumbered rs es → IsNumbered (without n rs) fs
 forget-numbered n rs es fs ledger change kept m =
     ap (option_map seen_slot) (change m) ∙ map-cond (n == m) None (slot_at es m) ∙ ap (cond (n == m) None) (kept m) ∙ sym (numbered-without m n 0 rs ledger)
 
 -- the order of a number becomes another
-pub reduce-numbered : (n q : ℕ) (s t : Slot) (rs : List Resting) (es fs : List (ℕ × Slot)) → slot_at es n ≡ Some s → q < s.left → seen_slot t ≡ cut q (seen_slot s) → ((m : ℕ) → slot_at fs m ≡ cond (n == m) (Some t) (slot_at es m)) → IsNumbered rs es → IsNumbered (reduced n q rs) fs
+pub reduce-numbered : (n q : ℕ) (s t : StoredOrder) (rs : List Resting) (es fs : List (ℕ × StoredOrder)) → slot_at es n ≡ Some s → q < s.left → seen_slot t ≡ cut q (seen_slot s) → ((m : ℕ) → slot_at fs m ≡ cond (n == m) (Some t) (slot_at es m)) → IsNumbered rs es → IsNumbered (reduced n q rs) fs
 reduce-numbered n q s t rs es fs some more seen change kept m =
     let here : numbered n rs ≡ Some (seen_slot s) = sym (kept n) ∙ ap (option_map seen_slot) some in
     ap (option_map seen_slot) (change m) ∙ map-cond (n == m) (Some t) (slot_at es m) ∙ ap (λ r. cond (n == m) (Some r) (option_map seen_slot (slot_at es m))) seen ∙ ap (cond (n == m) (Some (cut q (seen_slot s)))) (kept m)
     ∙ sym (numbered-reduced m n q rs (seen_slot s) here more)
 
 -- no order is of this number
-pub kept-none : (n : ℕ) (rs : List Resting) (es : List (ℕ × Slot)) → slot_at es n ≡ None → IsNumbered rs es → Absent n rs
+pub kept-none : (n : ℕ) (rs : List Resting) (es : List (ℕ × StoredOrder)) → slot_at es n ≡ None → IsNumbered rs es → Absent n rs
 kept-none n rs es none kept = numbered-none n rs (sym (kept n) ∙ ap (option_map seen_slot) none)
 
-pub kept-some : (n : ℕ) (s : Slot) (rs : List Resting) (es : List (ℕ × Slot)) → slot_at es n ≡ Some s → IsNumbered rs es → numbered n rs ≡ Some (seen_slot s)
+pub kept-some : (n : ℕ) (s : StoredOrder) (rs : List Resting) (es : List (ℕ × StoredOrder)) → slot_at es n ≡ Some s → IsNumbered rs es → numbered n rs ≡ Some (seen_slot s)
 kept-some n s rs es some kept = sym (kept n) ∙ ap (option_map seen_slot) some
 
 pub ledger-without : (n low : ℕ) (rs : List Resting) → Ledger low rs → Ledger low (without n rs)
@@ -261,11 +261,11 @@ pub given-ok : {X E : Type 0} (P : Type 0) (r : Result X E) → is_ok r ≡ true
 given-ok P (Ok x) ok h = h
 given-ok P (Err e) ok h = cc
 
-pub reordered : (rs : List Resting) (es fs : List (ℕ × Slot)) → ((n : ℕ) → slot_at fs n ≡ slot_at es n) → IsNumbered rs es → IsNumbered rs fs
+pub reordered : (rs : List Resting) (es fs : List (ℕ × StoredOrder)) → ((n : ℕ) → slot_at fs n ≡ slot_at es n) → IsNumbered rs es → IsNumbered rs fs
 reordered rs es fs same kept n = ap (option_map seen_slot) (same n) ∙ kept n
 
 -- what facts that are still to come make of the orders that are kept
-pub record Going (target : List Resting) (rest : List Fact) (o : OrdersKept) : Type 0 where
+pub record Going (target : List Resting) (rest : List Fact) (o : RestingOrders) : Type 0 where
   pub now : List Resting
-  pub step : IsInStep now o
+  pub step : IsConsistent now o
   pub same : changes now rest ≡ target

@@ -10,16 +10,16 @@ use Rattle.fix_dictionary.specs.declared.values.Side.{Side}
 use Rattle.fix_dictionary.specs.declared.values.Side.TheVariants.{Buy, Sell}
 use Rattle.venue_rules.specs.Book.{Resting, is_better, rank, ranked, rests}
 use Rattle.price_book.specs.declared.row.Row.{Row}
-use Rattle.price_book.specs.declared.slot.Slot.{Slot}
+use Rattle.price_book.specs.declared.stored_order.StoredOrder.{StoredOrder}
 use Rattle.price_book.specs.Live.{seen_slot, ranked_live, reduced, without, Ledger, Absent, IsPlaceOf}
-use Rattle.price_book.specs.Ladders.{rank_last}
+use Rattle.price_book.specs.SideQueues.{rank_last}
 use Rattle.price_book.specs.Numbered.{numbered, slot_at, number_at, IsNumbered, AreKept}
 use Rattle.price_book.specs.Rows.{row_of, rows_of, comes_before, AreRanked, IsRow, behind, put_last, cut_at}
 use Rattle.price_book.proofs.Living.{same-number}
-use Rattle.price_book.proofs.Ladders.{ledger-absent, ledger-filter, absent-ranked}
+use Rattle.price_book.proofs.SideQueues.{ledger-absent, ledger-filter, absent-ranked}
 use Rattle.price_book.proofs.Numbers.{Found, numbered-some, without-place, number-read, numbered-at}
 use Rattle.price_book.proofs.Placing.{ranked-all}
-use Rattle.price_book.proofs.SlotSteps.{map-remove}
+use Rattle.price_book.proofs.StoredOrderSteps.{map-remove}
 use Rattle.price_book.proofs.Turned.{read-turned, set-turned, point-turned}
 use Rattle.std.proofs.lemmas.List.Elements.{All-filter}
 
@@ -303,7 +303,7 @@ cut-turned q (first ∷ rest) at k h =
     ap reverse (sym (cut-set at q rows row is)) ∙ set-turned rows at k less h ∙ cut-set k q (reverse rows) row (is ∙ sym (read-turned rows at k row h))
 
 -- each order of a side is kept by its number
-pub sides-kept : (x : ℕ) (side : Side) (rs : List Resting) (es : List (ℕ × Slot)) → Ledger 0 rs → IsNumbered rs es → AreKept (ranked_live x side rs) es
+pub sides-kept : (x : ℕ) (side : Side) (rs : List Resting) (es : List (ℕ × StoredOrder)) → Ledger 0 rs → IsNumbered rs es → AreKept (ranked_live x side rs) es
 sides-kept x side rs es l kept = ranked-all (λ (r : Resting). option_map seen_slot (slot_at es r.entry.number) ≡ Some r) side (filter (rests x side) rs) (All-filter (rests x side) (λ (r : Resting). option_map seen_slot (slot_at es r.entry.number) ≡ Some r) rs own)
   where
     own : AreKept rs es

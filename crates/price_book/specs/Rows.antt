@@ -1,7 +1,7 @@
 use Rattle.std.specs.Prelude.{◌≡◌, ℕ, ℤ, suc, zero, ◌-◌, ◌<◌, Bool, true, not, ◌&&◌, ◌||◌, nat_lt, List, [], ◌∷◌, map, length, get_or}
 use Rattle.std.specs.List.{insert, position_or_len}
 use Rattle.fix_dictionary.specs.declared.values.Side.{Side}
-use Rattle.venue_rules.specs.declared.replies.PictureEntry.{PictureEntry}
+use Rattle.venue_rules.specs.declared.replies.SnapshotEntry.{SnapshotEntry}
 use Rattle.venue_rules.specs.Book.{Resting, is_better}
 use Rattle.price_book.specs.declared.row.Priority.{Priority}
 use Rattle.price_book.specs.declared.row.Row.{Row}
@@ -50,5 +50,5 @@ cut_at zero quantity (row ∷ rows) = record { number = row.number; price = row.
 cut_at (suc k) quantity (row ∷ rows) = row ∷ cut_at k quantity rows
 
 -- an order of a side as it is shown
-abbrev pub shown_row : Side → Row → PictureEntry
+abbrev pub shown_row : Side → Row → SnapshotEntry
 shown_row side row = record { side = side; price = row.price; left = row.left; order = row.number }

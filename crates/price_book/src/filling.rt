@@ -6,7 +6,7 @@ ghost use Rattle.price_book.specs.Views.{seen};
 
 use crate::reading::entry_in;
 use crate::resting::Resting;
-use venue_rules::{Fact, Place, Trade};
+use venue_rules::{Fact, Trade, TradeSource};
 
 // What is left of an order of which so much was left, where so much less is left of the order of a number.
 fn less_of(order: u64, number: u64, quantity: u64, left: u64) -> u64
@@ -26,12 +26,12 @@ fn less_by(order: u64, trade: &Trade, left: u64) -> u64
     ensures bound { result ≤ left }
 {
     match trade.place {
-        Place::Book(resting, entering) => {
+        TradeSource::Book(resting, entering) => {
             let quantity = trade.quantity.get();
             let left = less_of(order, resting, quantity, left);
             less_of(order, entering, quantity, left)
         }
-        Place::Room(_, _) => left,
+        TradeSource::Room(_, _) => left,
     }
 }
 

@@ -7,7 +7,7 @@ ghost use Rattle.std.specs.Vec.{vec_capacity, vec_len};
 /// then move by `memmove`, and by `Vec::insert` one after the other.
 pub(crate) fn insert_at<T>(items: &mut Vec<T>, at: usize, item: T)
     requires within { at ≤ vec_len items.old }
-    requires room { vec_len items.old < vec_capacity items.old }
+    requires headroom { vec_len items.old < vec_capacity items.old }
     ensures items { items.new.items ≡ insert items.old.items at item }
     ensures len { vec_len items.new ≡ vec_len items.old + 1 }
     ensures capacity { vec_capacity items.new ≡ vec_capacity items.old }

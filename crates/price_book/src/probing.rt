@@ -1,14 +1,14 @@
 //! The keys of orders, in the order of their names, as a search looks at them.
 ghost use Rattle.std.specs.Prelude.{◌≡◌, ℕ, ◌<◌, List, length};
-ghost use Rattle.sorted_names.specs.Names.{spelled_order, lowered};
+ghost use Rattle.client_ids.specs.ClientIds.{spelled_order, lowered};
 ghost use Rattle.price_book.specs.Live.{entry_name};
 ghost use Rattle.price_book.specs.Numbered.{slot_at, slot_order, key_order, answer_at, answer_behind};
 
-use crate::name_key::NameKey;
+use crate::id_key::IdKey;
 use crate::numbered::Numbered;
+use client_ids::Probe;
 use fix_dictionary::Identifier;
 use participants::Who;
-use sorted_names::Probe;
 use std::cmp::Ordering;
 use venue_rules::Entry;
 
@@ -24,11 +24,11 @@ fn compare_spelled(entry: &Entry, who: Who, id: &Identifier) -> Ordering
 }
 
 // The same for the order of a number.
-fn compare_number(slots: &Numbered, number: u64, who: Who, id: &Identifier) -> Ordering
-    ensures { result ≡ slot_order (slot_at slots.now.entries number) who id.now }
+fn compare_number(stored_orders: &Numbered, number: u64, who: Who, id: &Identifier) -> Ordering
+    ensures { result ≡ slot_order (slot_at stored_orders.now.entries number) who id.now }
 {
-    match slots.get(&number) {
-        Some(slot) => compare_spelled(&slot.entry, who, id),
+    match stored_orders.get(&number) {
+        Some(stored_order) => compare_spelled(&stored_order.entry, who, id),
         None => Ordering::Less,
     }
 }
@@ -45,16 +45,16 @@ fn lowered(order: Ordering) -> Ordering
 #[derive(Drop)]
 /// Keys, to find the first place of a name of this mark. An order is looked up only where the marks do not decide.
 pub(crate) struct FirstProbe<'a> {
-    pub(crate) slots: &'a Numbered,
-    pub(crate) keys: &'a [NameKey],
-    pub(crate) mark: u64,
+    pub(crate) stored_orders: &'a Numbered,
+    pub(crate) keys: &'a [IdKey],
+    pub(crate) hash_key: u64,
     pub(crate) count: u64,
 }
 
 impl<'a> Probe for FirstProbe<'a> {
     ghost size = { λ p. length p.keys.now };
 
-    ghost answer = { λ p who id k. answer_at p.slots.now.entries p.keys.now p.mark who id k };
+    ghost answer = { λ p who id k. answer_at p.stored_orders.now.entries p.keys.now p.hash_key who id k };
 
     ghost count = { λ p. p.count };
 
@@ -65,9 +65,9 @@ impl<'a> Probe for FirstProbe<'a> {
     fn compare(&mut self, k: usize, who: Who, id: &Identifier) -> Ordering {
         self.count += 1;
         let key = self.keys[k];
-        match key.mark.cmp(&self.mark) {
+        match key.hash_key.cmp(&self.hash_key) {
             Ordering::Less => Ordering::Less,
-            Ordering::Equal => compare_number(self.slots, key.number, who, id),
+            Ordering::Equal => compare_number(self.stored_orders, key.number, who, id),
             Ordering::Greater => Ordering::Greater,
         }
     }
@@ -76,16 +76,16 @@ impl<'a> Probe for FirstProbe<'a> {
 #[derive(Drop)]
 /// Keys, to find the place behind a name of this mark. An order is looked up only where the marks do not decide.
 pub(crate) struct LastProbe<'a> {
-    pub(crate) slots: &'a Numbered,
-    pub(crate) keys: &'a [NameKey],
-    pub(crate) mark: u64,
+    pub(crate) stored_orders: &'a Numbered,
+    pub(crate) keys: &'a [IdKey],
+    pub(crate) hash_key: u64,
     pub(crate) count: u64,
 }
 
 impl<'a> Probe for LastProbe<'a> {
     ghost size = { λ p. length p.keys.now };
 
-    ghost answer = { λ p who id k. answer_behind p.slots.now.entries p.keys.now p.mark who id k };
+    ghost answer = { λ p who id k. answer_behind p.stored_orders.now.entries p.keys.now p.hash_key who id k };
 
     ghost count = { λ p. p.count };
 
@@ -96,9 +96,9 @@ impl<'a> Probe for LastProbe<'a> {
     fn compare(&mut self, k: usize, who: Who, id: &Identifier) -> Ordering {
         self.count += 1;
         let key = self.keys[k];
-        match key.mark.cmp(&self.mark) {
+        match key.hash_key.cmp(&self.hash_key) {
             Ordering::Less => Ordering::Less,
-            Ordering::Equal => lowered(compare_number(self.slots, key.number, who, id)),
+            Ordering::Equal => lowered(compare_number(self.stored_orders, key.number, who, id)),
             Ordering::Greater => Ordering::Greater,
         }
     }

@@ -65,7 +65,7 @@ impl Rows {
     /// Makes room for so many orders more.
     pub(crate) fn reserve(&mut self, more: usize) -> Result<(), AllocError>
         ensures items { self.new.items ≡ self.old.items }
-        ensures room { IfOk result (λ _. length self.old.items + more ≤ self.new.capacity) }
+        ensures headroom { IfOk result (λ _. length self.old.items + more ≤ self.new.capacity) }
         ensures grown { self.old.capacity ≤ self.new.capacity }
     {
         self.priorities.reserve(more)?;
@@ -76,7 +76,7 @@ impl Rows {
     // An order comes to a place, for which there is room.
     fn insert(&mut self, at: usize, row: Row)
         requires within { at ≤ length self.old.items }
-        requires room { length self.old.items < self.old.capacity }
+        requires headroom { length self.old.items < self.old.capacity }
         ensures items { self.new.items ≡ insert self.old.items at row }
         ensures capacity { self.new.capacity ≡ self.old.capacity }
     {
@@ -151,7 +151,7 @@ fn worse(rows: &Rows, side: Side, price: Price) -> usize
 
 /// An order that enters stands behind all of its side that are as good, and before all that are worse.
 pub(crate) fn put_last(rows: &mut Rows, side: Side, row: Row)
-    requires room { length rows.old.items < rows.old.capacity }
+    requires headroom { length rows.old.items < rows.old.capacity }
     requires ranked { AreRanked side (reverse rows.old.items) }
     ensures rows { reverse rows.new.items ≡ put_last side row (reverse rows.old.items) }
     ensures capacity { rows.new.capacity ≡ rows.old.capacity }

@@ -1,6 +1,6 @@
 //! Refusals of cancels and replacements (OrderCancelReject, 9).
 ghost use Rattle.std.specs.Prelude.{◌≡◌, IfOk};
-ghost use Rattle.venue_rules.specs.declared.replies.What.TheVariants as what;
+ghost use Rattle.venue_rules.specs.declared.replies.ReplyBody.TheVariants as what;
 ghost use Rattle.venue_rules.specs.Messages.{message, response_to, standing_id, standing_status};
 
 use crate::identifiers::order_id_or_none;
@@ -8,9 +8,9 @@ use crate::orders::open_status;
 use crate::reasons::change_reason;
 use fix_dictionary::{App, FixChar, Identifier, OrderCancelReject};
 use std::alloc::{AllocError, Global};
-use venue_rules::{ChangeKind, ChangeRefused, Standing};
+use venue_rules::{ChangeKind, ChangeRefused, OrderStatus};
 
-fn standing_id(standing: &Option<Standing>) -> Identifier
+fn standing_id(standing: &Option<OrderStatus>) -> Identifier
     ensures { result ≡ standing_id standing.now }
 {
     match standing {
@@ -19,7 +19,7 @@ fn standing_id(standing: &Option<Standing>) -> Identifier
     }
 }
 
-fn standing_status(standing: &Option<Standing>) -> FixChar
+fn standing_status(standing: &Option<OrderStatus>) -> FixChar
     ensures { result ≡ standing_status standing.now }
 {
     match standing {

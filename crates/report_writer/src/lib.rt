@@ -1,6 +1,7 @@
 //! The FIX message that each reply of the venue is sent as (FIX 5.0 SP2).
 #![tactic(auto)]
 
+mod business_reject;
 mod changes;
 mod identifiers;
 mod message;
@@ -11,6 +12,5 @@ mod reason;
 mod reasons;
 mod requests;
 mod status;
-mod unprocessed;
 
 pub use message::message_of;

@@ -1,6 +1,6 @@
 //! Reports on orders (ExecutionReport, 8).
 ghost use Rattle.std.specs.Prelude.{◌≡◌, IfOk};
-ghost use Rattle.venue_rules.specs.declared.replies.What.TheVariants as what;
+ghost use Rattle.venue_rules.specs.declared.replies.ReplyBody.TheVariants as what;
 ghost use Rattle.venue_rules.specs.Messages.{fill_status, message, open_status, refusal, report};
 ghost use Rattle.report_writer.specs.Reasons.{seen};
 

@@ -1,6 +1,6 @@
 //! Pictures of an instrument (MarketDataSnapshot, W), and refusals to show one (MarketDataRequestReject, Y).
 ghost use Rattle.std.specs.Prelude.{◌≡◌, [], ◌∷◌, IfOk};
-ghost use Rattle.venue_rules.specs.declared.replies.What.TheVariants as what;
+ghost use Rattle.venue_rules.specs.declared.replies.ReplyBody.TheVariants as what;
 ghost use Rattle.venue_rules.specs.Messages.{entry_type, market_reason, message, shown_entry, snapshot};
 
 use crate::reasons::market_reason;
@@ -9,7 +9,9 @@ use fix_dictionary::{
     Side,
 };
 use std::alloc::{AllocError, Global};
-use venue_rules::{MarketDataRefusal, PictureEntry, Prices, PricesRefused, printed_identifier};
+use venue_rules::{
+    BookSnapshot, MarketDataRefusal, MarketDataReject, SnapshotEntry, printed_identifier,
+};
 
 /// MDEntryType (269).
 fn entry_type(side: Side) -> FixChar
@@ -21,7 +23,7 @@ fn entry_type(side: Side) -> FixChar
     }
 }
 
-fn shown_entry(entry: &PictureEntry) -> MarketDataEntry
+fn shown_entry(entry: &SnapshotEntry) -> MarketDataEntry
     ensures { result ≡ shown_entry entry.now }
 {
     MarketDataEntry {
@@ -44,7 +46,7 @@ fn empty_book() -> MarketDataEntry
     }
 }
 
-fn snapshot(alloc: Global, entries: &[PictureEntry]) -> Result<Vec<MarketDataEntry>, AllocError>
+fn snapshot(alloc: Global, entries: &[SnapshotEntry]) -> Result<Vec<MarketDataEntry>, AllocError>
     ensures { IfOk result (λ v. v.items ≡ snapshot entries.now) }
 {
     if entries.is_empty() {
@@ -57,8 +59,8 @@ fn snapshot(alloc: Global, entries: &[PictureEntry]) -> Result<Vec<MarketDataEnt
     Ok(shown)
 }
 
-pub(crate) fn prices(alloc: Global, r: &Prices) -> Result<App, AllocError>
-    ensures { IfOk result (λ app. app ≡ message (what.Prices r.now)) }
+pub(crate) fn prices(alloc: Global, r: &BookSnapshot) -> Result<App, AllocError>
+    ensures { IfOk result (λ app. app ≡ message (what.BookSnapshot r.now)) }
 {
     let entries = snapshot(alloc, r.entries.as_slice())?;
     Ok(App::MarketDataSnapshot(MarketDataSnapshot {
@@ -79,8 +81,8 @@ fn market_code(cause: MarketDataRefusal) -> FixChar
     }
 }
 
-pub(crate) fn prices_refused(alloc: Global, r: &PricesRefused) -> Result<App, AllocError>
-    ensures { IfOk result (λ app. app ≡ message (what.PricesRefused r.now)) }
+pub(crate) fn prices_refused(alloc: Global, r: &MarketDataReject) -> Result<App, AllocError>
+    ensures { IfOk result (λ app. app ≡ message (what.MarketDataReject r.now)) }
 {
     let why = market_reason(r.cause);
     Ok(App::MarketDataRequestReject(MarketDataRequestReject {

@@ -1,6 +1,6 @@
 //! Quotes as the requester sees them (Quote, S), and what becomes of them (QuoteStatusReport, AI).
 ghost use Rattle.std.specs.Prelude.{◌≡◌, IfOk, option_map};
-ghost use Rattle.venue_rules.specs.declared.replies.What.TheVariants as what;
+ghost use Rattle.venue_rules.specs.declared.replies.ReplyBody.TheVariants as what;
 ghost use Rattle.venue_rules.specs.Messages.{message, status_of};
 ghost use Rattle.report_writer.specs.Reasons.{seen_status};
 

@@ -1,6 +1,6 @@
 //! Requests for quotes as a recipient sees them (QuoteRequest, R), and their refusals (QuoteRequestReject, AG).
 ghost use Rattle.std.specs.Prelude.{◌≡◌, IfOk};
-ghost use Rattle.venue_rules.specs.declared.replies.What.TheVariants as what;
+ghost use Rattle.venue_rules.specs.declared.replies.ReplyBody.TheVariants as what;
 ghost use Rattle.venue_rules.specs.Messages.{message};
 
 use crate::reasons::request_reason;

@@ -19,7 +19,7 @@ use Rattle.rfq_room.specs.Openness.{is_still_open, open_room}
 use Rattle.rfq_room.specs.Plans.{withdrawn}
 use Rattle.rfq_room.specs.Steps.{IsAllowed, IsPlanOf, Leaves, Nothing, Opens, Passes, Quotes, Step, Trades, facts_of}
 use Rattle.rfq_room.specs.Views.{is_named, is_taken}
-use Rattle.rfq_room.proofs.Marking.{last-both}
+use Rattle.rfq_room.proofs.Flagging.{last-both}
 use Rattle.rfq_room.proofs.Readings.{take-read}
 use Rattle.rfq_room.proofs.Taking.{named_taken}
 

@@ -9,7 +9,7 @@ use Rattle.venue_rules.specs.Market.{Market}
 use Rattle.venue_rules.specs.Requests.{recipient_room, recipients}
 use Rattle.rfq_room.specs.Causes.{request_cause, request_causes}
 use Rattle.rfq_room.specs.Contents.{Contents}
-use Rattle.rfq_room.specs.Kept.{IsRooms, are_listed, are_own, are_small, is_small}
+use Rattle.rfq_room.specs.RoomStore.{IsRooms, are_listed, are_own, are_small, is_small}
 use Rattle.rfq_room.specs.Named.{named_quotes, quote_room}
 use Rattle.rfq_room.specs.Plan.{Plan}
 use Rattle.rfq_room.specs.declared.decision.Decision.{Decision}
@@ -115,12 +115,12 @@ response-stepped facts who d t decision p h = found facts who d t decision p (fi
     found facts who d t decision p (Some q) None e f h = absurd h
     found facts who d t decision p (Some q) (Some r) e f h = decided-stepped facts who d t decision p q r e f h
 
-pub stepped-plan : (facts : List Fact) (rooms : Contents) (added : List Fact) → facts ≡ rooms.facts → Stepped facts added → length added ≤ rooms.spare.room → IsPlanOf rooms added
-stepped-plan facts rooms added same s room = record {
+pub stepped-plan : (facts : List Fact) (rooms : Contents) (added : List Fact) → facts ≡ rooms.facts → Stepped facts added → length added ≤ rooms.spare.headroom → IsPlanOf rooms added
+stepped-plan facts rooms added same s headroom = record {
   step = s.step;
   allowed = let P : List Fact → Type 0 = λ fs. IsAllowed fs s.step in subst P same s.allowed;
   made = s.made ∙ ap (λ fs. facts_of fs s.step) same;
-  room = room;
+  headroom = headroom;
 }
 
 -- what is no request is for no instrument

@@ -4,9 +4,9 @@ pub mod Taking
 pub mod Listed
 pub mod Keeping
 pub mod RoomFacts
-pub mod Telling
+pub mod Emitting
 pub mod Hashed
-pub mod Marking
+pub mod Flagging
 pub mod Clearing
 pub mod Numbering
 pub mod Adding

@@ -5,7 +5,7 @@ use Rattle.venue_rules.specs.declared.facts.Fact.TheVariants.{Entered, Traded, R
 use Rattle.venue_rules.specs.declared.facts.Room.{Room}
 use Rattle.venue_rules.specs.Facts.{rooms}
 use Rattle.std.proofs.lemmas.List.Folds.{list_all-append}
-use Rattle.rfq_room.specs.Kept.{are_listed, is_listed}
+use Rattle.rfq_room.specs.RoomStore.{are_listed, is_listed}
 
 both : (b c : Bool) → (b && c) ≡ true → (b ≡ true) × (c ≡ true)
 both true true h = (refl, refl)

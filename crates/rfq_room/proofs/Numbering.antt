@@ -43,32 +43,32 @@ none-below num (x ∷ xs) k from =
 
 -- what is printed for one number is printed for no other
 
-tail-same : (letter : ℕ) (ds es : List ℕ) → letter ∷ ds ≡ letter ∷ es → ds ≡ es
-tail-same letter ds es h = cc
+tail-same : (prefix : ℕ) (ds es : List ℕ) → prefix ∷ ds ≡ prefix ∷ es → ds ≡ es
+tail-same prefix ds es h = cc
 
-printed-once : (letter m n : ℕ) (id : List ℕ) → m < 2 ^ 64 → n < 2 ^ 64 → bytes_eq (printed letter m) id ≡ true → bytes_eq (printed letter n) id ≡ true → m ≡ n
-printed-once letter m n id h k e f = decimal_injective m n h k (tail-same letter (decimal m) (decimal n) ((bytes_eq-Decides (printed letter m) id).0 e ∙ sym ((bytes_eq-Decides (printed letter n) id).0 f)))
+printed-once : (prefix m n : ℕ) (id : List ℕ) → m < 2 ^ 64 → n < 2 ^ 64 → bytes_eq (printed prefix m) id ≡ true → bytes_eq (printed prefix n) id ≡ true → m ≡ n
+printed-once prefix m n id h k e f = decimal_injective m n h k (tail-same prefix (decimal m) (decimal n) ((bytes_eq-Decides (printed prefix m) id).0 e ∙ sym ((bytes_eq-Decides (printed prefix n) id).0 f)))
 
 -- so what is printed for a number finds what has the number
 
-pub printed-found : {X : Type 0} (num : X → ℕ) (letter n : ℕ) (id : List ℕ) (xs : List X) (k : ℕ) → n < 2 ^ 64 → bytes_eq (printed letter n) id ≡ true → AreFrom k (map num xs) → k + length xs ≤ 2 ^ 64 → find (λ x. bytes_eq (printed letter (num x)) id) xs ≡ find (λ x. num x == n) xs
-printed-found num letter n id [] k h e from few = refl
-printed-found {X} num letter n id (x ∷ xs) k h e from few = by (bytes_eq (printed letter (num x)) id) (num x == n) refl refl (printed-found num letter n id xs (suc k) h e from.1 (omega (arith, few)))
+pub printed-found : {X : Type 0} (num : X → ℕ) (prefix n : ℕ) (id : List ℕ) (xs : List X) (k : ℕ) → n < 2 ^ 64 → bytes_eq (printed prefix n) id ≡ true → AreFrom k (map num xs) → k + length xs ≤ 2 ^ 64 → find (λ x. bytes_eq (printed prefix (num x)) id) xs ≡ find (λ x. num x == n) xs
+printed-found num prefix n id [] k h e from few = refl
+printed-found {X} num prefix n id (x ∷ xs) k h e from few = by (bytes_eq (printed prefix (num x)) id) (num x == n) refl refl (printed-found num prefix n id xs (suc k) h e from.1 (omega (arith, few)))
   where
     small : num x < 2 ^ 64
     small = let first : num x ≡ k = from.0 in omega (arith, first, few)
 
-    by : (b c : Bool) → bytes_eq (printed letter (num x)) id ≡ b → num x == n ≡ c → find (λ y. bytes_eq (printed letter (num y)) id) xs ≡ find (λ y. num y == n) xs → cond b (Some x) (find (λ y. bytes_eq (printed letter (num y)) id) xs) ≡ cond c (Some x) (find (λ y. num y == n) xs)
+    by : (b c : Bool) → bytes_eq (printed prefix (num x)) id ≡ b → num x == n ≡ c → find (λ y. bytes_eq (printed prefix (num y)) id) xs ≡ find (λ y. num y == n) xs → cond b (Some x) (find (λ y. bytes_eq (printed prefix (num y)) id) xs) ≡ cond c (Some x) (find (λ y. num y == n) xs)
     by true true f g ih = refl
-    by true false f g ih = let never : true ≡ false = sym (eq-eqb (num x) n (printed-once letter (num x) n id small h f e)) ∙ g in cc
-    by false true f g ih = let never : true ≡ false = sym e ∙ ap (λ m. bytes_eq (printed letter m) id) (sym (eqb-true (num x) n g)) ∙ f in cc
+    by true false f g ih = let never : true ≡ false = sym (eq-eqb (num x) n (printed-once prefix (num x) n id small h f e)) ∙ g in cc
+    by false true f g ih = let never : true ≡ false = sym e ∙ ap (λ m. bytes_eq (printed prefix m) id) (sym (eqb-true (num x) n g)) ∙ f in cc
     by false false f g ih = ih
 
-pub printed-none : {X : Type 0} (num : X → ℕ) (letter : ℕ) (id : List ℕ) (xs : List X) (k : ℕ) → ((n : ℕ) → n < 2 ^ 64 → bytes_eq (printed letter n) id ≡ false) → AreFrom k (map num xs) → k + length xs ≤ 2 ^ 64 → find (λ x. bytes_eq (printed letter (num x)) id) xs ≡ None
-printed-none num letter id [] k none from few = refl
-printed-none num letter id (x ∷ xs) k none from few =
+pub printed-none : {X : Type 0} (num : X → ℕ) (prefix : ℕ) (id : List ℕ) (xs : List X) (k : ℕ) → ((n : ℕ) → n < 2 ^ 64 → bytes_eq (printed prefix n) id ≡ false) → AreFrom k (map num xs) → k + length xs ≤ 2 ^ 64 → find (λ x. bytes_eq (printed prefix (num x)) id) xs ≡ None
+printed-none num prefix id [] k none from few = refl
+printed-none num prefix id (x ∷ xs) k none from few =
     let first : num x ≡ k = from.0 in
-    rw (none (num x) (omega (arith, first, few))) (printed-none num letter id xs (suc k) none from.1 (omega (arith, few)))
+    rw (none (num x) (omega (arith, first, few))) (printed-none num prefix id xs (suc k) none from.1 (omega (arith, few)))
 
 -- what is lent of a list at a place
 

@@ -9,11 +9,11 @@ use Rattle.venue_rules.specs.declared.facts.RoomQuote.{RoomQuote}
 use Rattle.venue_rules.specs.declared.facts.Trade.{Trade}
 use Rattle.venue_rules.specs.Facts.{quote_in, quotes, room_in, rooms}
 use Rattle.venue_rules.specs.Rooms.{is_live, live_quotes, printed}
-use Rattle.rfq_room.specs.declared.marks.Mark.{Mark}
-use Rattle.rfq_room.specs.declared.marks.Mark.TheVariants as mark
+use Rattle.rfq_room.specs.declared.room_index.FlagKind.{FlagKind}
+use Rattle.rfq_room.specs.declared.room_index.FlagKind.TheVariants as flag
 use Rattle.rfq_room.specs.Contents.{Contents}
 use Rattle.rfq_room.specs.Flags.{IsWithin}
-use Rattle.rfq_room.specs.Marked.{AreThere, IsThere, count_of}
+use Rattle.rfq_room.specs.Flagged.{AreThere, IsThere, count_of}
 use Rattle.rfq_room.specs.Named.{named_quotes, room_with}
 use Rattle.rfq_room.specs.Numbered.{AreFrom}
 use Rattle.rfq_room.specs.Plans.{withdrawn}
@@ -49,57 +49,57 @@ up-to num (x ∷ xs) k count from h =
 one : (P : Fact → Type 0) (f : Fact) → P f → All P (f ∷ [])
 one P f h = All-cons P f [] h (All-nil P)
 
-asked-there : (count : ℕ) (r : Room) (m : Mark) → IsThere count m (Asked r)
-asked-there count r mark.Traded = tt
-asked-there count r mark.Withdrawn = tt
-asked-there count r mark.Quoted = tt
+asked-there : (count : ℕ) (r : Room) (m : FlagKind) → IsThere count m (Asked r)
+asked-there count r flag.Traded = tt
+asked-there count r flag.Withdrawn = tt
+asked-there count r flag.Quoted = tt
 
-quoted-there : (facts : List Fact) (q : RoomQuote) → IsWithin (count_of mark.Quoted facts) q.room → (m : Mark) → IsThere (count_of m facts) m (Quoted q)
-quoted-there facts q h mark.Traded = tt
-quoted-there facts q h mark.Withdrawn = tt
-quoted-there facts q h mark.Quoted = h
+quoted-there : (facts : List Fact) (q : RoomQuote) → IsWithin (count_of flag.Quoted facts) q.room → (m : FlagKind) → IsThere (count_of m facts) m (Quoted q)
+quoted-there facts q h flag.Traded = tt
+quoted-there facts q h flag.Withdrawn = tt
+quoted-there facts q h flag.Quoted = h
 
-withdrawn-there : (facts : List Fact) (q : RoomQuote) → IsWithin (count_of mark.Withdrawn facts) q.number → (m : Mark) → IsThere (count_of m facts) m (withdrawn q)
-withdrawn-there facts q h mark.Traded = tt
-withdrawn-there facts q h mark.Withdrawn = h
-withdrawn-there facts q h mark.Quoted = tt
+withdrawn-there : (facts : List Fact) (q : RoomQuote) → IsWithin (count_of flag.Withdrawn facts) q.number → (m : FlagKind) → IsThere (count_of m facts) m (withdrawn q)
+withdrawn-there facts q h flag.Traded = tt
+withdrawn-there facts q h flag.Withdrawn = h
+withdrawn-there facts q h flag.Quoted = tt
 
-traded-there : (count : ℕ) (trade : Trade) (m : Mark) → IsThere count m (Traded trade)
-traded-there count trade mark.Traded = tt
-traded-there count trade mark.Withdrawn = tt
-traded-there count trade mark.Quoted = tt
+traded-there : (count : ℕ) (trade : Trade) (m : FlagKind) → IsThere count m (Traded trade)
+traded-there count trade flag.Traded = tt
+traded-there count trade flag.Withdrawn = tt
+traded-there count trade flag.Quoted = tt
 
-closed-there : (facts : List Fact) (number : ℕ) → IsWithin (count_of mark.Traded facts) number → (m : Mark) → IsThere (count_of m facts) m (Closed (record { room = number }))
-closed-there facts number h mark.Traded = h
-closed-there facts number h mark.Withdrawn = tt
-closed-there facts number h mark.Quoted = tt
+closed-there : (facts : List Fact) (number : ℕ) → IsWithin (count_of flag.Traded facts) number → (m : FlagKind) → IsThere (count_of m facts) m (Closed (record { room = number }))
+closed-there facts number h flag.Traded = h
+closed-there facts number h flag.Withdrawn = tt
+closed-there facts number h flag.Quoted = tt
 
 named-all : (P : RoomQuote → Type 0) (facts : List Fact) (maker t : ℕ) (id : Option (List ℕ)) → All P (quotes facts) → All P (named_quotes facts maker t id)
 named-all P facts maker t None all = All-filter (λ q. q.maker == maker && is_live facts t q) P (quotes facts) all
 named-all P facts maker t (Some id) all = All-filter (λ q. bytes_eq q.id id) P (live_quotes facts maker t) (All-filter (λ q. q.maker == maker && is_live facts t q) P (quotes facts) all)
 
 abbrev AreRooms : List Fact → Type 0
-AreRooms facts = All (λ (r : Room). IsWithin (count_of mark.Traded facts) r.number) (rooms facts)
+AreRooms facts = All (λ (r : Room). IsWithin (count_of flag.Traded facts) r.number) (rooms facts)
 
 abbrev AreQuotes : List Fact → Type 0
-AreQuotes facts = All (λ (q : RoomQuote). IsWithin (count_of mark.Withdrawn facts) q.number) (quotes facts)
+AreQuotes facts = All (λ (q : RoomQuote). IsWithin (count_of flag.Withdrawn facts) q.number) (quotes facts)
 
 step-there : (facts : List Fact) (step : Step) → AreRooms facts → AreQuotes facts → IsAllowed facts step → AreThere facts (facts_of facts step)
 step-there facts Nothing rs qs h m = All-nil (IsThere (count_of m facts) m)
 step-there facts (Opens r) rs qs h m = one (IsThere (count_of m facts) m) (Asked r) (asked-there (count_of m facts) r m)
 step-there facts (Quotes id r q) rs qs h m =
-    let P : ℕ → Type 0 = IsWithin (count_of mark.Quoted facts) in
+    let P : ℕ → Type 0 = IsWithin (count_of flag.Quoted facts) in
     let number : P r.number = found (λ (x : Room). P x.number) (λ (x : Room). bytes_eq (printed 82 x.number) id) (rooms facts) r rs h.0 in
     one (IsThere (count_of m facts) m) (Quoted q) (quoted-there facts q (subst P (sym h.1) number) m)
 step-there facts (Leaves maker t id) rs qs h m =
-    let P : RoomQuote → Type 0 = λ q. IsWithin (count_of mark.Withdrawn facts) q.number in
+    let P : RoomQuote → Type 0 = λ q. IsWithin (count_of flag.Withdrawn facts) q.number in
     let named = named_quotes facts maker t id in
     All-map (IsThere (count_of m facts) m) withdrawn named (All-weaker P (λ q. IsThere (count_of m facts) m (withdrawn q)) (λ q k. withdrawn-there facts q k m) named (named-all P facts maker t id qs))
 step-there facts (Passes id q) rs qs h m =
-    let P : RoomQuote → Type 0 = λ q. IsWithin (count_of mark.Withdrawn facts) q.number in
+    let P : RoomQuote → Type 0 = λ q. IsWithin (count_of flag.Withdrawn facts) q.number in
     one (IsThere (count_of m facts) m) (withdrawn q) (withdrawn-there facts q (found P (λ (x : RoomQuote). bytes_eq (printed 81 x.number) id) (quotes facts) q qs h) m)
 step-there facts (Trades id q r trade) rs qs h m =
-    let P : Room → Type 0 = λ r. IsWithin (count_of mark.Traded facts) r.number in
+    let P : Room → Type 0 = λ r. IsWithin (count_of flag.Traded facts) r.number in
     let number : P r = found P (λ (x : Room). x.number == q.room) (rooms facts) r rs (ap (room_with facts) (sym h.0) ∙ h.1) in
     let closed : Fact = Closed (record { room = r.number }) in
     All-cons (IsThere (count_of m facts) m) (Traded trade) (closed ∷ []) (traded-there (count_of m facts) trade m) (one (IsThere (count_of m facts) m) closed (closed-there facts r.number number m))
@@ -108,6 +108,6 @@ step-there facts (Trades id q r trade) rs qs h m =
 pub plan-there : (from : Contents) (added : List Fact) → AreFrom 1 (map (λ r. r.number) (rooms from.facts)) → AreFrom 1 (map (λ q. q.number) (quotes from.facts)) → IsPlanOf from added → AreThere from.facts added
 plan-there from added rs qs plan =
     let facts = from.facts in
-    let all_rooms = up-to (λ (r : Room). r.number) (rooms facts) 0 (count_of mark.Traded facts) rs (omega (arith, counted room_in facts)) in
-    let all_quotes = up-to (λ (q : RoomQuote). q.number) (quotes facts) 0 (count_of mark.Withdrawn facts) qs (omega (arith, counted quote_in facts)) in
+    let all_rooms = up-to (λ (r : Room). r.number) (rooms facts) 0 (count_of flag.Traded facts) rs (omega (arith, counted room_in facts)) in
+    let all_quotes = up-to (λ (q : RoomQuote). q.number) (quotes facts) 0 (count_of flag.Withdrawn facts) qs (omega (arith, counted quote_in facts)) in
     rw plan.made (step-there facts plan.step all_rooms all_quotes plan.allowed)

@@ -5,10 +5,10 @@ use Rattle.rfq_room.specs.declared.flags.Flags.TheInside.{Inside}
 -- the flags of the numbers from 1 on, and room for so many more
 pub record Known : Type 0 where
   pub flags : List Bool
-  pub room : ℕ
+  pub headroom : ℕ
 
 abbrev pub known : Inside → Known
-known a = record { flags = a.flags.items; room = vec_capacity a.flags - vec_len a.flags }
+known a = record { flags = a.flags.items; headroom = vec_capacity a.flags - vec_len a.flags }
 
 -- the flag of a number is there, and set
 abbrev pub is_set : List Bool → ℕ → Bool

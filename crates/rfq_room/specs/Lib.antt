@@ -13,16 +13,16 @@ pub mod Plan
 pub mod Plans
 -- what the rooms hold, and what stays true of it
 pub mod Contents
-pub mod Kept
+pub mod RoomStore
 -- what may happen to rooms in one step
 pub mod Steps
 -- what the venue answers, by what its rooms decide
-pub mod Told
+pub mod Emitted
 -- what is kept of the facts
-pub mod Past
+pub mod GhostHistory
 pub mod Flags
-pub mod Lasts
-pub mod Marked
+pub mod LastQuotes
+pub mod Flagged
 pub mod Numbered
 pub mod Openness
 pub mod Standing

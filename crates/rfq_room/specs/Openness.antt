@@ -2,7 +2,7 @@ use Rattle.std.specs.Prelude.{ℕ, Bool, List}
 use Rattle.venue_rules.specs.declared.facts.Fact.{Fact}
 use Rattle.venue_rules.specs.declared.facts.Room.{Room}
 use Rattle.rfq_room.specs.declared.opened.OpenRoom.{OpenRoom}
-use Rattle.rfq_room.specs.Marked.{still_open}
+use Rattle.rfq_room.specs.Flagged.{still_open}
 
 -- what is kept of a room while it may be open
 abbrev pub open_room : Room → OpenRoom

@@ -1,10 +1,10 @@
 use Rattle.std.specs.Prelude.{Bool, true, false, List, filter}
 use Rattle.venue_rules.specs.declared.facts.Fact.{Fact}
 use Rattle.venue_rules.specs.declared.facts.Fact.TheVariants.{Entered, Traded, Removed, Held, Unheld, Asked, Quoted, Withdrawn, Closed}
-use Rattle.venue_rules.specs.declared.facts.Place.{Place}
-use Rattle.venue_rules.specs.declared.facts.Place.TheVariants.{Book as InBook, Room as InRoom}
+use Rattle.venue_rules.specs.declared.facts.TradeSource.{TradeSource}
+use Rattle.venue_rules.specs.declared.facts.TradeSource.TheVariants.{Book as InBook, Room as InRoom}
 
-abbrev pub is_in_room : Place → Bool
+abbrev pub is_in_room : TradeSource → Bool
 is_in_room (InBook resting entering) = false
 is_in_room (InRoom room quote) = true
 

@@ -4,7 +4,7 @@ use Rattle.venue_rules.specs.declared.facts.Fact.TheVariants.{Asked, Quoted, Tra
 use Rattle.venue_rules.specs.declared.facts.Room.{Room}
 use Rattle.venue_rules.specs.declared.facts.RoomQuote.{RoomQuote}
 use Rattle.venue_rules.specs.declared.facts.Trade.{Trade}
-use Rattle.venue_rules.specs.declared.facts.Place.TheVariants.{Room as InRoom}
+use Rattle.venue_rules.specs.declared.facts.TradeSource.TheVariants.{Room as InRoom}
 use Rattle.venue_rules.specs.Facts.{next_quote, next_room}
 use Rattle.venue_rules.specs.Requests.{recipient_room}
 use Rattle.venue_rules.specs.Rooms.{find_quote, find_room}
@@ -45,4 +45,4 @@ pub record IsPlanOf (rooms : Contents) (added : List Fact) : Type 0 where
   pub step : Step
   pub allowed : IsAllowed rooms.facts step
   pub made : added ≡ facts_of rooms.facts step
-  pub room : length added ≤ rooms.spare.room
+  pub headroom : length added ≤ rooms.spare.headroom

@@ -6,15 +6,15 @@ ghost use Rattle.rfq_room.specs.Plans.{IsResponsePlan, IsResponsePlanned, hit_pl
 ghost use Rattle.rfq_room.specs.Refusals.{IsResponseRefused};
 
 use crate::decision::{Decision, Hit};
-use crate::kept::Kept;
 use crate::plan::RoomPlan;
 use crate::refusal::{Refusal, ResponseCause, response_refusal};
+use crate::room_store::RoomStore;
 use crate::withdrawing::withdrawn;
 use fix_dictionary::{Price, QuoteResponse, Side};
 use participants::Who;
 use sef_moment::Moment;
 use std::alloc::{AllocError, Global};
-use venue_rules::{Closing, Fact, Place, Room, RoomQuote, Trade, buyer};
+use venue_rules::{Closing, Fact, Room, RoomQuote, Trade, TradeSource, buyer};
 
 // QuoteRespType (694) is 1, a hit, or 6, a pass.
 fn is_supported(response: &QuoteResponse) -> bool
@@ -68,7 +68,7 @@ fn hit_on(quote: &RoomQuote, side: Option<Side>) -> Decision
 
 // What an answer to a quote of a room comes to.
 fn decide_room(
-    kept: &Kept,
+    kept: &RoomStore,
     who: Who,
     room: &Room,
     quote: &RoomQuote,
@@ -77,14 +77,14 @@ fn decide_room(
 ) -> Decision
     ensures { result ≡ decide_room kept.now.facts who room.now quote.now response.now moment }
 {
-    let marks = kept.marks();
+    let known_flags = kept.known_flags();
     if room.requester.place() != who.place() {
         return Decision::Refuse(ResponseCause::NotYours);
     }
-    if marks.is_closed(room.number) || marks.is_replaced(quote) {
+    if known_flags.is_closed(room.number) || known_flags.is_replaced(quote) {
         return Decision::Refuse(ResponseCause::Over);
     }
-    if marks.is_withdrawn(quote.number) {
+    if known_flags.is_withdrawn(quote.number) {
         return Decision::Refuse(ResponseCause::Withdrawn);
     }
     if quote.end.ms() < moment.ms() {
@@ -116,7 +116,7 @@ fn hit_trade(
         price,
         buyer: buyer(side, who, quote.maker),
         seller: buyer(side, quote.maker, who),
-        place: Place::Room(room.number, quote.number),
+        place: TradeSource::Room(room.number, quote.number),
         moment,
     }
 }
@@ -172,7 +172,7 @@ fn draft_decided(
 /// The plan of an answer to a quote, before space is made for it.
 pub(crate) fn draft_answer(
     alloc: Global,
-    kept: &Kept,
+    kept: &RoomStore,
     who: Who,
     response: &QuoteResponse,
     moment: Moment,

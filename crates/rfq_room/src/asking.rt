@@ -7,11 +7,11 @@ ghost use Rattle.instruments.specs.Listing.{instrument_of};
 ghost use Rattle.rfq_room.specs.Causes.{recipient_causes, request_cause};
 ghost use Rattle.rfq_room.specs.Plans.{request_plan, room_asked};
 
-use crate::kept::Kept;
 use crate::listing::{instrument_of, is_below_least};
 use crate::plan::RoomPlan;
 use crate::recipients::{has_twice, has_unknown, is_among, recipients};
 use crate::refusal::{Refusal, request_refusal};
+use crate::room_store::RoomStore;
 use fix_dictionary::QuoteRequest;
 use instruments::Instruments;
 use participants::{Participants, Who};
@@ -20,16 +20,16 @@ use std::alloc::Global;
 use venue_rules::{Fact, Recipients, RequestRefusal, Room};
 
 /// How many recipients a request may have.
-const RECIPIENT_ROOM: usize = 12;
+const MAX_RECIPIENTS: usize = 12;
 
 /// How many rooms may be open.
-const OPEN_ROOM: usize = 1_000;
+const MAX_OPEN_ROOMS: usize = 1_000;
 
 // Why a request that is for enough of a listed instrument is refused.
 fn recipients_cause(
     participants: &Participants,
     instruments: &Instruments,
-    kept: &Kept,
+    kept: &RoomStore,
     who: Who,
     request: &QuoteRequest,
     recipients: &[Who],
@@ -49,7 +49,7 @@ fn recipients_cause(
     if has_twice(recipients) {
         return Some(RequestRefusal::RecipientTwice);
     }
-    if RECIPIENT_ROOM < recipients.len() {
+    if MAX_RECIPIENTS < recipients.len() {
         return Some(RequestRefusal::TooManyRecipients);
     }
     if recipients.len() < 3 {
@@ -58,7 +58,7 @@ fn recipients_cause(
     if !participants.three_unrelated(who, recipients) {
         return Some(RequestRefusal::RecipientsNotUnrelated);
     }
-    if OPEN_ROOM <= kept.count_open(moment) {
+    if MAX_OPEN_ROOMS <= kept.count_open(moment) {
         return Some(RequestRefusal::TooManyRequests);
     }
     None
@@ -68,7 +68,7 @@ fn recipients_cause(
 fn instrument_asked(
     participants: &Participants,
     instruments: &Instruments,
-    kept: &Kept,
+    kept: &RoomStore,
     who: Who,
     request: &QuoteRequest,
     recipients: &[Who],
@@ -82,7 +82,10 @@ fn instrument_asked(
     ensures listed { IfOk result (λ x. x < length instruments.now) }
     ensures refused { IfErr result (λ cause. request_cause (record { participants = participants.now; instruments = instruments.now }) kept.now.facts who request.now moment ≡ Some cause) }
 {
-    if kept.marks().is_request_id_used(who, &request.request_id) {
+    if kept
+        .known_flags()
+        .is_request_id_used(who, &request.request_id)
+    {
         return Err(RequestRefusal::DuplicateRequest);
     }
     let Some(instrument) = instrument_of(instruments, &request.symbol) else {
@@ -110,7 +113,7 @@ fn instrument_asked(
 fn room_asked(
     participants: &Participants,
     instruments: &Instruments,
-    kept: &Kept,
+    kept: &RoomStore,
     who: Who,
     request: &QuoteRequest,
     instrument: u32,
@@ -140,7 +143,7 @@ pub(crate) fn draft_ask(
     alloc: Global,
     participants: &Participants,
     instruments: &Instruments,
-    kept: &Kept,
+    kept: &RoomStore,
     who: Who,
     request: &QuoteRequest,
     moment: Moment,

@@ -31,8 +31,8 @@ impl Flags {
     /// Makes room for so many flags more.
     pub(crate) fn reserve(&mut self, more: usize) -> Result<(), AllocError>
         ensures flags { self.new.flags ≡ self.old.flags }
-        ensures room { IfOk result (λ _. more ≤ self.new.room) }
-        ensures grown { self.old.room ≤ self.new.room }
+        ensures headroom { IfOk result (λ _. more ≤ self.new.headroom) }
+        ensures grown { self.old.headroom ≤ self.new.headroom }
     {
         self.flags.reserve(more)
     }
@@ -52,10 +52,10 @@ impl Flags {
 
     /// One flag more, which is not set, for which there is room.
     pub(crate) fn push(&mut self)
-        requires { 1 ≤ self.old.room }
+        requires { 1 ≤ self.old.headroom }
         ensures flags { (n : ℕ) → is_set self.new.flags n ≡ is_set self.old.flags n }
         ensures count { length self.new.flags ≡ length self.old.flags + 1 }
-        ensures room { self.old.room ≡ self.new.room + 1 }
+        ensures headroom { self.old.headroom ≡ self.new.headroom + 1 }
     {
         self.flags.push_reserved(false);
     }
@@ -65,7 +65,7 @@ impl Flags {
         requires { IsWithin (length self.old.flags) number }
         ensures flags { (n : ℕ) → is_set self.new.flags n ≡ (nat_eq n number || is_set self.old.flags n) }
         ensures count { length self.new.flags ≡ length self.old.flags }
-        ensures room { self.new.room ≡ self.old.room }
+        ensures headroom { self.new.headroom ≡ self.old.headroom }
     {
         self.flags[(number - 1) as usize] = true;
     }

@@ -18,15 +18,15 @@ ghost use Rattle.rfq_room.specs.Causes.{decide, quote_cause, request_cause, with
 ghost use Rattle.rfq_room.specs.Named.{named_quotes, quote_room};
 ghost use Rattle.rfq_room.specs.Plans.{quote_made, room_asked};
 ghost use Rattle.rfq_room.specs.RoomFacts.{room_facts};
-ghost use Rattle.rfq_room.specs.Told.{quote_told, request_told, response_told, withdrawal_told};
+ghost use Rattle.rfq_room.specs.Emitted.{quote_emitted, request_emitted, response_emitted, withdrawal_emitted};
 
 /// The answers of the rules to a request, a quote, a withdrawal and an answer to a quote are those by the cause or the
 /// decision that the rooms have, and what else the rules read of rooms off all facts of a venue they read off its rooms'.
 pub fn rooms_decide()
-    ensures request { (m : Market) (h : History) (s : Sender) (d : QuoteRequest) (t : ℕ) → answer_request m h s d t ≡ request_told m h s d t (request_cause m (room_facts h.facts) s.who d t) }
-    ensures quote { (m : Market) (h : History) (s : Sender) (d : Quote) (t : ℕ) → answer_quote m h s d t ≡ quote_told m h s d (find_room (room_facts h.facts) d.request_id) (quote_cause m (room_facts h.facts) s.who d t) }
-    ensures withdrawal { (m : Market) (h : History) (s : Sender) (d : QuoteCancel) (t : ℕ) → answer_withdrawal m h s d t ≡ withdrawal_told m h s d (named_quotes (room_facts h.facts) s.who t (withdrawal_id d)) (withdrawal_cause (room_facts h.facts) s.who d t) }
-    ensures response { (m : Market) (h : History) (s : Sender) (d : QuoteResponse) (t : ℕ) → answer_response m h s d t ≡ response_told m h s d t (find_quote (room_facts h.facts) d.quote_id) (quote_room (room_facts h.facts) d.quote_id) (decide (room_facts h.facts) s.who d t) }
+    ensures request { (m : Market) (h : History) (s : Sender) (d : QuoteRequest) (t : ℕ) → answer_request m h s d t ≡ request_emitted m h s d t (request_cause m (room_facts h.facts) s.who d t) }
+    ensures quote { (m : Market) (h : History) (s : Sender) (d : Quote) (t : ℕ) → answer_quote m h s d t ≡ quote_emitted m h s d (find_room (room_facts h.facts) d.request_id) (quote_cause m (room_facts h.facts) s.who d t) }
+    ensures withdrawal { (m : Market) (h : History) (s : Sender) (d : QuoteCancel) (t : ℕ) → answer_withdrawal m h s d t ≡ withdrawal_emitted m h s d (named_quotes (room_facts h.facts) s.who t (withdrawal_id d)) (withdrawal_cause (room_facts h.facts) s.who d t) }
+    ensures response { (m : Market) (h : History) (s : Sender) (d : QuoteResponse) (t : ℕ) → answer_response m h s d t ≡ response_emitted m h s d t (find_quote (room_facts h.facts) d.quote_id) (quote_room (room_facts h.facts) d.quote_id) (decide (room_facts h.facts) s.who d t) }
     ensures opened { (m : Market) (h : History) (s : Sender) (d : QuoteRequest) (t : ℕ) → opened m h s d t ≡ room_asked m (room_facts h.facts) s.who d t }
     ensures quoted { (h : History) (s : Sender) (r : Room) (d : Quote) → quoted h s r d ≡ quote_made (room_facts h.facts) s.who r d }
     ensures first { (fs : List Fact) (room : ℕ) → first_quote fs room ≡ first_quote (room_facts fs) room }

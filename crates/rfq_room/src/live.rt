@@ -6,7 +6,7 @@ ghost use Rattle.venue_rules.specs.Rooms.{is_live};
 ghost use Rattle.rfq_room.specs.Views.{is_named, is_taken};
 
 use crate::facts::quote_in;
-use crate::marks::Marks;
+use crate::room_index::RoomIndex;
 use fix_dictionary::Identifier;
 use participants::Who;
 use sef_moment::Moment;
@@ -25,15 +25,15 @@ fn is_named(id: &Identifier, named: Option<&Identifier>) -> bool
 
 // Whether a withdrawal takes the quote away.
 fn is_taken(
-    marks: &Marks,
+    known_flags: &RoomIndex,
     maker: Who,
     moment: Moment,
     named: Option<&Identifier>,
     quote: &RoomQuote,
 ) -> bool
-    ensures { result ≡ is_taken marks.now.facts maker moment (option_map (λ n. n.now) named.entry) quote.now }
+    ensures { result ≡ is_taken known_flags.now.facts maker moment (option_map (λ n. n.now) named.entry) quote.now }
 {
-    (quote.maker.place() == maker.place() && marks.is_live(moment, quote))
+    (quote.maker.place() == maker.place() && known_flags.is_live(moment, quote))
         && is_named(&quote.id, named)
 }
 
@@ -41,17 +41,17 @@ fn is_taken(
 #[tactic(auto, using(crate::proofs::Taking::takings))]
 pub(crate) fn taken_quotes(
     alloc: Global,
-    marks: &Marks,
+    known_flags: &RoomIndex,
     maker: Who,
     moment: Moment,
     named: Option<&Identifier>,
     quotes: &[RoomQuote],
 ) -> Result<Vec<RoomQuote>, AllocError>
-    ensures { IfOk result (λ v. v.items ≡ filter (is_taken marks.now.facts maker moment (option_map (λ n. n.now) named.entry)) quotes.now) }
+    ensures { IfOk result (λ v. v.items ≡ filter (is_taken known_flags.now.facts maker moment (option_map (λ n. n.now) named.entry)) quotes.now) }
 {
     let mut taken = Vec::new(alloc);
     for quote in quotes {
-        if is_taken(marks, maker, moment, named, quote) {
+        if is_taken(known_flags, maker, moment, named, quote) {
             taken.push(*quote)?;
         }
     }
@@ -59,12 +59,12 @@ pub(crate) fn taken_quotes(
 }
 
 /// Leaves out those that are over at a moment.
-pub(crate) fn clear_live(marks: &Marks, moment: Moment, live: &mut Vec<RoomQuote>)
-    ensures items { live.new.items ≡ filter (is_live marks.now.facts moment) live.old.items }
+pub(crate) fn clear_live(known_flags: &RoomIndex, moment: Moment, live: &mut Vec<RoomQuote>)
+    ensures items { live.new.items ≡ filter (is_live known_flags.now.facts moment) live.old.items }
     ensures len { vec_len live.new ≤ vec_len live.old }
     ensures capacity { vec_capacity live.new ≡ vec_capacity live.old }
 {
-    live.retain(|quote| marks.is_live(moment, quote));
+    live.retain(|quote| known_flags.is_live(moment, quote));
 }
 
 /// The quotes that facts more are, for which there is room.

@@ -42,11 +42,11 @@ fn spelled(digits: &[u8]) -> Option<u64>
 }
 
 // The number for which the venue prints an identifier, if there is one.
-fn number_of(letter: u8, id: &Identifier) -> Option<u64>
-    ensures { MatchOption result ((n : ℕ) → n < 2 ^ 64 → bytes_eq (printed letter n) id.now ≡ false) (λ n. (bytes_eq (printed letter n) id.now ≡ true) × (n < 2 ^ 64)) }
+fn number_of(prefix: u8, id: &Identifier) -> Option<u64>
+    ensures { MatchOption result ((n : ℕ) → n < 2 ^ 64 → bytes_eq (printed prefix n) id.now ≡ false) (λ n. (bytes_eq (printed prefix n) id.now ≡ true) × (n < 2 ^ 64)) }
 {
     let (first, digits) = id.as_slice().split_first()?;
-    if *first != letter {
+    if *first != prefix {
         return None;
     }
     spelled(digits)

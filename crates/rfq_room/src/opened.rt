@@ -6,7 +6,7 @@ ghost use Rattle.venue_rules.specs.Rooms.{is_open};
 ghost use Rattle.rfq_room.specs.Openness.{is_still_open, open_room};
 
 use crate::facts::room_in;
-use crate::marks::Marks;
+use crate::room_index::RoomIndex;
 use sef_moment::Moment;
 use venue_rules::{Fact, Room};
 
@@ -26,10 +26,10 @@ fn open_room(room: &Room) -> OpenRoom
     }
 }
 
-fn is_still_open(marks: &Marks, moment: Moment, room: &OpenRoom) -> bool
-    ensures { result ≡ is_still_open marks.now.facts moment room.now }
+fn is_still_open(known_flags: &RoomIndex, moment: Moment, room: &OpenRoom) -> bool
+    ensures { result ≡ is_still_open known_flags.now.facts moment room.now }
 {
-    marks.is_open(moment, room.number, room.end)
+    known_flags.is_open(moment, room.number, room.end)
 }
 
 // One for what is counted.
@@ -41,34 +41,34 @@ fn counted(counts: bool) -> usize
 }
 
 /// How many of these are open at a moment.
-pub(crate) fn count_open(marks: &Marks, moment: Moment, rooms: &[OpenRoom]) -> usize
-    ensures { result ≡ length (filter (is_still_open marks.now.facts moment) rooms.now) }
+pub(crate) fn count_open(known_flags: &RoomIndex, moment: Moment, rooms: &[OpenRoom]) -> usize
+    ensures { result ≡ length (filter (is_still_open known_flags.now.facts moment) rooms.now) }
 {
     let mut count = 0;
     for room in rooms {
-        count += counted(is_still_open(marks, moment, room));
+        count += counted(is_still_open(known_flags, moment, room));
     }
     count
 }
 
 /// How many of these rooms are open at a moment.
-pub(crate) fn count_all_open(marks: &Marks, moment: Moment, rooms: &[Room]) -> usize
-    ensures { result ≡ length (filter (is_open marks.now.facts moment) rooms.now) }
+pub(crate) fn count_all_open(known_flags: &RoomIndex, moment: Moment, rooms: &[Room]) -> usize
+    ensures { result ≡ length (filter (is_open known_flags.now.facts moment) rooms.now) }
 {
     let mut count = 0;
     for room in rooms {
-        count += counted(marks.is_open(moment, room.number, room.end));
+        count += counted(known_flags.is_open(moment, room.number, room.end));
     }
     count
 }
 
 /// Leaves out those that are over at a moment.
-pub(crate) fn clear_open(marks: &Marks, moment: Moment, rooms: &mut Vec<OpenRoom>)
-    ensures items { rooms.new.items ≡ filter (is_still_open marks.now.facts moment) rooms.old.items }
+pub(crate) fn clear_open(known_flags: &RoomIndex, moment: Moment, rooms: &mut Vec<OpenRoom>)
+    ensures items { rooms.new.items ≡ filter (is_still_open known_flags.now.facts moment) rooms.old.items }
     ensures len { vec_len rooms.new ≤ vec_len rooms.old }
     ensures capacity { vec_capacity rooms.new ≡ vec_capacity rooms.old }
 {
-    rooms.retain(|room| is_still_open(marks, moment, room));
+    rooms.retain(|room| is_still_open(known_flags, moment, room));
 }
 
 /// The rooms that facts more open, for which there is room.

@@ -2,15 +2,15 @@
 ghost use Rattle.std.specs.Prelude.{◌≡◌, ◌<◌, ◌==◌, None, IfOk, IfErr, length, nat_lt, not, true};
 ghost use Rattle.venue_rules.specs.Quotes.{is_absent_or, is_crossed, is_price_off_tick, lacks_price, quote_end};
 ghost use Rattle.rfq_room.specs.Causes.{quote_cause, quote_causes, terms_causes};
-ghost use Rattle.rfq_room.specs.Kept.{are_listed};
+ghost use Rattle.rfq_room.specs.RoomStore.{are_listed};
 ghost use Rattle.rfq_room.specs.Plans.{IsQuotePlanned, quote_made, quote_plan};
 ghost use Rattle.rfq_room.specs.Refusals.{IsQuoteRefused};
 ghost use Rattle.rfq_room.specs.Views.{first_cause};
 
-use crate::kept::Kept;
 use crate::plan::RoomPlan;
 use crate::recipients::is_among;
 use crate::refusal::{Refusal, quote_refusal};
+use crate::room_store::RoomStore;
 use fix_dictionary::{FixChar, Price, Quantity, Quote, Side};
 use instruments::Instruments;
 use participants::{Participants, Who};
@@ -122,7 +122,7 @@ fn terms_cause(
 fn quote_cause(
     participants: &Participants,
     instruments: &Instruments,
-    kept: &Kept,
+    kept: &RoomStore,
     who: Who,
     room: &Room,
     quote: &Quote,
@@ -144,7 +144,7 @@ fn quote_cause(
     {
         return Some(QuoteRefusal::UnknownInstrument);
     }
-    if kept.marks().is_quote_id_used(who, &quote.quote_id) {
+    if kept.known_flags().is_quote_id_used(who, &quote.quote_id) {
         return Some(QuoteRefusal::DuplicateQuote);
     }
     terms_cause(participants, instruments, room, quote, moment)
@@ -167,7 +167,7 @@ fn quote_end(room: &Room, quote: &Quote) -> Moment
 }
 
 /// The quote that a message makes in a room.
-fn quote_made(kept: &Kept, who: Who, room: &Room, quote: &Quote) -> RoomQuote
+fn quote_made(kept: &RoomStore, who: Who, room: &Room, quote: &Quote) -> RoomQuote
     ensures { result ≡ quote_made kept.now.facts who room.now quote.now }
 {
     RoomQuote {
@@ -184,7 +184,7 @@ fn quote_made(kept: &Kept, who: Who, room: &Room, quote: &Quote) -> RoomQuote
 /// The plan of a quote in a room, before space is made for it.
 fn draft_in(
     alloc: Global,
-    kept: &Kept,
+    kept: &RoomStore,
     who: Who,
     room: &Room,
     quote: &Quote,
@@ -201,7 +201,7 @@ pub(crate) fn draft_quote(
     alloc: Global,
     participants: &Participants,
     instruments: &Instruments,
-    kept: &Kept,
+    kept: &RoomStore,
     who: Who,
     quote: &Quote,
     moment: Moment,

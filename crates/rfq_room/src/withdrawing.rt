@@ -5,9 +5,9 @@ ghost use Rattle.rfq_room.specs.Named.{named_quotes};
 ghost use Rattle.rfq_room.specs.Plans.{withdrawal_plan, withdrawn};
 ghost use Rattle.rfq_room.specs.Refusals.{IsWithdrawalRefused};
 
-use crate::kept::Kept;
 use crate::plan::RoomPlan;
 use crate::refusal::{Refusal, WithdrawalRefusal, withdrawal_refusal};
+use crate::room_store::RoomStore;
 use fix_dictionary::{Identifier, QuoteCancel};
 use participants::Who;
 use sef_moment::Moment;
@@ -75,7 +75,7 @@ fn all_withdrawn(alloc: Global, quotes: &[RoomQuote]) -> Result<Vec<Fact>, Alloc
 /// The plan of a withdrawal, before space is made for it.
 pub(crate) fn draft_withdraw(
     alloc: Global,
-    kept: &Kept,
+    kept: &RoomStore,
     who: Who,
     request: &QuoteCancel,
     moment: Moment,

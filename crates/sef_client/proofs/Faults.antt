@@ -7,8 +7,8 @@ faults_more [] x = omega arith
 faults_more (y ∷ ys) x = let e = faults_more ys x in rw e (omega arith)
 
 -- what the line says more tells so many faults
-pub told : (old new : List Said) (x : Said) (n : ℕ) → new ≡ old ++ x ∷ [] → fault_of x ≡ n → faults_in new ≡ faults_in old + n
-told old new x n is counts = rw (is, ← counts) (faults_more old x)
+pub emitted : (old new : List Said) (x : Said) (n : ℕ) → new ≡ old ++ x ∷ [] → fault_of x ≡ n → faults_in new ≡ faults_in old + n
+emitted old new x n is counts = rw (is, ← counts) (faults_more old x)
 
-pub untold : (old new : List Said) (x : Said) → new ≡ old ++ x ∷ [] → fault_of x ≡ 0 → faults_in new ≡ faults_in old
-untold old new x is none = let e = told old new x 0 is none in omega (arith, e)
+pub unemitted : (old new : List Said) (x : Said) → new ≡ old ++ x ∷ [] → fault_of x ≡ 0 → faults_in new ≡ faults_in old
+unemitted old new x is none = let e = emitted old new x 0 is none in omega (arith, e)

@@ -1,3 +1,3 @@
 pub mod Heard
 pub mod Sent
-pub mod Told
+pub mod Emitted

@@ -2,14 +2,14 @@
 
 ghost use Rattle.std.specs.Prelude.{◌≡◌, MatchResult};
 ghost use Rattle.sef_client.specs.Heard.{Grows};
-ghost use Rattle.sef_client.specs.Told.{Stopped, Unfaulted};
+ghost use Rattle.sef_client.specs.Emitted.{Stopped, Unfaulted};
 
 use crate::fault::Stop;
 use crate::party::{Link, Party};
 use crate::reading::message_in;
 use fix_frame::{Cut, Cutter};
 use gateway::line::{Accept, Line, Read};
-use gateway::piece::PIECE;
+use gateway::piece::READ_SIZE;
 use sef_moment::Moment;
 use std::alloc::{AllocError, Global};
 use std::sync::Wait;
@@ -23,7 +23,7 @@ pub(crate) fn exchange<R: Wait, L: Line>(
     party: &mut Party,
     t: Moment,
 ) -> Result<(), Stop>
-    ensures told { MatchResult result (λ _. Unfaulted (L.said line.old) (L.said line.new)) (Stopped (L.said line.old) (L.said line.new)) }
+    ensures emitted { MatchResult result (λ _. Unfaulted (L.said line.old) (L.said line.new)) (Stopped (L.said line.old) (L.said line.new)) }
     ensures heard { Grows party.old.heard party.new.heard }
 {
     match party.link() {
@@ -36,7 +36,7 @@ pub(crate) fn exchange<R: Wait, L: Line>(
         }
         Link::Open | Link::Greeting | Link::LoggedOn | Link::Leaving => {
             write_out(rt, line, party)?;
-            hear_once(rt, alloc, line, incoming, party, t)
+            receive_once(rt, alloc, line, incoming, party, t)
         }
     }
 }
@@ -48,7 +48,7 @@ fn call<R: Wait, L: Line>(
     incoming: &mut Cutter,
     party: &mut Party,
 ) -> Result<(), Stop>
-    ensures told { MatchResult result (λ _. Unfaulted (L.said line.old) (L.said line.new)) (Stopped (L.said line.old) (L.said line.new)) }
+    ensures emitted { MatchResult result (λ _. Unfaulted (L.said line.old) (L.said line.new)) (Stopped (L.said line.old) (L.said line.new)) }
     ensures heard { party.new.heard ≡ party.old.heard }
 {
     match line.accept(rt) {
@@ -65,7 +65,7 @@ fn call<R: Wait, L: Line>(
 
 // Writes what waits, if anything does.
 fn write_out<R: Wait, L: Line>(rt: &R, line: &mut L, party: &mut Party) -> Result<(), Stop>
-    ensures told { MatchResult result (λ _. Unfaulted (L.said line.old) (L.said line.new)) (Stopped (L.said line.old) (L.said line.new)) }
+    ensures emitted { MatchResult result (λ _. Unfaulted (L.said line.old) (L.said line.new)) (Stopped (L.said line.old) (L.said line.new)) }
     ensures heard { party.new.heard ≡ party.old.heard }
 {
     if party.waiting().is_empty() {
@@ -81,7 +81,7 @@ fn write_out<R: Wait, L: Line>(rt: &R, line: &mut L, party: &mut Party) -> Resul
 }
 
 // Reads once, and hears what came.
-fn hear_once<R: Wait, L: Line>(
+fn receive_once<R: Wait, L: Line>(
     rt: &R,
     alloc: Global,
     line: &mut L,
@@ -89,12 +89,12 @@ fn hear_once<R: Wait, L: Line>(
     party: &mut Party,
     t: Moment,
 ) -> Result<(), Stop>
-    ensures told { MatchResult result (λ _. Unfaulted (L.said line.old) (L.said line.new)) (Stopped (L.said line.old) (L.said line.new)) }
+    ensures emitted { MatchResult result (λ _. Unfaulted (L.said line.old) (L.said line.new)) (Stopped (L.said line.old) (L.said line.new)) }
     ensures heard { Grows party.old.heard party.new.heard }
 {
-    let mut buffer = [0; PIECE];
+    let mut buffer = [0; READ_SIZE];
     match line.read(rt, &mut buffer) {
-        Read::Got { count } => match hear_piece(alloc, incoming, party, &buffer[..count], t) {
+        Read::Got { count } => match receive_piece(alloc, incoming, party, &buffer[..count], t) {
             Ok(()) => Ok(()),
             Err(_) => Err(Stop::NoMemory),
         },
@@ -108,7 +108,7 @@ fn hear_once<R: Wait, L: Line>(
 }
 
 // Hears what is whole with this piece.
-fn hear_piece(
+fn receive_piece(
     alloc: Global,
     incoming: &mut Cutter,
     party: &mut Party,
@@ -122,7 +122,7 @@ fn hear_piece(
         match incoming.next() {
             Cut::Skipped(_) => {}
             Cut::Frame { body } => {
-                hear_body(alloc, party, &incoming.taken()[body.start..body.end], t)?;
+                receive_body(alloc, party, &incoming.taken()[body.start..body.end], t)?;
             }
             Cut::Open => return Ok(()),
         }
@@ -130,11 +130,11 @@ fn hear_piece(
 }
 
 // Hears the message of a body, if it spells one.
-fn hear_body(alloc: Global, party: &mut Party, body: &[u8], t: Moment) -> Result<(), AllocError>
+fn receive_body(alloc: Global, party: &mut Party, body: &[u8], t: Moment) -> Result<(), AllocError>
     ensures heard { Grows party.old.heard party.new.heard }
 {
     match message_in(alloc, body)? {
-        Some(message) => party.hear(message, t),
+        Some(message) => party.receive(message, t),
         None => Ok(()),
     }
 }

@@ -5,8 +5,8 @@ ghost use Rattle.fix_dictionary.specs.Lent.{lent_body, lent_header};
 ghost use Rattle.sef_client.specs.Sent.{framed, header_of};
 
 use fix_dictionary::{BodyRef, HeaderRef, Identifier, SequenceNumber};
+use fix_encoder::print_parts;
 use fix_frame::write_frame;
-use fix_printing::print_parts;
 use sef_moment::Moment;
 use std::alloc::{AllocError, Global};
 

@@ -11,7 +11,7 @@ use sef_moment::Moment;
 use std::alloc::{AllocError, Global};
 
 /// The greatest number (34).
-const LAST_NUMBER: u32 = 999_999_999;
+const MAX_SEQ_NUM: u32 = 999_999_999;
 
 /// What a counterparty has numbered, kept to be sent again, and the frames that wait to be written.
 #[derive(Drop)]
@@ -79,7 +79,7 @@ impl Outgoing {
         ensures { IfSome result (λ number. number ≡ length self.now.store.entries + 1) }
     {
         let number = self.store.next_number();
-        if number > LAST_NUMBER {
+        if number > MAX_SEQ_NUM {
             return None;
         }
         Some(SequenceNumber::new(number))

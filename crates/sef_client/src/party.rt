@@ -154,7 +154,7 @@ impl Party {
     }
 
     /// Hears a message. One that names others is passed over.
-    pub(crate) fn hear(&mut self, message: Message, t: Moment) -> Result<(), AllocError>
+    pub(crate) fn receive(&mut self, message: Message, t: Moment) -> Result<(), AllocError>
         ensures heard { Grows self.old.heard self.new.heard }
     {
         if !self.outgoing.is_to_us(&message.header) {
@@ -162,17 +162,17 @@ impl Party {
         }
         let number = number_of(&message);
         if is_application(&message) {
-            return self.hear_app(number, message, t);
+            return self.receive_app(number, message, t);
         }
         if let Body::Admin(admin) = &message.body {
-            self.hear_admin(number, admin, t)?;
+            self.receive_admin(number, admin, t)?;
         }
         self.heard.push(message)
     }
 
     // An application message is heard where its number is due. One that comes again is passed over, and for one that is early the
     // messages before it are asked for.
-    fn hear_app(
+    fn receive_app(
         &mut self,
         number: SequenceNumber,
         message: Message,
@@ -189,7 +189,7 @@ impl Party {
     }
 
     // A message of the session. What is below the number due is passed over, but for a SequenceReset that is no gap fill.
-    fn hear_admin(
+    fn receive_admin(
         &mut self,
         number: SequenceNumber,
         admin: &Admin,

@@ -2,12 +2,12 @@
 
 ghost use Rattle.std.specs.Prelude.{◌≡◌, List, IfOk, IfSome};
 ghost use Rattle.fix_fields.specs.Fields.{AreFields, Entry, fields_text};
-ghost use Rattle.fix_reading.specs.Messages.{Spells};
+ghost use Rattle.fix_decoder.specs.Messages.{Spells};
 
+use fix_decoder::read_message;
 use fix_dictionary::Message;
 use fix_fields::{FieldFault, split};
-use fix_reading::read_message;
-use fix_tables::DictFault;
+use fix_validation::DictFault;
 use std::alloc::{AllocError, Global};
 
 /// The message that a body spells, if it spells one.

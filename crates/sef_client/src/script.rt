@@ -2,7 +2,7 @@
 
 ghost use Rattle.std.specs.Prelude.{◌≡◌, ◌≤◌, ◌+◌, true, Err, All, IfOk, MatchResult, length};
 ghost use Rattle.sef_client.specs.Heard.{AreAwaited, IsAwaited, applications};
-ghost use Rattle.sef_client.specs.Told.{Faulted, Unfaulted};
+ghost use Rattle.sef_client.specs.Emitted.{Faulted, Unfaulted};
 ghost use Rattle.sef_client.specs.declared.fault.ClientFault.TheVariants as fault;
 
 use crate::exchange::exchange;
@@ -61,7 +61,7 @@ impl Script {
         turns: u64,
     ) -> Result<Heard, ClientFault>
         ensures awaited { IfOk result (λ heard. All (IsAwaited (applications heard)) self.now.steps.items) }
-        ensures told { MatchResult result (λ _. Unfaulted (L.said line.old) (L.said line.new)) (Faulted (L.said line.old) (L.said line.new)) }
+        ensures emitted { MatchResult result (λ _. Unfaulted (L.said line.old) (L.said line.new)) (Faulted (L.said line.old) (L.said line.new)) }
         ensures moments { length (C.answered clock.new) ≤ length (C.answered clock.old) + turns }
         ensures turns { result ≡ Err fault.Turns → length (C.answered clock.new) ≡ length (C.answered clock.old) + turns }
     {

@@ -8,13 +8,13 @@ use Rattle.sef_replay.specs.Day.{IsFailureOf, UnlessPrinting}
 use Rattle.sef_replay.specs.Failures.{trail_failure}
 
 -- a fault of the database is told by its number
-pub fault_told : (db : Database) (fault : TrailFault) → OpenFault None db fault → IsFailureOf db (trail_failure fault)
-fault_told db Refused why = (Refused, why, refl)
-fault_told db OtherFiles why = (OtherFiles, why, refl)
-fault_told db (BadRow n) why = (BadRow n, why, refl)
-fault_told db (BadDelay x) why = (BadDelay x, why, refl)
-fault_told db OtherVersion why = (OtherVersion, why, refl)
-fault_told db NoMemory why = tt
+pub fault_emitted : (db : Database) (fault : TrailFault) → OpenFault None db fault → IsFailureOf db (trail_failure fault)
+fault_emitted db Refused why = (Refused, why, refl)
+fault_emitted db OtherFiles why = (OtherFiles, why, refl)
+fault_emitted db (BadRow n) why = (BadRow n, why, refl)
+fault_emitted db (BadDelay x) why = (BadDelay x, why, refl)
+fault_emitted db OtherVersion why = (OtherVersion, why, refl)
+fault_emitted db NoMemory why = tt
 
 -- where a trail is refused nothing was being written
 pub refused_unwritten : (fault : TrailFault) (P : Type 0) → P → UnlessPrinting (trail_failure fault) P

@@ -3,4 +3,4 @@ pub mod Day
 pub mod Stops
 pub mod Older
 pub mod Trade
-pub mod Wanted
+pub mod Reports

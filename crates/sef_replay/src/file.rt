@@ -8,13 +8,13 @@ use std::fs;
 use std::io::{self, ErrorKind, Read};
 
 /// What an SQLite database begins with, and a byte 0.
-const BEGINNING: &[u8] = b"SQLite format 3\0";
+const SQLITE_MAGIC: &[u8] = b"SQLite format 3\0";
 
 /// Refuses a path at which there is no file, and a file that does not begin as an SQLite database does: opened as a database it would
 /// be made into one. `Input` where the file is there and cannot be read.
-pub fn look_at(rt: &HostRuntime, path: &str) -> Result<(), Failure> {
+pub fn require_database(rt: &HostRuntime, path: &str) -> Result<(), Failure> {
     match fs::open(rt, path) {
-        Ok(file) => look_into(rt.alloc(), file),
+        Ok(file) => require_magic(rt.alloc(), file),
         Err(error) => match error.kind() {
             ErrorKind::NotFound => Err(Failure::Trail(1)),
             kind => Err(failure_of(kind)),
@@ -22,7 +22,7 @@ pub fn look_at(rt: &HostRuntime, path: &str) -> Result<(), Failure> {
     }
 }
 
-fn look_into<R: Read + Drop>(alloc: Global, file: R) -> Result<(), Failure> {
+fn require_magic<R: Read + Drop>(alloc: Global, file: R) -> Result<(), Failure> {
     match is_database(alloc, file) {
         Ok(true) => Ok(()),
         Ok(false) => Err(Failure::Trail(1)),
@@ -36,7 +36,7 @@ pub fn is_database<R: Read + Drop>(alloc: Global, reader: R) -> io::Result<bool>
 {
     let mut first = Vec::new(alloc);
     reader.take(16).read_to_end(&mut first)?;
-    Ok(first.as_slice() == BEGINNING)
+    Ok(first.as_slice() == SQLITE_MAGIC)
 }
 
 fn failure_of(kind: ErrorKind) -> Failure {

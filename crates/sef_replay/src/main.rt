@@ -9,37 +9,37 @@ mod market;
 mod migrating;
 mod printing;
 mod replaying;
+mod report;
 mod trade;
-mod wanted;
 
 use command_line::{Task, task_given};
 pub use failure::{Failure, Stop};
 pub use form::Form;
 pub use migrating::print_migrated;
 pub use printing::print_day;
+use report::{Report, parted, print_wanted};
 use sqlite::{Alter, Connection};
 use std::alloc::Global;
 use std::io::Write;
 use std::process::ExitCode;
 pub use trade::{print_trade, trade_number};
-use wanted::{Wanted, parted, print_wanted};
 
 // Over any store, so that what is proved of the one kind is passed on in one call.
 fn print_and_close<S: Alter + Drop, W: Write>(
     alloc: Global,
     conn: Connection<S>,
-    wanted: Wanted,
+    wanted: Report,
     writer: &mut W,
 ) -> Result<(), Failure> {
-    let (told, conn) = parted(print_wanted(alloc, conn, wanted, writer));
+    let (emitted, conn) = parted(print_wanted(alloc, conn, wanted, writer));
     drop(conn);
-    told
+    emitted
 }
 
 /// Prints what is wanted of the trail at a path. The file is looked at before, so that none is made where there is none, and none that is
 /// no database is touched.
-fn print_trail(rt: &HostRuntime, path: &str, wanted: Wanted) -> Result<(), Failure> {
-    file::look_at(rt, path)?;
+fn print_trail(rt: &HostRuntime, path: &str, wanted: Report) -> Result<(), Failure> {
+    file::require_database(rt, path)?;
     match Connection::open(rt, path) {
         Ok(conn) => print_and_close(rt.alloc(), conn, wanted, &mut rt.stdout()),
         Err(error) => Err(Failure::from(error)),
@@ -48,10 +48,10 @@ fn print_trail(rt: &HostRuntime, path: &str, wanted: Wanted) -> Result<(), Failu
 
 fn run(rt: &HostRuntime) -> Result<(), Failure> {
     match task_given(rt)? {
-        Task::Print { path, form } => print_trail(rt, &path, Wanted::Day(form)),
-        Task::Migrate { path, form } => print_trail(rt, &path, Wanted::MigratedDay(form)),
+        Task::Print { path, form } => print_trail(rt, &path, Report::Day(form)),
+        Task::Migrate { path, form } => print_trail(rt, &path, Report::MigratedDay(form)),
         Task::Trade { path, word } => match trade_number(&word) {
-            Some(number) => print_trail(rt, &path, Wanted::Trade(number)),
+            Some(number) => print_trail(rt, &path, Report::Trade(number)),
             None => Err(Failure::Trade),
         },
         Task::Help => Ok(()),

@@ -30,7 +30,7 @@ fn instruments_kept(alloc: Global, text: &[u8], delays: &[u64]) -> Result<Instru
     ensures stopped { IfErr result (StopsReading (RefusesInstruments text.now ⊎ RefusesDelays text.now delays.now)) }
 {
     match Instruments::read(alloc, text) {
-        Ok(told) => match told.with_delays(alloc, delays) {
+        Ok(emitted) => match emitted.with_delays(alloc, delays) {
             Ok(instruments) => Ok(instruments),
             Err(DelayFault::NoMemory) => Err(Stop::Memory),
             Err(_) => Err(Stop::Trail),

@@ -7,7 +7,7 @@ ghost use Rattle.sqlite.specs.Held.{state};
 ghost use Rattle.audit_trail.specs.Older.{MayBecomeThird};
 ghost use Rattle.audit_trail.specs.Reading.{IsTrailLike};
 ghost use Rattle.sef_replay.specs.Day.{UnlessPrinting};
-ghost use Rattle.sef_replay.specs.Older.{BeginsEither, EitherFault, IsEitherFailure, IsThirdNow, LeavesThird, RefusesEither, RefusesToBringUp, StopsEither, TellsEither};
+ghost use Rattle.sef_replay.specs.Older.{BeginsEither, EitherFault, IsEitherFailure, IsThirdNow, LeavesThird, RefusesEither, RefusesToBringUp, StopsEither, EmitsEither};
 ghost use Rattle.sef_replay.specs.declared.failure.Failure.TheVariants.{Stopped, Trail as TrailRefused};
 ghost use Rattle.sef_replay.specs.declared.failure.Stop.TheVariants.{Memory};
 ghost use Rattle.venue_rules.specs.declared.trail.TrailFault.TheVariants.{OtherVersion, Refused};
@@ -43,14 +43,14 @@ fn brought_up<S: Alter>(
 
 /// Writes each trade of the day that a database keeps as a trail, as `print_day` does. A trail of version 1 or 2 is made into
 /// one of version 3 before, in one transaction, and stays so, also where its trades are then not written. The connection comes back.
-#[tactic(auto, using(crate::proofs::Ends::refused_unwritten, crate::proofs::Older::failure_told))]
+#[tactic(auto, using(crate::proofs::Ends::refused_unwritten, crate::proofs::Older::failure_emitted))]
 pub fn print_migrated<S: Alter, W: Write>(
     alloc: Global,
     conn: Connection<S>,
     form: Form,
     writer: &mut W,
 ) -> Result<Connection<S>, (Failure, Connection<S>)>
-    ensures told { IfOk result (λ back. HasCleanDisk (state S.Store back) → TellsEither form (state S.Store conn).now (W.contents writer.old) (W.contents writer.new)) }
+    ensures emitted { IfOk result (λ back. HasCleanDisk (state S.Store back) → EmitsEither form (state S.Store conn).now (W.contents writer.old) (W.contents writer.new)) }
     ensures fault { IfErr result (λ e. HasCleanDisk (state S.Store e.1) → IsEitherFailure (state S.Store conn).now e.0) }
     ensures cause { IfErr result (λ e. HasCleanDisk (state S.Store e.1) → e.0 ≡ TrailRefused 1 → RefusesEither (state S.Store conn) (state S.Store e.1)) }
     ensures understood { IfErr result (λ e. HasCleanDisk (state S.Store e.1) → e.0 ≡ TrailRefused 4 → IsTrailLike (state S.Store conn)) }

@@ -3,15 +3,15 @@
 ghost use Rattle.std.specs.Prelude.{◌≡◌, ◌⊎◌, IfOk, IfErr, OnOk};
 ghost use Rattle.std.specs.Io.KnownBytes.{Appends, Keeps};
 ghost use Rattle.venue_rules.specs.Facts.{History};
-ghost use Rattle.venue_core.specs.Standing.{IsHistory};
+ghost use Rattle.venue_core.specs.VenueFacts.{IsHistory};
 ghost use Rattle.sqlite.specs.State.{HasCleanDisk, Survives};
 ghost use Rattle.sqlite.specs.Held.{state};
 ghost use Rattle.audit_trail.specs.Reading.{IsTrailLike, RefusesToOpen};
 ghost use Rattle.audit_trail.specs.Trail.{kept_rows, store};
-ghost use Rattle.trade_lines.specs.declared.printing.PrintFault.TheVariants as print_fault;
+ghost use Rattle.trade_blotter.specs.declared.printing.PrintFault.TheVariants as print_fault;
 ghost use Rattle.sef_replay.specs.declared.failure.Failure.TheVariants.{Stopped, Trail as TrailRefused};
 ghost use Rattle.sef_replay.specs.declared.failure.Stop.TheVariants.{Memory};
-ghost use Rattle.sef_replay.specs.Day.{Begins, BeginsDay, BeginsKept, IsFailureOf, TellsDay, TellsKept, UnlessPrinting, UnlessStopped, printed};
+ghost use Rattle.sef_replay.specs.Day.{Begins, BeginsDay, BeginsKept, IsFailureOf, EmitsDay, EmitsKept, UnlessPrinting, UnlessStopped, printed};
 ghost use Rattle.sef_replay.specs.Stops.{RefusesDay, StopsAfter, StopsPrinting};
 
 use crate::failure::{Failure, Stop};
@@ -21,7 +21,7 @@ use audit_trail::Trail;
 use sqlite::{Alter, Connection};
 use std::alloc::Global;
 use std::io::Write;
-use trade_lines::{PrintFault, print_table, print_trades};
+use trade_blotter::{PrintFault, print_table, print_trades};
 use venue_core::Venue;
 
 /// Writes the trades of a venue's day in a form.
@@ -31,7 +31,7 @@ fn print_in<W: Write>(
     form: Form,
     writer: &mut W,
 ) -> Result<(), PrintFault>
-    ensures told { (h : History) → IsHistory venue.now h → OnOk result (Appends (W.contents writer.old) (W.contents writer.new) (printed form venue.now.market h)) }
+    ensures emitted { (h : History) → IsHistory venue.now h → OnOk result (Appends (W.contents writer.old) (W.contents writer.new) (printed form venue.now.market h)) }
     ensures begun { (h : History) → IsHistory venue.now h → IfErr result (λ fault. fault ≡ print_fault.Memory → Begins form (W.contents writer.old) (W.contents writer.new) venue.now.market h) }
 {
     match form {
@@ -48,8 +48,8 @@ fn print_kept<S: Alter, W: Write>(
     form: Form,
     writer: &mut W,
 ) -> Result<(), Stop>
-    ensures told { HasCleanDisk (store S.Store trail.new) → OnOk result
-        (TellsKept form trail.old.files trail.old.delays (kept_rows S.Store trail.old) (W.contents writer.old) (W.contents writer.new)) }
+    ensures emitted { HasCleanDisk (store S.Store trail.new) → OnOk result
+        (EmitsKept form trail.old.files trail.old.delays (kept_rows S.Store trail.old) (W.contents writer.old) (W.contents writer.new)) }
     ensures stopped { IfErr result (StopsPrinting (HasCleanDisk (store S.Store trail.new) → RefusesDay trail.old.files trail.old.delays (store S.Store trail.old) (store S.Store trail.new))) }
     ensures unwritten { IfErr result (λ stop. UnlessStopped stop (Keeps (W.contents writer.old) (W.contents writer.new))) }
     ensures begun { HasCleanDisk (store S.Store trail.new) → IfErr result (λ stop. stop ≡ Memory → Keeps (W.contents writer.old) (W.contents writer.new)
@@ -69,14 +69,14 @@ fn print_kept<S: Alter, W: Write>(
 /// Writes each trade of the day that a database keeps as a trail, in their order and in a form, read back from its rows alone: these are
 /// replayed over the files and with the delays that it keeps. Nothing is written into the database, nor, where it is refused, to the
 /// writer; where memory is refused, nothing or a beginning of what is printed. The connection comes back.
-#[tactic(auto, using(crate::proofs::Kept::survives_both, crate::proofs::Ends::fault_told, crate::proofs::Ends::refused_unwritten, crate::proofs::Kept::not_begun, crate::proofs::Stops::fault_stops, crate::proofs::Stops::day_stopped))]
+#[tactic(auto, using(crate::proofs::Kept::survives_both, crate::proofs::Ends::fault_emitted, crate::proofs::Ends::refused_unwritten, crate::proofs::Kept::not_begun, crate::proofs::Stops::fault_stops, crate::proofs::Stops::day_stopped))]
 pub fn print_day<S: Alter, W: Write>(
     alloc: Global,
     conn: Connection<S>,
     form: Form,
     writer: &mut W,
 ) -> Result<Connection<S>, (Failure, Connection<S>)>
-    ensures told { IfOk result (λ back. HasCleanDisk (state S.Store back) → TellsDay form (state S.Store conn).now (W.contents writer.old) (W.contents writer.new)) }
+    ensures emitted { IfOk result (λ back. HasCleanDisk (state S.Store back) → EmitsDay form (state S.Store conn).now (W.contents writer.old) (W.contents writer.new)) }
     ensures fault { IfErr result (λ e. HasCleanDisk (state S.Store e.1) → IsFailureOf (state S.Store conn).now e.0) }
     ensures cause { IfErr result (λ e. HasCleanDisk (state S.Store e.1) → e.0 ≡ TrailRefused 1 → RefusesToOpen (state S.Store conn) (state S.Store e.1)) }
     ensures understood { IfErr result (λ e. HasCleanDisk (state S.Store e.1) → e.0 ≡ TrailRefused 4 → IsTrailLike (state S.Store conn)) }

@@ -7,8 +7,8 @@ ghost use Rattle.sqlite.specs.Held.{state};
 ghost use Rattle.audit_trail.specs.Reading.{IsTrailLike, RefusesToOpen};
 ghost use Rattle.audit_trail.specs.Trail.{kept_rows, store};
 ghost use Rattle.sef_replay.specs.declared.failure.Failure.TheVariants.{Trail as TrailRefused};
-ghost use Rattle.sef_replay.specs.Stops.{RefusesDay, StopsAfter, StopsTelling};
-ghost use Rattle.sef_replay.specs.Trade.{IsRefusalOf, IsTradeFailureOf, TellsTradeKept, TellsTradeOf, UnlessTold};
+ghost use Rattle.sef_replay.specs.Stops.{RefusesDay, StopsAfter, StopsEmitting};
+ghost use Rattle.sef_replay.specs.Trade.{IsRefusalOf, IsTradeFailureOf, EmitsTradeKept, EmitsTradeOf, UnlessEmitted};
 
 use crate::failure::{Failure, Stop};
 use crate::replaying::{KeptDay, day_kept};
@@ -17,7 +17,7 @@ use itoa::Buffer;
 use sqlite::{Alter, Connection};
 use std::alloc::Global;
 use std::io::Write;
-use trade_evidence::{EvidenceFault, print_evidence};
+use trade_reconstruction::{EvidenceFault, print_evidence};
 
 /// The number of a trade that a word gives as the venue prints it: `T` and its digits.
 pub fn trade_number(word: &str) -> Option<u64>
@@ -41,18 +41,18 @@ pub fn trade_number(word: &str) -> Option<u64>
 }
 
 /// Writes the evidence for a trade of the day that a trail keeps.
-#[tactic(auto, using(crate::proofs::Trades::told_kept, crate::proofs::Trades::none_kept, crate::proofs::Trades::stop_untold, crate::proofs::Stops::stops_printing))]
+#[tactic(auto, using(crate::proofs::Trades::emitted_kept, crate::proofs::Trades::none_kept, crate::proofs::Trades::stop_unemitted, crate::proofs::Stops::stops_printing))]
 fn print_kept<S: Alter, W: Write>(
     alloc: Global,
     trail: &mut Trail<S>,
     number: u64,
     writer: &mut W,
 ) -> Result<(), Failure>
-    ensures told { HasCleanDisk (store S.Store trail.new) → OnOk result
-        (TellsTradeKept trail.old.files trail.old.delays (kept_rows S.Store trail.old) number (W.contents writer.old) (W.contents writer.new)) }
+    ensures emitted { HasCleanDisk (store S.Store trail.new) → OnOk result
+        (EmitsTradeKept trail.old.files trail.old.delays (kept_rows S.Store trail.old) number (W.contents writer.old) (W.contents writer.new)) }
     ensures refused { HasCleanDisk (store S.Store trail.new) → IfErr result (IsRefusalOf trail.old.files trail.old.delays (kept_rows S.Store trail.old) number) }
-    ensures stopped { IfErr result (StopsTelling (HasCleanDisk (store S.Store trail.new) → RefusesDay trail.old.files trail.old.delays (store S.Store trail.old) (store S.Store trail.new))) }
-    ensures unwritten { IfErr result (λ failure. UnlessTold failure (Keeps (W.contents writer.old) (W.contents writer.new))) }
+    ensures stopped { IfErr result (StopsEmitting (HasCleanDisk (store S.Store trail.new) → RefusesDay trail.old.files trail.old.delays (store S.Store trail.old) (store S.Store trail.new))) }
+    ensures unwritten { IfErr result (λ failure. UnlessEmitted failure (Keeps (W.contents writer.old) (W.contents writer.new))) }
     ensures crash { Survives (store S.Store trail.old) (store S.Store trail.new) (λ _. ⊥) }
 {
     let KeptDay {
@@ -60,7 +60,7 @@ fn print_kept<S: Alter, W: Write>(
         instruments,
         rows,
     } = day_kept(alloc, trail)?;
-    let told = print_evidence(
+    let emitted = print_evidence(
         alloc,
         participants,
         instruments,
@@ -69,7 +69,7 @@ fn print_kept<S: Alter, W: Write>(
         writer,
     );
     drop(rows);
-    match told {
+    match emitted {
         Ok(()) => Ok(()),
         Err(EvidenceFault::Memory) => Err(Failure::Stopped(Stop::Memory)),
         Err(EvidenceFault::Output) => Err(Failure::Stopped(Stop::Output)),
@@ -80,19 +80,19 @@ fn print_kept<S: Alter, W: Write>(
 /// Writes the evidence for the trade with this number of the day that a database keeps as a trail, read back from its rows alone:
 /// these are replayed over the files and with the delays that it keeps. `Trade` where the day has no such trade. Nothing is written
 /// into the database, nor, where it or the number is refused or memory is, to the writer. The connection comes back.
-#[tactic(auto, using(crate::proofs::Trades::kept_trade, crate::proofs::Trades::refusal_kept, crate::proofs::Trades::fault_kept, crate::proofs::Trades::fault_untold, crate::proofs::Kept::survives_both, crate::proofs::Stops::fault_stops, crate::proofs::Stops::telling_stopped))]
+#[tactic(auto, using(crate::proofs::Trades::kept_trade, crate::proofs::Trades::refusal_kept, crate::proofs::Trades::fault_kept, crate::proofs::Trades::fault_unemitted, crate::proofs::Kept::survives_both, crate::proofs::Stops::fault_stops, crate::proofs::Stops::emitting_stopped))]
 pub fn print_trade<S: Alter, W: Write>(
     alloc: Global,
     conn: Connection<S>,
     number: u64,
     writer: &mut W,
 ) -> Result<Connection<S>, (Failure, Connection<S>)>
-    ensures told { IfOk result (λ back. HasCleanDisk (state S.Store back) → TellsTradeOf (state S.Store conn).now number (W.contents writer.old) (W.contents writer.new)) }
+    ensures emitted { IfOk result (λ back. HasCleanDisk (state S.Store back) → EmitsTradeOf (state S.Store conn).now number (W.contents writer.old) (W.contents writer.new)) }
     ensures fault { IfErr result (λ e. HasCleanDisk (state S.Store e.1) → IsTradeFailureOf (state S.Store conn).now number e.0) }
     ensures cause { IfErr result (λ e. HasCleanDisk (state S.Store e.1) → e.0 ≡ TrailRefused 1 → RefusesToOpen (state S.Store conn) (state S.Store e.1)) }
     ensures understood { IfErr result (λ e. HasCleanDisk (state S.Store e.1) → e.0 ≡ TrailRefused 4 → IsTrailLike (state S.Store conn)) }
     ensures stopped { IfErr result (λ e. HasCleanDisk (state S.Store e.1) → StopsAfter e.0 (state S.Store conn) (state S.Store e.1)) }
-    ensures unwritten { IfErr result (λ e. UnlessTold e.0 (Keeps (W.contents writer.old) (W.contents writer.new))) }
+    ensures unwritten { IfErr result (λ e. UnlessEmitted e.0 (Keeps (W.contents writer.old) (W.contents writer.new))) }
 
     // Nothing is committed: a crash leaves what it could leave before.
     ensures crash { IfOk result (λ back. Survives (state S.Store conn) (state S.Store back) (λ _. ⊥)) }

@@ -7,7 +7,7 @@ use Rattle.tcp_line.specs.Link.{Link, TookPart, promised, due}
 
 -- a first part of what waited is a first part of that and more
 pub part_of_more : (old new : Option (List ℕ)) (waiting bytes : List ℕ) → TookPart old new waiting → TookPart old new (waiting ++ bytes)
-part_of_more old new waiting bytes (part, rest, split, appended) = (part, rest ++ bytes, ap (λ l. l ++ bytes) split ∙ append_assoc part rest bytes, appended)
+part_of_more old new waiting bytes (part, park, split, appended) = (part, park ++ bytes, ap (λ l. l ++ bytes) split ∙ append_assoc part park bytes, appended)
 
 passed : (a b c : Option (List ℕ)) (waiting bytes : List ℕ) → Appends a b waiting → Appends b c bytes → Appends (append_known a waiting) (append_known c []) bytes
 passed None b c waiting bytes first next = tt
@@ -16,8 +16,8 @@ passed (Some x) (Some y) None waiting bytes first next = absurd next
 passed (Some x) (Some y) (Some z) waiting bytes first next = append-nil z ∙ next ∙ ap (λ l. l ++ bytes) first
 
 part_after : (a b c : Option (List ℕ)) (waiting bytes : List ℕ) → Appends a b waiting → TookPart b c bytes → TookPart a c (waiting ++ bytes)
-part_after a b c waiting bytes first (part, rest, split, appended) =
-    (waiting ++ part, rest, ap (λ l. waiting ++ l) split ∙ sym (append_assoc waiting part rest), Appends-trans a b c waiting part first appended)
+part_after a b c waiting bytes first (part, park, split, appended) =
+    (waiting ++ part, park, ap (λ l. waiting ++ l) split ∙ sym (append_assoc waiting part park), Appends-trans a b c waiting part first appended)
 
 -- all that waited was given, and then these
 pub given_after : (old mid new : Link) (bytes : List ℕ) (r : Result Unit LineFault) → Appends old.taken mid.taken old.waiting → mid.waiting ≡ [] → new.waiting ≡ mid.waiting

@@ -27,7 +27,7 @@ kept false l bytes = l
 
 -- a first part of these was taken
 abbrev pub TookPart : Option (List ℕ) → Option (List ℕ) → List ℕ → Type 0
-TookPart old new bytes = (part : List ℕ) × (rest : List ℕ) × (bytes ≡ part ++ rest) × Appends old new part
+TookPart old new bytes = (part : List ℕ) × (park : List ℕ) × (bytes ≡ part ++ park) × Appends old new part
 
 -- what came stands at the front of the buffer; the peer has ended only where nothing is to come, and else nothing came
 abbrev pub HasRead : Option (List ℕ) → Option (List ℕ) → Read → List ℕ → Type 0

@@ -3,8 +3,8 @@ ghost use Rattle.std.specs.Prelude.{◌≡◌, ◌/◌, ◌^◌, [], min};
 ghost use Rattle.std.specs.Duration.{as_nanos};
 ghost use Rattle.sef_moment.specs.Utc.{greatest};
 
-use crate::bell::{Bell, Sleeper};
-use gateway::past::Past;
+use crate::waker::{IdleWait, ThreadWaker};
+use gateway::ghost_history::GhostHistory;
 use sef_moment::Moment;
 use std::sync::Arc;
 use std::time::Duration;
@@ -24,7 +24,7 @@ fn moment_after(elapsed: Duration) -> Moment
 pub struct SystemClock<T> {
     clock: T,
     last: Moment,
-    past: Past<Moment>,
+    past: GhostHistory<Moment>,
 }
 
 // Written out, so that a proof sees one call where it is dropped, and not the drop of each part.
@@ -46,13 +46,13 @@ impl<T: time::Clock> SystemClock<T> {
         SystemClock {
             clock,
             last: moment,
-            past: Past::new(),
+            past: GhostHistory::new(),
         }
     }
 }
 
 impl<T: time::Clock> Clock for SystemClock<T> {
-    ghost use Rattle.gateway.specs.Past.{entries};
+    ghost use Rattle.gateway.specs.GhostHistory.{entries};
 
     ghost answered = { λ c. entries c.past };
 
@@ -69,10 +69,10 @@ impl<T: time::Clock> Clock for SystemClock<T> {
 /// message. It wakes the sessions at whose seats the worker moved one.
 pub struct WorkerClock<T> {
     clock: SystemClock<T>,
-    sleeper: Sleeper,
+    sleeper: IdleWait,
     /// Of each participant.
-    sessions: Vec<Arc<Bell>>,
-    has_stirred: bool,
+    sessions: Vec<Arc<ThreadWaker>>,
+    has_progressed: bool,
 }
 
 // Written out, so that a proof sees one call where it is dropped, and not the drop of each part.
@@ -82,21 +82,25 @@ impl<T: Drop> Drop for WorkerClock<T> {
             clock: _clock,
             sleeper: _sleeper,
             sessions: _sessions,
-            has_stirred: _has_stirred,
+            has_progressed: _has_stirred,
         } = self;
     }
 }
 
 impl<T: time::Clock> WorkerClock<T> {
     /// Over a clock, with the bells of all sessions in their order.
-    pub fn new(clock: SystemClock<T>, sleeper: Sleeper, sessions: Vec<Arc<Bell>>) -> WorkerClock<T>
+    pub fn new(
+        clock: SystemClock<T>,
+        sleeper: IdleWait,
+        sessions: Vec<Arc<ThreadWaker>>,
+    ) -> WorkerClock<T>
         ensures { ⟦<WorkerClock<T> as Clock>⟧.answered result ≡ ⟦<SystemClock<T> as Clock>⟧.answered clock }
     {
         WorkerClock {
             clock,
             sleeper,
             sessions,
-            has_stirred: false,
+            has_progressed: false,
         }
     }
 }
@@ -105,18 +109,18 @@ impl<T: time::Clock> Clock for WorkerClock<T> {
     ghost answered = { λ c. ⟦<SystemClock<T> as Clock>⟧.answered c.clock };
 
     fn now(&mut self) -> Moment {
-        if mem::replace(&mut self.has_stirred, false) {
-            self.sleeper.stay();
+        if mem::replace(&mut self.has_progressed, false) {
+            self.sleeper.spin();
         } else {
-            self.sleeper.rest();
+            self.sleeper.park();
         }
         self.clock.now()
     }
 
-    fn stirred(&mut self, participant: usize) {
-        self.has_stirred = true;
-        if let Some(bell) = self.sessions.get(participant) {
-            bell.ring();
+    fn progressed(&mut self, participant: usize) {
+        self.has_progressed = true;
+        if let Some(thread_waker) = self.sessions.get(participant) {
+            thread_waker.wake();
         }
     }
 }

@@ -7,7 +7,7 @@ ghost use Rattle.gateway.specs.Said.{IsWithin};
 
 use crate::giving::give;
 use gateway::line::{LineFault, Read as Answer};
-use gateway::piece::PIECE;
+use gateway::piece::READ_SIZE;
 use std::alloc::Global;
 use std::io;
 use std::io::{BufRead, BufReader, ErrorKind, Read, Write};
@@ -15,11 +15,11 @@ use std::marker::Model;
 use std::time::Clock;
 
 /// No more bytes wait than these.
-const MOST_WAITING: usize = 65_536;
+const MAX_WAITING: usize = 65_536;
 
 /// No more bytes are given at once than these: a message or two. Whoever reads goes through all that it was given before it hands a
 /// message on, and the worker has nothing to do until then.
-const MOST_GIVEN: usize = 256;
+const MAX_GIVEN: usize = 256;
 
 /// A connection between what is read and what is written. One call of the system reads what many turns are given. What was written
 /// may wait, so that one call takes it with what is written after it.
@@ -76,7 +76,7 @@ impl<I: Read, O: Write> Connection<I, O> {
     /// Gives 1 to 256 bytes, and none only where none are held: the first of what was read ahead, and asks the system only where nothing
     /// was. The peer has ended where the system says so and nothing is to come; a fault is any other refusal than that there is nothing
     /// yet.
-    pub fn read(&mut self, buffer: &mut [u8; PIECE]) -> Answer
+    pub fn read(&mut self, buffer: &mut [u8; READ_SIZE]) -> Answer
         ensures within { IsWithin result }
         ensures bytes { HasRead self.old.coming self.new.coming result buffer.new }
         ensures ahead { GivesAhead result self.old.ahead self.new.ahead buffer.new }
@@ -86,7 +86,7 @@ impl<I: Read, O: Write> Connection<I, O> {
             let count = self.give_ahead(buffer);
             return Answer::Got { count };
         }
-        match self.input.read(&mut buffer[..MOST_GIVEN]) {
+        match self.input.read(&mut buffer[..MAX_GIVEN]) {
             Ok(count) if count > 0 => Answer::Got { count },
             // (A reader that gave nothing does not promise that it holds nothing.)
             _ if self.is_ahead() => Answer::Got {
@@ -102,14 +102,14 @@ impl<I: Read, O: Write> Connection<I, O> {
     }
 
     // Gives the first of what was read ahead, and how many they are.
-    fn give_ahead(&mut self, buffer: &mut [u8; PIECE]) -> usize
+    fn give_ahead(&mut self, buffer: &mut [u8; READ_SIZE]) -> usize
         ensures count { result ≡ min (length self.old.ahead) 256 }
         ensures ahead { self.old.ahead ≡ take result buffer.new ++ self.new.ahead }
         ensures coming { Consumes self.old.coming self.new.coming (take result buffer.new) }
         ensures written { (self.new.taken ≡ self.old.taken) × (self.new.waiting ≡ self.old.waiting) }
     {
         let ahead = self.input.buffer();
-        let count = ahead.len().min(MOST_GIVEN);
+        let count = ahead.len().min(MAX_GIVEN);
         buffer[..count].copy_from_slice(&ahead[..count]);
         self.input.consume(count);
         count
@@ -135,7 +135,7 @@ impl<I: Read, O: Write> Connection<I, O> {
         ensures { self.new ≡ kept result self.old bytes.now }
     {
         let count = self.waiting.len().saturating_add(bytes.len());
-        count <= MOST_WAITING && self.waiting.extend_from_slice(bytes).is_ok()
+        count <= MAX_WAITING && self.waiting.extend_from_slice(bytes).is_ok()
     }
 
     // Gives these to the system, past those that wait.

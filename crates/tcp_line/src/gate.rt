@@ -1,25 +1,25 @@
 //! A session's gate: where its turns wait.
 ghost use Rattle.std.specs.Prelude.{◌≡◌, []};
 
-use crate::activity::Activity;
-use crate::bell::{Bell, Sleeper};
+use crate::dirty_flag::DirtyFlag;
+use crate::waker::{IdleWait, ThreadWaker};
+use gateway::ghost_history::GhostHistory;
 use gateway::line::Gate;
-use gateway::past::Past;
 use std::mem;
 use std::sync::{Arc, Wait};
 
 /// So many turns in a row may leave the line unread while messages move at the seats, so that one call of the system takes all
 /// their replies.
-const MOST_UNREAD: u64 = 32;
+const MAX_UNREAD: u64 = 32;
 
 /// A gate that waits, where the last turns found nothing, until the line, its listener or the worker has something.
 pub struct TcpGate {
-    sleeper: Sleeper,
-    worker: Arc<Bell>,
-    line: Arc<Activity>,
-    has_stirred: bool,
+    sleeper: IdleWait,
+    worker: Arc<ThreadWaker>,
+    line: Arc<DirtyFlag>,
+    has_progressed: bool,
     unread: u64,
-    past: Past<bool>,
+    past: GhostHistory<bool>,
 }
 
 // Written out, so that a proof sees one call where it is dropped, and not the drop of each part.
@@ -29,7 +29,7 @@ impl Drop for TcpGate {
             sleeper: _sleeper,
             worker: _worker,
             line: _line,
-            has_stirred: _has_stirred,
+            has_progressed: _has_stirred,
             unread: _unread,
             past: _past,
         } = self;
@@ -38,16 +38,16 @@ impl Drop for TcpGate {
 
 impl TcpGate {
     /// The gate of a session that wakes the worker by its bell, and of a line that tells what it did.
-    pub fn new(sleeper: Sleeper, worker: Arc<Bell>, line: Arc<Activity>) -> TcpGate
+    pub fn new(sleeper: IdleWait, worker: Arc<ThreadWaker>, line: Arc<DirtyFlag>) -> TcpGate
         ensures { ⟦<TcpGate as Gate>⟧.passed result ≡ [] }
     {
         TcpGate {
             sleeper,
             worker,
             line,
-            has_stirred: false,
+            has_progressed: false,
             unread: 0,
-            past: Past::new(),
+            past: GhostHistory::new(),
         }
     }
 
@@ -55,16 +55,16 @@ impl TcpGate {
     fn is_to_read(&mut self) -> bool
         ensures { self.new.past ≡ self.old.past }
     {
-        if mem::replace(&mut self.has_stirred, false) {
-            self.sleeper.stay();
+        if mem::replace(&mut self.has_progressed, false) {
+            self.sleeper.spin();
             self.unread = self.unread.saturating_add(1);
-            if self.unread <= MOST_UNREAD {
+            if self.unread <= MAX_UNREAD {
                 return false;
             }
         } else if self.line.take() {
-            self.sleeper.stay();
+            self.sleeper.spin();
         } else {
-            self.sleeper.rest();
+            self.sleeper.park();
         }
         self.unread = 0;
         true
@@ -72,7 +72,7 @@ impl TcpGate {
 }
 
 impl Gate for TcpGate {
-    ghost use Rattle.gateway.specs.Past.{entries};
+    ghost use Rattle.gateway.specs.GhostHistory.{entries};
 
     ghost passed = { λ g. entries g.past };
 
@@ -82,8 +82,8 @@ impl Gate for TcpGate {
         passed
     }
 
-    fn stirred(&mut self) {
-        self.has_stirred = true;
-        self.worker.ring();
+    fn progressed(&mut self) {
+        self.has_progressed = true;
+        self.worker.wake();
     }
 }

@@ -9,13 +9,13 @@ use std::time::{Clock, Duration, Instant};
 use std::{io, thread};
 
 /// How many seconds a peer that does not read is waited for.
-const LONGEST: u64 = 5;
+const MAX_WAIT_SECONDS: u64 = 5;
 
 /// How many microseconds the system is left alone once it took nothing.
 const PAUSE: u64 = 50;
 
 /// How often the system is asked to take more, whatever the clock tells.
-const MOST_TRIES: u64 = 1_000_000;
+const MAX_TRIES: u64 = 1_000_000;
 
 /// Gives all of these to the system, or a first part of them and then tells a fault. Where the system takes nothing it is asked
 /// again after a pause, for five seconds.
@@ -26,15 +26,15 @@ pub(crate) fn give<O: Write, T: Clock>(
 ) -> Result<(), LineFault>
     ensures { MatchResult result (λ _. Appends (O.contents output.old) (O.contents output.new) bytes.now) (λ _. TookPart (O.contents output.old) (O.contents output.new) bytes.now) }
 {
-    let mut rest = bytes;
+    let mut park = bytes;
     let mut waited_since = None;
-    for _ in 0..MOST_TRIES {
-        if rest.is_empty() {
+    for _ in 0..MAX_TRIES {
+        if park.is_empty() {
             return Ok(());
         }
-        match output.write(rest) {
+        match output.write(park) {
             Ok(0) => return Err(LineFault),
-            Ok(count) => rest = &rest[count..],
+            Ok(count) => park = &park[count..],
             Err(error) => {
                 if !may_try_again(clock, error.kind(), &mut waited_since) {
                     return Err(LineFault);
@@ -55,7 +55,7 @@ fn may_try_again<T: Clock>(clock: &T, kind: ErrorKind, waited_since: &mut Option
                 return false;
             };
             let began = *waited_since.get_or_insert(now);
-            if now.duration_since(began) >= Duration::from_secs(LONGEST) {
+            if now.duration_since(began) >= Duration::from_secs(MAX_WAIT_SECONDS) {
                 return false;
             }
             thread::sleep(clock, Duration::from_micros(PAUSE));

@@ -3,12 +3,12 @@ ghost use Rattle.std.specs.Prelude.{◌≡◌, ◌≢◌, ◌^◌, ◌-◌, [], 
 ghost use Rattle.gateway.specs.Said.{IsWithin, Accepted, Gave, Took, Broke_off, given, faults_in};
 ghost use Rattle.tcp_line.specs.Link.{GivesAhead, HasFlushed, HasRead};
 
-use crate::account::{Account, past_of};
-use crate::activity::Activity;
 use crate::connection::Connection;
+use crate::dirty_flag::DirtyFlag;
+use crate::line_log::{LineLog, past_of};
 use gateway::line::{Accept, Line, LineFault, Read};
-use gateway::mem_line::Spoken;
-use gateway::piece::{Given, PIECE, Piece};
+use gateway::mem_line::LineEvent;
+use gateway::piece::{Given, Piece, READ_SIZE};
 use mio::unix::SourceFd;
 use mio::{Interest, Registry, Token};
 use std::alloc::Global;
@@ -20,9 +20,9 @@ use std::sync::{Arc, Wait};
 use std::time::Clock;
 
 /// The tokens of the two sockets among what a session's thread waits for.
-const LISTENER: Token = Token(1);
+const LISTENER_TOKEN: Token = Token(1);
 
-const STREAM: Token = Token(2);
+const STREAM_TOKEN: Token = Token(2);
 
 /// A line whose peer calls at a listener: one connection after another, and the next one ends the last.
 pub struct TcpLine<T> {
@@ -31,8 +31,8 @@ pub struct TcpLine<T> {
     listener: TcpListener,
     connection: Option<Connection<TcpStream, TcpStream>>,
     registry: Registry,
-    activity: Arc<Activity>,
-    account: Account,
+    activity: Arc<DirtyFlag>,
+    log: LineLog,
 }
 
 // Written out, so that a proof sees one call where it is dropped, and not the drop of each part.
@@ -45,7 +45,7 @@ impl<T: Drop> Drop for TcpLine<T> {
             connection: _connection,
             registry: _registry,
             activity: _activity,
-            account: _account,
+            log: _account,
         } = self;
     }
 }
@@ -57,13 +57,17 @@ impl<T: Clock + Drop> TcpLine<T> {
         clock: T,
         listener: TcpListener,
         registry: Registry,
-        activity: Arc<Activity>,
+        activity: Arc<DirtyFlag>,
     ) -> io::Result<TcpLine<T>>
         ensures { IfOk result (λ line. ⟦<TcpLine<T> as Line>⟧.said line ≡ []) }
     {
         listener.set_nonblocking(true)?;
         let descriptor = listener.as_raw_fd();
-        registry.register(&mut SourceFd(&descriptor), LISTENER, Interest::READABLE)?;
+        registry.register(
+            &mut SourceFd(&descriptor),
+            LISTENER_TOKEN,
+            Interest::READABLE,
+        )?;
         Ok(TcpLine {
             alloc,
             clock,
@@ -71,13 +75,13 @@ impl<T: Clock + Drop> TcpLine<T> {
             connection: None,
             registry,
             activity,
-            account: Account::new(),
+            log: LineLog::new(),
         })
     }
 
     /// Gives the system what still waits, and lets the connection go. Whether all that was written was taken.
     pub fn close(&mut self) -> bool
-        ensures same { self.new.account ≡ self.old.account }
+        ensures same { self.new.log ≡ self.old.log }
         ensures gone { self.new.connection ≡ None }
     {
         match self.connection.take() {
@@ -89,7 +93,7 @@ impl<T: Clock + Drop> TcpLine<T> {
     // Takes the next connection that waits at the listener.
     fn next_connection(&mut self) -> Accept
         ensures over { result ≢ Accept.Over }
-        ensures same { self.new.account ≡ self.old.account }
+        ensures same { self.new.log ≡ self.old.log }
         ensures kept { result ≢ Accept.Up → self.new.connection ≡ self.old.connection }
     {
         match self.listener.accept() {
@@ -114,8 +118,7 @@ impl<T: Clock + Drop> TcpLine<T> {
         stream.set_nodelay(true)?;
         stream.set_nonblocking(true)?;
         let descriptor = stream.as_raw_fd();
-        self.registry
-            .register(&mut SourceFd(&descriptor), STREAM, Interest::READABLE)?;
+        self.registry.register(&mut SourceFd(&descriptor), STREAM_TOKEN, Interest::READABLE)?;
         let output = stream.try_clone()?;
         Connection::new(self.alloc, stream, output)
     }
@@ -123,7 +126,7 @@ impl<T: Clock + Drop> TcpLine<T> {
     // Ends the connection that there is, and takes the next.
     fn change(&mut self) -> Accept
         ensures over { result ≢ Accept.Over }
-        ensures same { self.new.account ≡ self.old.account }
+        ensures same { self.new.log ≡ self.old.log }
         ensures gone { result ≢ Accept.Up → self.new.connection ≡ None }
     {
         if !self.close() {
@@ -133,14 +136,14 @@ impl<T: Clock + Drop> TcpLine<T> {
     }
 
     // Reads once. A connection that told a fault is let go.
-    fn hear(&mut self, buffer: &mut [u8; PIECE]) -> Read
+    fn receive(&mut self, buffer: &mut [u8; READ_SIZE]) -> Read
         ensures within { IsWithin result }
-        ensures same { self.new.account ≡ self.old.account }
+        ensures same { self.new.log ≡ self.old.log }
         ensures gone { result ≡ Read.Fault → self.new.connection ≡ None }
     {
         let answer = match &mut self.connection {
             None => Read::Fault,
-            Some(connection) => hear_out(connection, &self.clock, buffer),
+            Some(connection) => receive_rest(connection, &self.clock, buffer),
         };
         match answer {
             Read::Fault => self.connection = None,
@@ -151,7 +154,7 @@ impl<T: Clock + Drop> TcpLine<T> {
 
     // Whether the connection took all of these. One that did not is let go.
     fn has_taken(&mut self, bytes: &[u8]) -> bool
-        ensures same { self.new.account ≡ self.old.account }
+        ensures same { self.new.log ≡ self.old.log }
         ensures gone { result ≡ false → self.new.connection ≡ None }
     {
         let has_taken = match &mut self.connection {
@@ -169,10 +172,10 @@ impl<T: Clock + Drop> TcpLine<T> {
 // system may carry the replies to all that another one read. A read that heard nothing has asked the system: so nothing waits any more
 // after turns that read and heard nothing, after which a thread goes to sleep. (One that may not read, since many messages are ready,
 // sleeps until the bell or 100 ms.)
-fn hear_out<I: io::Read, O: io::Write, T: Clock>(
+fn receive_rest<I: io::Read, O: io::Write, T: Clock>(
     connection: &mut Connection<I, O>,
     clock: &T,
-    buffer: &mut [u8; PIECE],
+    buffer: &mut [u8; READ_SIZE],
 ) -> Read
     ensures within { IsWithin result }
     ensures bytes { HasRead connection.old.coming connection.new.coming result buffer.new }
@@ -189,11 +192,11 @@ fn hear_out<I: io::Read, O: io::Write, T: Clock>(
 }
 
 impl<T: Clock + Drop> Line for TcpLine<T> {
-    ghost said = { λ l. l.account };
+    ghost said = { λ l. l.log };
 
     fn accept<R: Wait>(&mut self, _rt: &R) -> Accept
         ensures over { result ≢ Accept.Over }
-        ensures said { self.new.account ≡ self.old.account ++ Accepted result ∷ [] }
+        ensures said { self.new.log ≡ self.old.log ++ Accepted result ∷ [] }
         ensures gone { result ≢ Accept.Up → self.new.connection ≡ None }
     {
         let answer = self.change();
@@ -201,16 +204,16 @@ impl<T: Clock + Drop> Line for TcpLine<T> {
             Accept::Quiet => {}
             Accept::Up | Accept::Over | Accept::Fault => self.activity.note(),
         }
-        self.account.note(Spoken::Accepted { answer });
+        self.log.note(LineEvent::Accepted { answer });
         answer
     }
 
-    fn read<R: Wait>(&mut self, _rt: &R, buffer: &mut [u8; PIECE]) -> Read
+    fn read<R: Wait>(&mut self, _rt: &R, buffer: &mut [u8; READ_SIZE]) -> Read
         ensures within { IsWithin result }
-        ensures said { self.new.account ≡ self.old.account ++ Gave (given result buffer.new) ∷ [] }
+        ensures said { self.new.log ≡ self.old.log ++ Gave (given result buffer.new) ∷ [] }
         ensures gone { result ≡ Read.Fault → self.new.connection ≡ None }
     {
-        let answer = self.hear(buffer);
+        let answer = self.receive(buffer);
         let given = match answer {
             Read::Got { count } => Given::Got {
                 piece: Piece::front(buffer, count),
@@ -224,25 +227,25 @@ impl<T: Clock + Drop> Line for TcpLine<T> {
             Given::Quiet => {}
             _ => self.activity.note(),
         }
-        self.account.note(Spoken::Gave { given });
+        self.log.note(LineEvent::Gave { given });
         answer
     }
 
     fn write<R: Wait>(&mut self, _rt: &R, bytes: &[u8]) -> Result<(), LineFault>
-        ensures said { MatchResult result (λ _. self.new.account ≡ self.old.account ++ Took bytes.now ∷ []) (λ _. self.new.account ≡ self.old.account ++ Broke_off bytes.now ∷ []) }
+        ensures said { MatchResult result (λ _. self.new.log ≡ self.old.log ++ Took bytes.now ∷ []) (λ _. self.new.log ≡ self.old.log ++ Broke_off bytes.now ∷ []) }
         ensures gone { IfErr result (λ _. self.new.connection ≡ None) }
     {
         let past = past_of(bytes);
         self.activity.note();
         if self.has_taken(bytes) {
-            self.account.note(Spoken::Took { bytes: past });
+            self.log.note(LineEvent::Took { bytes: past });
             return Ok(());
         }
-        self.account.note(Spoken::BrokeOff { bytes: past });
+        self.log.note(LineEvent::BrokeOff { bytes: past });
         Err(LineFault)
     }
 
     fn faults(&self) -> u64 {
-        self.account.faults()
+        self.log.faults()
     }
 }

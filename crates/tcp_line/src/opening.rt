@@ -1,11 +1,11 @@
 //! The lines, gates and clocks of a venue, joined by their bells.
 ghost use Rattle.std.specs.Prelude.{◌≡◌, ◌≤◌, ◌<◌, ◌+◌, ◌^◌, IfOk, length};
 
-use crate::activity::Activity;
-use crate::bell::{Bell, Sleeper, Spins};
 use crate::clocks::{SystemClock, WorkerClock};
+use crate::dirty_flag::DirtyFlag;
 use crate::gate::TcpGate;
 use crate::line::TcpLine;
+use crate::waker::{IdleWait, SpinLimits, ThreadWaker};
 use sef_moment::Moment;
 use std::alloc::{AllocError, Global};
 use std::io;
@@ -15,13 +15,13 @@ use std::thread::Threads;
 use std::time::Clock;
 
 /// What a session's thread has of the outside.
-pub type Outside<T> = (TcpLine<T>, SystemClock<T>, TcpGate);
+pub type SessionIo<T> = (TcpLine<T>, SystemClock<T>, TcpGate);
 
 /// What the threads of a venue have of the outside.
 #[derive(Drop)]
-pub struct Opened<T> {
+pub struct VenueIo<T> {
     /// Of each participant, in order.
-    pub sessions: Vec<Outside<T>>,
+    pub sessions: Vec<SessionIo<T>>,
     pub worker: WorkerClock<T>,
 }
 
@@ -30,30 +30,30 @@ pub struct Opened<T> {
 pub fn open_lines<
     R: Net<Listener = TcpListener, Stream = TcpStream> + Threads,
     T: Clock + Copy + Drop,
->(rt: &R, alloc: Global, clock: T, port: u16, count: u16) -> io::Result<Opened<T>>
+>(rt: &R, alloc: Global, clock: T, port: u16, count: u16) -> io::Result<VenueIo<T>>
     requires ports { port + count ≤ 2 ^ 16 }
     ensures count { IfOk result (λ opened. length opened.sessions.items ≡ count) }
 {
-    let spins = Spins::of(rt);
+    let spins = SpinLimits::of(rt);
     let start = Moment::of_ms(0).unwrap();
-    let at_worker = Sleeper::new(rt, alloc, spins.worker)?;
+    let at_worker = IdleWait::new(rt, alloc, spins.worker)?;
     let mut sessions = Vec::with_capacity(alloc, count as usize)?;
-    let mut bells = Vec::with_capacity(alloc, count as usize)?;
+    let mut wakers = Vec::with_capacity(alloc, count as usize)?;
     for k in 0..count {
-        let (outside, bell) = open_line(
+        let (outside, thread_waker) = open_line(
             rt,
             alloc,
             clock,
             port + k,
             spins.session,
-            at_worker.bell()?,
+            at_worker.thread_waker()?,
         )?;
         sessions.push(outside)?;
-        bells.push(bell)?;
+        wakers.push(thread_waker)?;
     }
-    Ok(Opened {
+    Ok(VenueIo {
         sessions,
-        worker: WorkerClock::new(SystemClock::from(clock, start), at_worker, bells),
+        worker: WorkerClock::new(SystemClock::from(clock, start), at_worker, wakers),
     })
 }
 
@@ -64,11 +64,11 @@ fn open_line<R: Net<Listener = TcpListener, Stream = TcpStream>, T: Clock + Copy
     clock: T,
     port: u16,
     spins: u64,
-    worker: Arc<Bell>,
-) -> io::Result<(Outside<T>, Arc<Bell>)> {
-    let sleeper = Sleeper::new(rt, alloc, spins)?;
-    let bell = sleeper.bell()?;
-    let activity = Arc::new(alloc, Activity::new())?;
+    worker: Arc<ThreadWaker>,
+) -> io::Result<(SessionIo<T>, Arc<ThreadWaker>)> {
+    let sleeper = IdleWait::new(rt, alloc, spins)?;
+    let thread_waker = sleeper.thread_waker()?;
+    let activity = Arc::new(alloc, DirtyFlag::new())?;
     let listener = TcpListener::bind(rt, ("127.0.0.1", port))?;
     let line = TcpLine::new(
         alloc,
@@ -79,5 +79,5 @@ fn open_line<R: Net<Listener = TcpListener, Stream = TcpStream>, T: Clock + Copy
     )?;
     let gate = TcpGate::new(sleeper, worker, activity);
     let own = SystemClock::from(clock, Moment::of_ms(0).unwrap());
-    Ok(((line, own, gate), bell))
+    Ok(((line, own, gate), thread_waker))
 }

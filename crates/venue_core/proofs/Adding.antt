@@ -17,15 +17,15 @@ use Rattle.venue_rules.specs.Run.{after}
 use Rattle.price_book.specs.BookFacts.{is_book_fact}
 use Rattle.rfq_room.specs.RoomFacts.{is_room_fact, room_facts}
 use Rattle.cross_delay.specs.DelayFacts.{is_delay_fact}
-use Rattle.room_answers.specs.Counting.{reports_in, trades_in}
-use Rattle.order_answers.specs.Parts.{Parts}
-use Rattle.read_back.specs.Numbered.{AreNumbered}
-use Rattle.read_back.specs.Quoted.{room_shown}
-use Rattle.read_back.specs.ReadOf.{IsReadOf, are_later}
-use Rattle.read_back.specs.Traded.{read_from}
+use Rattle.rfq_handler.specs.Counting.{reports_in, trades_in}
+use Rattle.order_handler.specs.Parts.{Parts}
+use Rattle.trade_history.specs.Numbered.{AreNumbered}
+use Rattle.trade_history.specs.Quoted.{room_shown}
+use Rattle.trade_history.specs.ReadOf.{IsReadOf, are_later}
+use Rattle.trade_history.specs.Traded.{read_from}
 use Rattle.venue_core.specs.declared.plan.Part.TheVariants.{OfOrders, OfRooms}
-use Rattle.venue_core.specs.State.{Standing}
-use Rattle.venue_core.specs.Standing.{IsStanding}
+use Rattle.venue_core.specs.State.{VenueFacts}
+use Rattle.venue_core.specs.VenueFacts.{IsStanding}
 use Rattle.venue_core.specs.Plan.{answer_of, trades_with, with_part}
 use Rattle.venue_core.specs.Read.{IsReadWith, rooms_of}
 use Rattle.venue_core.proofs.Parting.{all-stay, none-stay, book-not-room, book-not-delay, delay-not-book, delay-not-room, room-not-book, room-not-delay, delay-trades}
@@ -55,7 +55,7 @@ record Divided (facts of_book of_rooms of_delay : List Fact) (traded : List Trad
   pub delay : filter is_delay_fact facts ≡ of_delay
   pub trades : trades facts ≡ traded
 
-after-divided : AreReadOn → (p : Standing) (h : History) (a : Answer) (book rooms delay : List Fact) (traded : List Trade) (quoted : List RoomFact) → IsStanding p h → Divided a.facts book rooms delay traded → IsReadOf quoted (h.facts ++ a.facts)
+after-divided : AreReadOn → (p : VenueFacts) (h : History) (a : Answer) (book rooms delay : List Fact) (traded : List Trade) (quoted : List RoomFact) → IsStanding p h → Divided a.facts book rooms delay traded → IsReadOf quoted (h.facts ++ a.facts)
     → IsStanding (record { book = p.book ++ book; rooms = p.rooms ++ rooms; delay = p.delay ++ delay; reports = p.reports + reports_in a.replies; trades = p.trades ++ read_from (length p.trades + 1) traded; quoted = quoted }) (after h a)
 after-divided read p h a book rooms delay traded quoted s d kept = record {
   book = filter-append is_book_fact h.facts a.facts ∙ ap (λ fs. fs ++ filter is_book_fact a.facts) s.book ∙ ap (λ fs. p.book ++ fs) d.book;
@@ -96,14 +96,14 @@ rooms-divide facts r = record {
 
 -- what is stood for goes on with each kind of plan
 
-pub orders-after : AreReadOn → AreReadAsBefore → (p : Standing) (h : History) (a : Parts) → AreNumbered p.rooms → list_all is_book_fact a.book ≡ true → list_all is_delay_fact a.delay ≡ true → IsStanding p h → IsStanding (with_part p (OfOrders a)) (after h (answer_of (OfOrders a)))
+pub orders-after : AreReadOn → AreReadAsBefore → (p : VenueFacts) (h : History) (a : Parts) → AreNumbered p.rooms → list_all is_book_fact a.book ≡ true → list_all is_delay_fact a.delay ≡ true → IsStanding p h → IsStanding (with_part p (OfOrders a)) (after h (answer_of (OfOrders a)))
 orders-after read before p h a n b d s =
     let divided = orders-divide a.delay_first a.book a.delay b d in
     let later : are_later (room_facts h.facts) (room_facts (answer_of (OfOrders a)).facts) ≡ true = ap (λ fs. are_later (room_facts h.facts) fs) divided.rooms in
     let kept : IsReadOf p.quoted (h.facts ++ (answer_of (OfOrders a)).facts) = before p.quoted h.facts (answer_of (OfOrders a)).facts (subst AreNumbered (sym s.rooms) n) later s.quoted in
     rw (append-nil p.rooms) at (after-divided read p h (answer_of (OfOrders a)) a.book [] a.delay (trades a.book) p.quoted s divided kept)
 
-pub rooms-after : AreReadOn → AreReadAsBefore → IsFirstRead → (p : Standing) (h : History) (a : Answer) (read : Option RoomFact) → AreNumbered p.rooms → AreNumbered (p.rooms ++ a.facts) → IsReadWith h.facts a.facts read → list_all is_room_fact a.facts ≡ true → IsStanding p h → IsStanding (with_part p (OfRooms a read)) (after h (answer_of (OfRooms a read)))
+pub rooms-after : AreReadOn → AreReadAsBefore → IsFirstRead → (p : VenueFacts) (h : History) (a : Answer) (read : Option RoomFact) → AreNumbered p.rooms → AreNumbered (p.rooms ++ a.facts) → IsReadWith h.facts a.facts read → list_all is_room_fact a.facts ≡ true → IsStanding p h → IsStanding (with_part p (OfRooms a read)) (after h (answer_of (OfRooms a read)))
 rooms-after on before first p h a read n next with r s =
     let kept = read-on before first p.quoted h.facts a.facts read (subst AreNumbered (sym s.rooms) n) (subst (λ fs. AreNumbered (fs ++ a.facts)) (sym s.rooms) next) with s.quoted in
     rw (append-nil p.book, append-nil p.delay) at (after-divided on p h a [] a.facts [] (trades a.facts) (p.quoted ++ rooms_of read) s (rooms-divide a.facts r) kept)
@@ -118,5 +118,5 @@ with-length read facts = length-append read (read_from (length read + 1) (trades
 
 -- what is stood for by parts that are equal is the same
 pub same-standing : (b b' r r' d d' : List Fact) (n n' : ℕ) (k k' : List TradeFact) (q q' : List RoomFact) → b ≡ b' → r ≡ r' → d ≡ d' → n ≡ n' → k ≡ k' → q ≡ q'
-    → (let p : Standing = record { book = b; rooms = r; delay = d; reports = n; trades = k; quoted = q } in p) ≡ (let p : Standing = record { book = b'; rooms = r'; delay = d'; reports = n'; trades = k'; quoted = q' } in p)
+    → (let p : VenueFacts = record { book = b; rooms = r; delay = d; reports = n; trades = k; quoted = q } in p) ≡ (let p : VenueFacts = record { book = b'; rooms = r'; delay = d'; reports = n'; trades = k'; quoted = q' } in p)
 same-standing b b' r r' d d' n n' k k' q q' e f g h i j = cc

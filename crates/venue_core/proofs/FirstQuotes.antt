@@ -30,8 +30,8 @@ use Rattle.rfq_room.specs.declared.refusal.WithdrawalRefusal.TheVariants as with
 use Rattle.rfq_room.specs.Causes.{decide, quote_cause, request_cause, withdrawal_cause, withdrawal_id}
 use Rattle.rfq_room.specs.Named.{named_quotes, quote_room}
 use Rattle.rfq_room.specs.RoomFacts.{room_facts}
-use Rattle.rfq_room.specs.Told.{quote_told, request_told, response_refused, response_told, withdrawal_told}
-use Rattle.read_back.specs.ReadOf.{are_later}
+use Rattle.rfq_room.specs.Emitted.{quote_emitted, request_emitted, response_refused, response_emitted, withdrawal_emitted}
+use Rattle.trade_history.specs.ReadOf.{are_later}
 use Rattle.venue_core.specs.Read.{IsReadWith, quote_read, read_in}
 
 -- What is found by one test is found by one that passes less, if it passes that.
@@ -69,7 +69,7 @@ room-named facts id r found =
 -- What is read off the replies to a quote is right.
 
 abbrev pub QuoteLaw : Type 0
-QuoteLaw = (m : Market) (h : History) (s : Sender) (d : Quote) (t : ℕ) → answer_quote m h s d t ≡ quote_told m h s d (find_room (room_facts h.facts) d.request_id) (quote_cause m (room_facts h.facts) s.who d t)
+QuoteLaw = (m : Market) (h : History) (s : Sender) (d : Quote) (t : ℕ) → answer_quote m h s d t ≡ quote_emitted m h s d (find_room (room_facts h.facts) d.request_id) (quote_cause m (room_facts h.facts) s.who d t)
 
 abbrev pub FirstLaw : Type 0
 FirstLaw = (fs : List Fact) (room : ℕ) → first_quote fs room ≡ first_quote (room_facts fs) room
@@ -87,53 +87,53 @@ accepted-read law m h s r d None e here =
     subst (λ (o : Option Room). IsReadWith h.facts (Quoted (quoted h s r d) ∷ []) (read_in (Some (picture h.facts r.instrument)) (Some (quoted h s r d)) o)) (sym here)
     (record { asked = r; quote = quoted h s r d; made = refl; room = here; first = sym (law h.facts r.number) ∙ e; shown = refl })
 
-told-read : FirstLaw → (m : Market) (h : History) (s : Sender) (d : Quote) (room : Option Room) (cause : Option QuoteRefusal) → find_room (room_facts h.facts) d.request_id ≡ room
-    → IsReadWith h.facts (quote_told m h s d room cause).facts (quote_read (room_facts h.facts) (quote_told m h s d room cause))
-told-read law m h s d None (Some cause) e = refl
-told-read law m h s d (Some r) (Some cause) e = refl
-told-read law m h s d None None e = refl
-told-read law m h s d (Some r) None e = accepted-read law m h s r d (first_quote h.facts r.number) refl (room-named (room_facts h.facts) d.request_id r e)
+emitted-read : FirstLaw → (m : Market) (h : History) (s : Sender) (d : Quote) (room : Option Room) (cause : Option QuoteRefusal) → find_room (room_facts h.facts) d.request_id ≡ room
+    → IsReadWith h.facts (quote_emitted m h s d room cause).facts (quote_read (room_facts h.facts) (quote_emitted m h s d room cause))
+emitted-read law m h s d None (Some cause) e = refl
+emitted-read law m h s d (Some r) (Some cause) e = refl
+emitted-read law m h s d None None e = refl
+emitted-read law m h s d (Some r) None e = accepted-read law m h s r d (first_quote h.facts r.number) refl (room-named (room_facts h.facts) d.request_id r e)
 
 pub quote-is-read : QuoteLaw → FirstLaw → (m : Market) (h : History) (s : Sender) (d : Quote) (t : ℕ) (kept : List Fact) (a : Answer) → room_facts h.facts ≡ kept → a ≡ answer_quote m h s d t → IsReadWith h.facts a.facts (quote_read kept a)
 quote-is-read law first m h s d t kept a same is =
     subst (λ (fs : List Fact). IsReadWith h.facts a.facts (quote_read fs a)) same
     (subst (λ (b : Answer). IsReadWith h.facts b.facts (quote_read (room_facts h.facts) b)) (sym (is ∙ law m h s d t))
-    (told-read first m h s d (find_room (room_facts h.facts) d.request_id) (quote_cause m (room_facts h.facts) s.who d t) refl))
+    (emitted-read first m h s d (find_room (room_facts h.facts) d.request_id) (quote_cause m (room_facts h.facts) s.who d t) refl))
 
 -- The other messages of rooms add no quote.
 
 abbrev pub RequestLaw : Type 0
-RequestLaw = (m : Market) (h : History) (s : Sender) (d : QuoteRequest) (t : ℕ) → answer_request m h s d t ≡ request_told m h s d t (request_cause m (room_facts h.facts) s.who d t)
+RequestLaw = (m : Market) (h : History) (s : Sender) (d : QuoteRequest) (t : ℕ) → answer_request m h s d t ≡ request_emitted m h s d t (request_cause m (room_facts h.facts) s.who d t)
 
 abbrev pub WithdrawalLaw : Type 0
-WithdrawalLaw = (m : Market) (h : History) (s : Sender) (d : QuoteCancel) (t : ℕ) → answer_withdrawal m h s d t ≡ withdrawal_told m h s d (named_quotes (room_facts h.facts) s.who t (withdrawal_id d)) (withdrawal_cause (room_facts h.facts) s.who d t)
+WithdrawalLaw = (m : Market) (h : History) (s : Sender) (d : QuoteCancel) (t : ℕ) → answer_withdrawal m h s d t ≡ withdrawal_emitted m h s d (named_quotes (room_facts h.facts) s.who t (withdrawal_id d)) (withdrawal_cause (room_facts h.facts) s.who d t)
 
 abbrev pub ResponseLaw : Type 0
-ResponseLaw = (m : Market) (h : History) (s : Sender) (d : QuoteResponse) (t : ℕ) → answer_response m h s d t ≡ response_told m h s d t (find_quote (room_facts h.facts) d.quote_id) (quote_room (room_facts h.facts) d.quote_id) (decide (room_facts h.facts) s.who d t)
+ResponseLaw = (m : Market) (h : History) (s : Sender) (d : QuoteResponse) (t : ℕ) → answer_response m h s d t ≡ response_emitted m h s d t (find_quote (room_facts h.facts) d.quote_id) (quote_room (room_facts h.facts) d.quote_id) (decide (room_facts h.facts) s.who d t)
 
 -- no quote among the facts of an answer is the first of its room
 abbrev HasNoFirst : List Fact → Answer → Type 0
 HasNoFirst facts a = are_later (room_facts facts) (room_facts a.facts) ≡ true
 
-request-told : (facts : List Fact) (m : Market) (h : History) (s : Sender) (d : QuoteRequest) (t : ℕ) (cause : Option RequestRefusal) → HasNoFirst facts (request_told m h s d t cause)
-request-told facts m h s d t None = refl
-request-told facts m h s d t (Some cause) = refl
+request-emitted : (facts : List Fact) (m : Market) (h : History) (s : Sender) (d : QuoteRequest) (t : ℕ) (cause : Option RequestRefusal) → HasNoFirst facts (request_emitted m h s d t cause)
+request-emitted facts m h s d t None = refl
+request-emitted facts m h s d t (Some cause) = refl
 
 pub request-adds-none : RequestLaw → (m : Market) (h : History) (s : Sender) (d : QuoteRequest) (t : ℕ) (a : Answer) → a ≡ answer_request m h s d t → HasNoFirst h.facts a
-request-adds-none law m h s d t a is = subst (λ (b : Answer). HasNoFirst h.facts b) (sym (is ∙ law m h s d t)) (request-told h.facts m h s d t (request_cause m (room_facts h.facts) s.who d t))
+request-adds-none law m h s d t a is = subst (λ (b : Answer). HasNoFirst h.facts b) (sym (is ∙ law m h s d t)) (request-emitted h.facts m h s d t (request_cause m (room_facts h.facts) s.who d t))
 
 withdrawn-none : (facts : List Fact) (qs : List RoomQuote) → are_later (room_facts facts) (room_facts (map (λ (q : RoomQuote). Withdrawn (record { quote = q.number })) qs)) ≡ true
 withdrawn-none facts [] = refl
 withdrawn-none facts (q ∷ qs) = withdrawn-none facts qs
 
-withdrawal-told : (facts : List Fact) (m : Market) (h : History) (s : Sender) (d : QuoteCancel) (qs : List RoomQuote) (cause : Option WithdrawalRefusal) → HasNoFirst facts (withdrawal_told m h s d qs cause)
-withdrawal-told facts m h s d qs None = withdrawn-none facts qs
-withdrawal-told facts m h s d qs (Some withdrawal.QuoteMissing) = refl
-withdrawal-told facts m h s d qs (Some withdrawal.NotFound) = refl
-withdrawal-told facts m h s d qs (Some withdrawal.Unsupported) = refl
+withdrawal-emitted : (facts : List Fact) (m : Market) (h : History) (s : Sender) (d : QuoteCancel) (qs : List RoomQuote) (cause : Option WithdrawalRefusal) → HasNoFirst facts (withdrawal_emitted m h s d qs cause)
+withdrawal-emitted facts m h s d qs None = withdrawn-none facts qs
+withdrawal-emitted facts m h s d qs (Some withdrawal.QuoteMissing) = refl
+withdrawal-emitted facts m h s d qs (Some withdrawal.NotFound) = refl
+withdrawal-emitted facts m h s d qs (Some withdrawal.Unsupported) = refl
 
 pub withdrawal-adds-none : WithdrawalLaw → (m : Market) (h : History) (s : Sender) (d : QuoteCancel) (t : ℕ) (a : Answer) → a ≡ answer_withdrawal m h s d t → HasNoFirst h.facts a
-withdrawal-adds-none law m h s d t a is = subst (λ (b : Answer). HasNoFirst h.facts b) (sym (is ∙ law m h s d t)) (withdrawal-told h.facts m h s d (named_quotes (room_facts h.facts) s.who t (withdrawal_id d)) (withdrawal_cause (room_facts h.facts) s.who d t))
+withdrawal-adds-none law m h s d t a is = subst (λ (b : Answer). HasNoFirst h.facts b) (sym (is ∙ law m h s d t)) (withdrawal-emitted h.facts m h s d (named_quotes (room_facts h.facts) s.who t (withdrawal_id d)) (withdrawal_cause (room_facts h.facts) s.who d t))
 
 refused-none : (facts : List Fact) (m : Market) (s : Sender) (d : QuoteResponse) (room : Option Room) (cause : ResponseCause) → HasNoFirst facts (response_refused m s d room cause)
 refused-none facts m s d room response.Unsupported = refl
@@ -146,14 +146,14 @@ refused-none facts m s d room response.OtherSide = refl
 refused-none facts m s d room response.SideMissing = refl
 refused-none facts m s d room response.NoPrice = refl
 
-response-told : (facts : List Fact) (m : Market) (h : History) (s : Sender) (d : QuoteResponse) (t : ℕ) (q : Option RoomQuote) (room : Option Room) (what : Decision) → HasNoFirst facts (response_told m h s d t q room what)
-response-told facts m h s d t q room (Refuse cause) = refused-none facts m s d room cause
-response-told facts m h s d t (Some q) (Some r) Pass = refl
-response-told facts m h s d t (Some q) (Some r) (Trade hit) = refl
-response-told facts m h s d t (Some q) None Pass = refl
-response-told facts m h s d t (Some q) None (Trade hit) = refl
-response-told facts m h s d t None room Pass = refl
-response-told facts m h s d t None room (Trade hit) = refl
+response-emitted : (facts : List Fact) (m : Market) (h : History) (s : Sender) (d : QuoteResponse) (t : ℕ) (q : Option RoomQuote) (room : Option Room) (what : Decision) → HasNoFirst facts (response_emitted m h s d t q room what)
+response-emitted facts m h s d t q room (Refuse cause) = refused-none facts m s d room cause
+response-emitted facts m h s d t (Some q) (Some r) Pass = refl
+response-emitted facts m h s d t (Some q) (Some r) (Trade hit) = refl
+response-emitted facts m h s d t (Some q) None Pass = refl
+response-emitted facts m h s d t (Some q) None (Trade hit) = refl
+response-emitted facts m h s d t None room Pass = refl
+response-emitted facts m h s d t None room (Trade hit) = refl
 
 pub response-adds-none : ResponseLaw → (m : Market) (h : History) (s : Sender) (d : QuoteResponse) (t : ℕ) (a : Answer) → a ≡ answer_response m h s d t → HasNoFirst h.facts a
-response-adds-none law m h s d t a is = subst (λ (b : Answer). HasNoFirst h.facts b) (sym (is ∙ law m h s d t)) (response-told h.facts m h s d t (find_quote (room_facts h.facts) d.quote_id) (quote_room (room_facts h.facts) d.quote_id) (decide (room_facts h.facts) s.who d t))
+response-adds-none law m h s d t a is = subst (λ (b : Answer). HasNoFirst h.facts b) (sym (is ∙ law m h s d t)) (response-emitted h.facts m h s d t (find_quote (room_facts h.facts) d.quote_id) (quote_room (room_facts h.facts) d.quote_id) (decide (room_facts h.facts) s.who d t))

@@ -2,19 +2,19 @@ use Rattle.std.proofs.Common.{◌≡◌, sym, ap, ◌∙◌, subst, Bool, true, 
 use Rattle.std.specs.List.{list_all}
 use Rattle.venue_rules.specs.declared.facts.Fact.{Fact}
 use Rattle.venue_rules.specs.Market.{Market}
-use Rattle.rfq_room.specs.Kept.{is_listed as is_room_listed}
-use Rattle.room_answers.specs.Known.{is_known}
-use Rattle.order_answers.specs.Made.{is_listed}
-use Rattle.venue_core.specs.declared.day.Day.{Day}
+use Rattle.rfq_room.specs.RoomStore.{is_listed as is_room_listed}
+use Rattle.rfq_handler.specs.Known.{is_known}
+use Rattle.order_handler.specs.Made.{is_listed}
+use Rattle.venue_core.specs.declared.venue_state.VenueState.{VenueState}
 use Rattle.venue_core.specs.declared.plan.Part.{Part}
 use Rattle.venue_core.specs.declared.plan.Part.TheVariants.{OfOrders, OfRooms}
-use Rattle.venue_core.specs.State.{Standing, standing}
-use Rattle.read_back.specs.Numbered.{AreNumbered}
+use Rattle.venue_core.specs.State.{VenueFacts, standing}
+use Rattle.trade_history.specs.Numbered.{AreNumbered}
 use Rattle.venue_core.specs.Plan.{IsAddedTo, IsListed, IsMade, with_part}
 use Rattle.venue_core.proofs.Parting.{both-all}
 
 -- a plan that may be made may be added
-pub made-added : (m : Market) (d : Day) (p : Part) → IsMade m d p → IsAddedTo d p
+pub made-added : (m : Market) (d : VenueState) (p : Part) → IsMade m d p → IsAddedTo d p
 made-added m d (OfOrders a) made = (made.parts.book_plan, made.parts.delay_plan, made.trades)
 made-added m d (OfRooms a read) made = (made.plan, made.trades, made.read)
 
@@ -22,28 +22,28 @@ passes : (p : Fact → Bool) (fs gs : List Fact) → fs ≡ gs → list_all p gs
 passes p fs gs e h = ap (λ xs. list_all p xs) e ∙ h
 
 -- what is kept stays for listed instruments and known participants with what is added
-pub still-listed : (m : Market) (d d' : Day) (p : Part) → standing d' ≡ with_part (standing d) p → AreNumbered d'.rooms.facts → IsMade m d p → IsListed m d → IsListed m d'
+pub still-listed : (m : Market) (d d' : VenueState) (p : Part) → standing d' ≡ with_part (standing d) p → AreNumbered d'.rooms.facts → IsMade m d p → IsListed m d → IsListed m d'
 still-listed m d d' (OfOrders a) e n made l = record {
-  book = passes (is_listed (length m.instruments)) d'.book.facts (d.book.facts ++ a.book) (ap (λ (s : Standing). s.book) e) (both-all (is_listed (length m.instruments)) d.book.facts a.book l.book made.parts.book_listed);
-  delay = passes (is_listed (length m.instruments)) d'.held.facts (d.held.facts ++ a.delay) (ap (λ (s : Standing). s.delay) e) (both-all (is_listed (length m.instruments)) d.held.facts a.delay l.delay made.parts.delay_listed);
-  rooms = passes (is_room_listed (length m.instruments)) d'.rooms.facts d.rooms.facts (ap (λ (s : Standing). s.rooms) e) l.rooms;
-  known = passes (is_known (length m.participants.names)) d'.rooms.facts d.rooms.facts (ap (λ (s : Standing). s.rooms) e) l.known;
+  book = passes (is_listed (length m.instruments)) d'.book.facts (d.book.facts ++ a.book) (ap (λ (s : VenueFacts). s.book) e) (both-all (is_listed (length m.instruments)) d.book.facts a.book l.book made.parts.book_listed);
+  delay = passes (is_listed (length m.instruments)) d'.held.facts (d.held.facts ++ a.delay) (ap (λ (s : VenueFacts). s.delay) e) (both-all (is_listed (length m.instruments)) d.held.facts a.delay l.delay made.parts.delay_listed);
+  rooms = passes (is_room_listed (length m.instruments)) d'.rooms.facts d.rooms.facts (ap (λ (s : VenueFacts). s.rooms) e) l.rooms;
+  known = passes (is_known (length m.participants.names)) d'.rooms.facts d.rooms.facts (ap (λ (s : VenueFacts). s.rooms) e) l.known;
   numbered = n;
 }
 still-listed m d d' (OfRooms a read) e n made l = record {
-  book = passes (is_listed (length m.instruments)) d'.book.facts d.book.facts (ap (λ (s : Standing). s.book) e) l.book;
-  delay = passes (is_listed (length m.instruments)) d'.held.facts d.held.facts (ap (λ (s : Standing). s.delay) e) l.delay;
-  rooms = passes (is_room_listed (length m.instruments)) d'.rooms.facts (d.rooms.facts ++ a.facts) (ap (λ (s : Standing). s.rooms) e) (both-all (is_room_listed (length m.instruments)) d.rooms.facts a.facts l.rooms made.listed);
-  known = passes (is_known (length m.participants.names)) d'.rooms.facts (d.rooms.facts ++ a.facts) (ap (λ (s : Standing). s.rooms) e) (both-all (is_known (length m.participants.names)) d.rooms.facts a.facts l.known made.known);
+  book = passes (is_listed (length m.instruments)) d'.book.facts d.book.facts (ap (λ (s : VenueFacts). s.book) e) l.book;
+  delay = passes (is_listed (length m.instruments)) d'.held.facts d.held.facts (ap (λ (s : VenueFacts). s.delay) e) l.delay;
+  rooms = passes (is_room_listed (length m.instruments)) d'.rooms.facts (d.rooms.facts ++ a.facts) (ap (λ (s : VenueFacts). s.rooms) e) (both-all (is_room_listed (length m.instruments)) d.rooms.facts a.facts l.rooms made.listed);
+  known = passes (is_known (length m.participants.names)) d'.rooms.facts (d.rooms.facts ++ a.facts) (ap (λ (s : VenueFacts). s.rooms) e) (both-all (is_known (length m.participants.names)) d.rooms.facts a.facts l.known made.known);
   numbered = n;
 }
 
 -- and with other room for more
-pub same-listed : (m : Market) (d d' : Day) → standing d' ≡ standing d → IsListed m d → IsListed m d'
+pub same-listed : (m : Market) (d d' : VenueState) → standing d' ≡ standing d → IsListed m d → IsListed m d'
 same-listed m d d' e l = record {
-  book = passes (is_listed (length m.instruments)) d'.book.facts d.book.facts (ap (λ (s : Standing). s.book) e) l.book;
-  delay = passes (is_listed (length m.instruments)) d'.held.facts d.held.facts (ap (λ (s : Standing). s.delay) e) l.delay;
-  rooms = passes (is_room_listed (length m.instruments)) d'.rooms.facts d.rooms.facts (ap (λ (s : Standing). s.rooms) e) l.rooms;
-  known = passes (is_known (length m.participants.names)) d'.rooms.facts d.rooms.facts (ap (λ (s : Standing). s.rooms) e) l.known;
-  numbered = subst AreNumbered (sym (ap (λ (s : Standing). s.rooms) e)) l.numbered;
+  book = passes (is_listed (length m.instruments)) d'.book.facts d.book.facts (ap (λ (s : VenueFacts). s.book) e) l.book;
+  delay = passes (is_listed (length m.instruments)) d'.held.facts d.held.facts (ap (λ (s : VenueFacts). s.delay) e) l.delay;
+  rooms = passes (is_room_listed (length m.instruments)) d'.rooms.facts d.rooms.facts (ap (λ (s : VenueFacts). s.rooms) e) l.rooms;
+  known = passes (is_known (length m.participants.names)) d'.rooms.facts d.rooms.facts (ap (λ (s : VenueFacts). s.rooms) e) l.known;
+  numbered = subst AreNumbered (sym (ap (λ (s : VenueFacts). s.rooms) e)) l.numbered;
 }

@@ -3,8 +3,8 @@ use Rattle.std.specs.List.{list_all}
 use Rattle.std.proofs.lemmas.List.Folds.{list_all-append}
 use Rattle.venue_rules.specs.declared.facts.Fact.{Fact}
 use Rattle.venue_rules.specs.declared.facts.Fact.TheVariants.{Entered, Traded, Removed, Held, Unheld, Asked, Quoted, Withdrawn, Closed}
-use Rattle.venue_rules.specs.declared.facts.Place.{Place}
-use Rattle.venue_rules.specs.declared.facts.Place.TheVariants.{Book as InBook, Room as InRoom}
+use Rattle.venue_rules.specs.declared.facts.TradeSource.{TradeSource}
+use Rattle.venue_rules.specs.declared.facts.TradeSource.TheVariants.{Book as InBook, Room as InRoom}
 use Rattle.venue_rules.specs.Facts.{trades}
 use Rattle.price_book.specs.BookFacts.{is_book_fact, is_in_book}
 use Rattle.rfq_room.specs.RoomFacts.{is_room_fact, is_in_room}
@@ -46,11 +46,11 @@ both-all p xs ys h k = list_all-append p xs ys ∙ both (list_all p xs) (list_al
 
 -- A fact is of the book, of the rooms or of the held sides alone.
 
-place-not-room : (p : Place) → is_in_book p ≡ true → is_in_room p ≡ false
+place-not-room : (p : TradeSource) → is_in_book p ≡ true → is_in_room p ≡ false
 place-not-room (InBook a b) h = refl
 place-not-room (InRoom a b) h = cc
 
-place-not-book : (p : Place) → is_in_room p ≡ true → is_in_book p ≡ false
+place-not-book : (p : TradeSource) → is_in_room p ≡ true → is_in_book p ≡ false
 place-not-book (InBook a b) h = cc
 place-not-book (InRoom a b) h = refl
 

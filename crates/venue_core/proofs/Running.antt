@@ -4,8 +4,8 @@ use Rattle.venue_rules.specs.Answer.{Answer}
 use Rattle.venue_rules.specs.Facts.{History, no_history}
 use Rattle.venue_rules.specs.Market.{Market}
 use Rattle.venue_rules.specs.Run.{Input, Outcome, after, answer_input, run, run_from}
-use Rattle.venue_core.specs.State.{Standing, State}
-use Rattle.venue_core.specs.Standing.{IsAfter, IsAnswer, IsHistory, IsStanding}
+use Rattle.venue_core.specs.State.{VenueFacts, State}
+use Rattle.venue_core.specs.VenueFacts.{IsAfter, IsAnswer, IsHistory, IsStanding}
 use Rattle.venue_core.specs.Taking.{IsSame, Stands, Takes, TakesAll}
 
 -- a run of one input more is the run, and then its answer
@@ -33,7 +33,7 @@ pub applied : (i : Input) (s between s' : State) (a : Answer) → IsSame s betwe
 applied i s between s' a same answers market goes = record {
   market = market ∙ same.market;
   answers = answers;
-  goes = λ h stands. goes h (subst (λ (p : Standing). IsStanding p h) (sym same.day) stands);
+  goes = λ h stands. goes h (subst (λ (p : VenueFacts). IsStanding p h) (sym same.day) stands);
 }
 
 pub stands-on : (m : Market) (is : List Input) (i : Input) (s s' : State) (a : Answer) → Stands m is s → Takes s i a s' → Stands m (is ++ i ∷ []) s'
@@ -48,15 +48,15 @@ replies-on m is i s s' a st takes =
     ∙ ap (λ (b : Answer). (run m is).replies ++ b.replies) (sym (taken-answer m (run m is).history i s s' a st.market st.history takes))
 
 -- from a history on, inputs lead where the rules' run leads, with its replies
-record Led (m : Market) (h : History) (is : List Input) (s' : State) (told : List Reply) : Type 0 where
+record Led (m : Market) (h : History) (is : List Input) (s' : State) (emitted : List Reply) : Type 0 where
   pub market : s'.market ≡ m
   pub history : IsHistory s' (run_from m h is).history
-  pub replies : told ≡ (run_from m h is).replies
+  pub replies : emitted ≡ (run_from m h is).replies
 
 led : (m : Market) (h : History) (is : List Input) (s s' : State) (replies : List Reply) → s.market ≡ m → IsHistory s h → TakesAll s is replies s' → Led m h is s' replies
 led m h [] s s' replies e stands same = record {
   market = same.0.market ∙ e;
-  history = subst (λ (p : Standing). IsStanding p h) (sym same.0.day) stands;
+  history = subst (λ (p : VenueFacts). IsStanding p h) (sym same.0.day) stands;
   replies = same.1;
 }
 led m h (i ∷ is) s s' replies e stands t =

@@ -9,11 +9,11 @@ use Rattle.fix_dictionary.specs.declared.messages.MarketDataSnapshot.{MarketData
 use Rattle.fix_dictionary.specs.declared.messages.MarketDataRequestReject.{MarketDataRequestReject as DataReject}
 use Rattle.venue_rules.specs.declared.refusals.BusinessRefusal.TheVariants.{UnsupportedMessageType}
 use Rattle.venue_rules.specs.declared.trail.Taken.{Taken}
-use Rattle.venue_rules.specs.Answer.{unprocessed}
+use Rattle.venue_rules.specs.Answer.{business_reject}
 use Rattle.venue_rules.specs.Answers.{answer}
 use Rattle.venue_rules.specs.Facts.{History}
 use Rattle.venue_rules.specs.Market.{Market}
-use Rattle.order_answers.specs.Market.{sender}
+use Rattle.order_handler.specs.Market.{sender}
 
 -- a message of what only the venue sends, or of no known type
 abbrev pub IsUnsupported : App → Type 0
@@ -26,7 +26,7 @@ IsUnsupported app =
     ⊎ (((x : DataReject) × (app ≡ MarketDataRequestReject x))
     ⊎ ((x : List ℕ) × (app ≡ Unsupported x)))))))
 
-pub unsupported-answer : (m : Market) (h : History) (taken : Taken) (t : ℕ) → IsUnsupported taken.item.app → unprocessed (sender taken) UnsupportedMessageType ≡ answer m h taken t
+pub unsupported-answer : (m : Market) (h : History) (taken : Taken) (t : ℕ) → IsUnsupported taken.item.app → business_reject (sender taken) UnsupportedMessageType ≡ answer m h taken t
 unsupported-answer m h taken t (inl p) = rw p.1 refl
 unsupported-answer m h taken t (inr (inl p)) = rw p.1 refl
 unsupported-answer m h taken t (inr (inr (inl p))) = rw p.1 refl

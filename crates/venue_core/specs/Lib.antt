@@ -3,7 +3,7 @@ pub mod Files
 -- what a venue is seen as
 pub mod State
 -- the histories that it stands for
-pub mod Standing
+pub mod VenueFacts
 -- what is read back of the first quote of a room
 pub mod Read
 -- what an input adds, and what it asks to be added

@@ -8,20 +8,20 @@ use Rattle.venue_rules.specs.Answer.{Answer}
 use Rattle.venue_rules.specs.Run.{Input}
 use Rattle.price_book.specs.Steps.{IsPlanOf as IsBookPlan}
 use Rattle.cross_delay.specs.Steps.{IsPlanOf as IsDelayPlan}
-use Rattle.rfq_room.specs.Kept.{are_listed as are_rooms_listed}
+use Rattle.rfq_room.specs.RoomStore.{are_listed as are_rooms_listed}
 use Rattle.rfq_room.specs.Steps.{IsPlanOf as IsRoomPlan}
-use Rattle.room_answers.specs.Counting.{reports_in, trades_in}
-use Rattle.room_answers.specs.Known.{are_known}
-use Rattle.order_answers.specs.Made.{IsMade as AreOrdersMade, are_listed}
-use Rattle.order_answers.specs.Parts.{Parts, answer_of as answer_of_orders}
-use Rattle.read_back.specs.Numbered.{AreNumbered}
-use Rattle.read_back.specs.Traded.{read_from}
-use Rattle.venue_core.specs.declared.day.Day.{Day}
+use Rattle.rfq_handler.specs.Counting.{reports_in, trades_in}
+use Rattle.rfq_handler.specs.Known.{are_known}
+use Rattle.order_handler.specs.Made.{IsMade as AreOrdersMade, are_listed}
+use Rattle.order_handler.specs.Parts.{Parts, answer_of as answer_of_orders}
+use Rattle.trade_history.specs.Numbered.{AreNumbered}
+use Rattle.trade_history.specs.Traded.{read_from}
+use Rattle.venue_core.specs.declared.venue_state.VenueState.{VenueState}
 use Rattle.venue_core.specs.declared.plan.Part.{Part}
 use Rattle.venue_core.specs.declared.plan.Part.TheVariants.{OfOrders, OfRooms}
-use Rattle.venue_core.specs.State.{Standing, State, standing}
+use Rattle.venue_core.specs.State.{VenueFacts, State, standing}
 use Rattle.venue_core.specs.Read.{IsReadWith, read_count, rooms_of}
-use Rattle.venue_core.specs.Standing.{IsAnswer, IsStanding}
+use Rattle.venue_core.specs.VenueFacts.{IsAnswer, IsStanding}
 
 -- the answer that a plan is
 abbrev pub answer_of : Part → Answer
@@ -29,27 +29,27 @@ answer_of (OfOrders a) = answer_of_orders a
 answer_of (OfRooms a read) = a
 
 -- this is the answer whatever history is stood for
-abbrev pub IsPlanned : Standing → (History → Answer) → Part → Type 0
+abbrev pub IsPlanned : VenueFacts → (History → Answer) → Part → Type 0
 IsPlanned p answer a = (h : History) → IsStanding p h → answer_of a ≡ answer h
 
 -- there is room for the trades among these facts, which are no more than one input makes
-pub record HasTradeRoom (d : Day) (facts : List Fact) : Type 0 where
+pub record HasTradeRoom (d : VenueState) (facts : List Fact) : Type 0 where
   pub room : trades_in facts ≤ d.traded.room
   pub few : trades_in facts ≤ 200
 
 -- the parts may be applied, and there is room for their trades
-pub record IsOrderMade (m : Market) (d : Day) (a : Parts) : Type 0 where
+pub record IsOrderMade (m : Market) (d : VenueState) (a : Parts) : Type 0 where
   pub parts : AreOrdersMade (length m.instruments) d.book d.held a
   pub trades : HasTradeRoom d a.book
 
 -- this is read back with these facts, whatever history is stood for, and there is room for it
-pub record IsReadAdded (d : Day) (facts : List Fact) (read : Option RoomFact) : Type 0 where
+pub record IsReadAdded (d : VenueState) (facts : List Fact) (read : Option RoomFact) : Type 0 where
   pub room : read_count read ≤ d.quoted.room
   pub right : (h : History) → IsStanding (standing d) h → IsReadWith h.facts facts read
 
 -- the facts are those of a step of the rooms, and there is room for them and their trades; they are for listed instruments, and of known
 -- participants; and this is read back with them
-pub record IsRoomMade (m : Market) (d : Day) (a : Answer) (first : Option RoomFact) : Type 0 where
+pub record IsRoomMade (m : Market) (d : VenueState) (a : Answer) (first : Option RoomFact) : Type 0 where
   pub plan : IsRoomPlan d.rooms a.facts
   pub trades : HasTradeRoom d a.facts
   pub listed : are_rooms_listed (length m.instruments) a.facts ≡ true
@@ -57,12 +57,12 @@ pub record IsRoomMade (m : Market) (d : Day) (a : Answer) (first : Option RoomFa
   pub read : IsReadAdded d a.facts first
 
 -- the facts may be added to the book, the held sides, the rooms and the trades as they are
-abbrev pub IsMade : Market → Day → Part → Type 0
+abbrev pub IsMade : Market → VenueState → Part → Type 0
 IsMade m d (OfOrders a) = IsOrderMade m d a
 IsMade m d (OfRooms a read) = IsRoomMade m d a read
 
 -- there is room for what is added to the book, the held sides, the rooms and what is read back
-abbrev pub IsAddedTo : Day → Part → Type 0
+abbrev pub IsAddedTo : VenueState → Part → Type 0
 IsAddedTo d (OfOrders a) = IsBookPlan d.book a.book × IsDelayPlan d.held a.delay × HasTradeRoom d a.book
 IsAddedTo d (OfRooms a read) = IsRoomPlan d.rooms a.facts × HasTradeRoom d a.facts × IsReadAdded d a.facts read
 
@@ -71,12 +71,12 @@ abbrev pub trades_with : List TradeFact → List Fact → List TradeFact
 trades_with read facts = read ++ read_from (length read + 1) (trades facts)
 
 -- what is stood for with a plan's facts, its count of reports, its trades and what is read back of its quote added
-abbrev pub with_part : Standing → Part → Standing
+abbrev pub with_part : VenueFacts → Part → VenueFacts
 with_part p (OfOrders a) = record { book = p.book ++ a.book; rooms = p.rooms; delay = p.delay ++ a.delay; reports = p.reports + reports_in a.replies; trades = trades_with p.trades a.book; quoted = p.quoted }
 with_part p (OfRooms a read) = record { book = p.book; rooms = p.rooms ++ a.facts; delay = p.delay; reports = p.reports + reports_in a.replies; trades = trades_with p.trades a.facts; quoted = p.quoted ++ rooms_of read }
 
 -- what is kept is for listed instruments, and of known participants, and its rooms and quotes have their numbers in order
-pub record IsListed (m : Market) (d : Day) : Type 0 where
+pub record IsListed (m : Market) (d : VenueState) : Type 0 where
   pub book : are_listed (length m.instruments) d.book.facts ≡ true
   pub delay : are_listed (length m.instruments) d.held.facts ≡ true
   pub rooms : are_rooms_listed (length m.instruments) d.rooms.facts ≡ true
@@ -84,7 +84,7 @@ pub record IsListed (m : Market) (d : Day) : Type 0 where
   pub numbered : AreNumbered d.rooms.facts
 
 -- the counts leave room for those of more inputs
-abbrev pub AreFew : Day → Type 0
+abbrev pub AreFew : VenueState → Type 0
 AreFew d = (d.reports < 2 ^ 61) × (length d.traded.trades < 2 ^ 61)
 
 -- how many items a venue takes

@@ -3,19 +3,19 @@ use Rattle.venue_rules.specs.declared.facts.Fact.{Fact}
 use Rattle.venue_rules.specs.declared.facts.Fact.TheVariants.{Quoted}
 use Rattle.venue_rules.specs.declared.facts.Room.{Room}
 use Rattle.venue_rules.specs.declared.facts.RoomQuote.{RoomQuote}
-use Rattle.venue_rules.specs.declared.replies.PictureEntry.{PictureEntry}
+use Rattle.venue_rules.specs.declared.replies.SnapshotEntry.{SnapshotEntry}
 use Rattle.venue_rules.specs.declared.replies.Reply.{Reply}
-use Rattle.venue_rules.specs.declared.replies.What.{What}
-use Rattle.venue_rules.specs.declared.replies.What.TheVariants.{Prices}
+use Rattle.venue_rules.specs.declared.replies.ReplyBody.{ReplyBody}
+use Rattle.venue_rules.specs.declared.replies.ReplyBody.TheVariants.{BookSnapshot}
 use Rattle.venue_rules.specs.declared.trail.RoomFact.{RoomFact}
 use Rattle.venue_rules.specs.Answer.{Answer}
 use Rattle.venue_rules.specs.Book.{picture}
 use Rattle.venue_rules.specs.Rooms.{first_quote, room_by_number}
 use Rattle.rfq_room.specs.Named.{room_with}
 use Rattle.rfq_room.specs.RoomFacts.{room_facts}
-use Rattle.room_answers.specs.Read.{first_made}
-use Rattle.read_back.specs.Quoted.{room_shown}
-use Rattle.read_back.specs.ReadOf.{are_later}
+use Rattle.rfq_handler.specs.Read.{first_made}
+use Rattle.trade_history.specs.Quoted.{room_shown}
+use Rattle.trade_history.specs.ReadOf.{are_later}
 
 -- What is read back of a quote that is the first of its room.
 
@@ -44,15 +44,15 @@ rooms_of (Some read) = read ∷ []
 
 -- Read off the answer to a quote: the first of a room is answered to its maker, then come the picture of the book and the quote itself.
 
-abbrev pub picture_of : What → Option (List PictureEntry)
-picture_of (Prices p) = Some p.entries
+abbrev pub picture_of : ReplyBody → Option (List SnapshotEntry)
+picture_of (BookSnapshot p) = Some p.entries
 picture_of _ = None
 
-abbrev pub picture_in : Option Reply → Option (List PictureEntry)
+abbrev pub picture_in : Option Reply → Option (List SnapshotEntry)
 picture_in None = None
 picture_in (Some r) = picture_of r.what
 
-abbrev pub read_in : Option (List PictureEntry) → Option RoomQuote → Option Room → Option RoomFact
+abbrev pub read_in : Option (List SnapshotEntry) → Option RoomQuote → Option Room → Option RoomFact
 read_in None quote room = None
 read_in (Some entries) None room = None
 read_in (Some entries) (Some q) None = None

@@ -4,7 +4,7 @@ use Rattle.venue_rules.specs.Answer.{Answer}
 use Rattle.venue_rules.specs.Market.{Market}
 use Rattle.venue_rules.specs.Run.{Input, run}
 use Rattle.venue_core.specs.State.{State, standing}
-use Rattle.venue_core.specs.Standing.{IsAfter, IsAnswer, IsHistory}
+use Rattle.venue_core.specs.VenueFacts.{IsAfter, IsAnswer, IsHistory}
 
 -- a venue of this market stands where these inputs lead
 pub record Stands (m : Market) (is : List Input) (s : State) : Type 0 where

@@ -7,12 +7,12 @@ ghost use Rattle.venue_rules.specs.Facts.{no_history};
 ghost use Rattle.venue_rules.specs.Lawful.{Lawful};
 ghost use Rattle.venue_rules.specs.Market.{Market};
 ghost use Rattle.venue_rules.specs.Run.{Input, rows, run};
-ghost use Rattle.venue_core.specs.Replay.{AreFitting, AreTold};
-ghost use Rattle.venue_core.specs.Standing.{IsAfter, IsAnswer, IsHistory};
+ghost use Rattle.venue_core.specs.Replay.{AreFitting, AreEmitted};
+ghost use Rattle.venue_core.specs.VenueFacts.{IsAfter, IsAnswer, IsHistory};
 ghost use Rattle.venue_core.specs.State.{State};
 ghost use Rattle.venue_core.specs.Taking.{IsSame, Stands, Takes, TakesAll};
 
-use fix_reading::printed_is_read;
+use fix_decoder::printed_is_read;
 use venue_rules::every_run_is_lawful;
 
 /// A venue on which nothing had happened, and that takes inputs one after another, stands where the rules' run of these
@@ -34,8 +34,8 @@ pub fn day_goes_on()
 {}
 
 /// What the rows of inputs tell is these inputs, where their messages have values of the dictionary's forms.
-pub fn rows_tell_their_inputs()
-    ensures { (rs : List TrailRow) (is told : List Input) → rs ≡ rows is → AreFitting is → AreTold rs told → told ≡ is }
+pub fn rows_emit_their_inputs()
+    ensures { (rs : List TrailRow) (is emitted : List Input) → rs ≡ rows is → AreFitting is → AreEmitted rs emitted → emitted ≡ is }
 {
     printed_is_read();
 }

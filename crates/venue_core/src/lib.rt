@@ -1,7 +1,6 @@
 //! The venue: what it answers to a message, and what it is after it (17 CFR 37.3(a)(3), 37.9(a)(2), (b)(1)).
 #![tactic(auto)]
 
-mod day;
 mod laws;
 mod market;
 mod messages;
@@ -11,8 +10,9 @@ mod plan;
 mod replay;
 mod unanswered;
 mod venue;
+mod venue_state;
 
-pub use laws::{day_goes_on, every_day_is_lawful, rows_tell_their_inputs};
+pub use laws::{day_goes_on, every_day_is_lawful, rows_emit_their_inputs};
 pub use plan::Plan;
 pub use replay::taken_of;
 pub use report_writer::message_of;

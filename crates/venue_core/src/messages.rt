@@ -5,12 +5,12 @@ ghost use Rattle.venue_core.specs.Files.{market_of};
 ghost use Rattle.venue_core.specs.Plan.{AreFew, IsListed, IsMade, IsPlanned};
 ghost use Rattle.venue_core.specs.State.{standing};
 
-use crate::day::Day;
 use crate::market::Market;
 use crate::of_orders::{plan_cancel, plan_cross, plan_order, plan_prices, plan_replace};
 use crate::of_rooms::{plan_quote, plan_request, plan_response, plan_withdrawal};
 use crate::plan::Plan;
 use crate::unanswered::{plan_nothing, plan_unsupported};
+use crate::venue_state::VenueState;
 use fix_dictionary::App;
 use sef_moment::Moment;
 use std::alloc::{AllocError, Global};
@@ -20,7 +20,7 @@ use venue_rules::Taken;
 pub(crate) fn plan_message(
     alloc: Global,
     market: &Market,
-    day: &mut Day,
+    day: &mut VenueState,
     taken: &Taken,
     moment: Moment,
 ) -> Result<Plan, AllocError>

@@ -5,14 +5,14 @@ ghost use Rattle.venue_rules.specs.Crosses.{answer_cross};
 ghost use Rattle.venue_rules.specs.MarketData.{answer_market_data};
 ghost use Rattle.venue_rules.specs.Orders.{answer_order};
 ghost use Rattle.venue_rules.specs.Run.{Tick, answer_input};
-ghost use Rattle.order_answers.specs.Market.{sender};
+ghost use Rattle.order_handler.specs.Market.{sender};
 ghost use Rattle.venue_core.specs.Files.{market_of};
 ghost use Rattle.venue_core.specs.Plan.{AreFew, IsListed, IsMade, IsPlanned};
 ghost use Rattle.venue_core.specs.State.{standing};
 
-use crate::day::{Day, counts};
 use crate::market::Market;
 use crate::plan::Plan;
+use crate::venue_state::{VenueState, counts};
 use fix_dictionary::{
     MarketDataRequest, NewOrderCross, NewOrderSingle, OrderCancelReplaceRequest, OrderCancelRequest,
 };
@@ -24,7 +24,7 @@ use venue_rules::Taken;
 pub(crate) fn plan_order(
     alloc: Global,
     market: &Market,
-    day: &mut Day,
+    day: &mut VenueState,
     taken: &Taken,
     order: &NewOrderSingle,
     moment: Moment,
@@ -36,7 +36,7 @@ pub(crate) fn plan_order(
     ensures made { IfOk result (IsMade (market_of market.now) day.new) }
 {
     let counts = counts(day);
-    let answer = order_answers::plan_order(
+    let answer = order_handler::plan_order(
         alloc,
         &market.participants,
         &market.instruments,
@@ -55,7 +55,7 @@ pub(crate) fn plan_order(
 pub(crate) fn plan_cancel(
     alloc: Global,
     market: &Market,
-    day: &mut Day,
+    day: &mut VenueState,
     taken: &Taken,
     request: &OrderCancelRequest,
 ) -> Result<Plan, AllocError>
@@ -66,7 +66,7 @@ pub(crate) fn plan_cancel(
     ensures made { IfOk result (IsMade (market_of market.now) day.new) }
 {
     let counts = counts(day);
-    let answer = order_answers::plan_cancel(
+    let answer = order_handler::plan_cancel(
         alloc,
         &market.participants,
         &market.instruments,
@@ -84,7 +84,7 @@ pub(crate) fn plan_cancel(
 pub(crate) fn plan_replace(
     alloc: Global,
     market: &Market,
-    day: &mut Day,
+    day: &mut VenueState,
     taken: &Taken,
     request: &OrderCancelReplaceRequest,
     moment: Moment,
@@ -96,7 +96,7 @@ pub(crate) fn plan_replace(
     ensures made { IfOk result (IsMade (market_of market.now) day.new) }
 {
     let counts = counts(day);
-    let answer = order_answers::plan_replace(
+    let answer = order_handler::plan_replace(
         alloc,
         &market.participants,
         &market.instruments,
@@ -115,14 +115,14 @@ pub(crate) fn plan_replace(
 pub(crate) fn plan_prices(
     alloc: Global,
     market: &Market,
-    day: &Day,
+    day: &VenueState,
     taken: &Taken,
     request: &MarketDataRequest,
 ) -> Result<Plan, AllocError>
     ensures planned { IfOk result (IsPlanned (standing day.now) (λ h. answer_market_data (market_of market.now) h (sender taken.now) request.now)) }
     ensures made { IfOk result (IsMade (market_of market.now) day.now) }
 {
-    let answer = order_answers::plan_prices(
+    let answer = order_handler::plan_prices(
         alloc,
         &market.participants,
         &market.instruments,
@@ -137,7 +137,7 @@ pub(crate) fn plan_prices(
 pub(crate) fn plan_cross(
     alloc: Global,
     market: &Market,
-    day: &mut Day,
+    day: &mut VenueState,
     taken: &Taken,
     cross: &NewOrderCross,
     moment: Moment,
@@ -149,7 +149,7 @@ pub(crate) fn plan_cross(
     ensures made { IfOk result (IsMade (market_of market.now) day.new) }
 {
     let counts = counts(day);
-    let answer = cross_answers::plan_cross(
+    let answer = cross_handler::plan_cross(
         alloc,
         &market.participants,
         &market.instruments,
@@ -168,7 +168,7 @@ pub(crate) fn plan_cross(
 pub(crate) fn plan_due(
     alloc: Global,
     market: &Market,
-    day: &mut Day,
+    day: &mut VenueState,
     moment: Moment,
 ) -> Result<Plan, AllocError>
     requires few { AreFew day.old }
@@ -178,7 +178,7 @@ pub(crate) fn plan_due(
     ensures made { IfOk result (IsMade (market_of market.now) day.new) }
 {
     let counts = counts(day);
-    let answer = cross_answers::plan_due(
+    let answer = cross_handler::plan_due(
         alloc,
         &market.participants,
         &market.instruments,

@@ -4,23 +4,23 @@ ghost use Rattle.venue_rules.specs.Quotes.{answer_quote};
 ghost use Rattle.venue_rules.specs.Requests.{answer_request};
 ghost use Rattle.venue_rules.specs.Responses.{answer_response};
 ghost use Rattle.venue_rules.specs.Withdrawals.{answer_withdrawal};
-ghost use Rattle.room_answers.specs.Senders.{sent_by};
+ghost use Rattle.rfq_handler.specs.Senders.{sent_by};
 ghost use Rattle.venue_core.specs.Files.{market_of};
 ghost use Rattle.venue_core.specs.Plan.{AreFew, IsListed, IsMade, IsPlanned};
 ghost use Rattle.venue_core.specs.Read.{picture_in, quote_read};
 ghost use Rattle.venue_core.specs.State.{standing};
 
-use crate::day::{Day, counts};
 use crate::market::Market;
 use crate::plan::Plan;
+use crate::venue_state::{VenueState, counts};
 use fix_dictionary::{Quote, QuoteCancel, QuoteRequest, QuoteResponse};
 use price_book::book_is_read_alone;
-use read_back::quoted_room;
+use rfq_handler::{RoomAnswer, Sender};
 use rfq_room::{Rooms, rooms_decide};
-use room_answers::{RoomAnswer, Sender};
 use sef_moment::Moment;
 use std::alloc::{AllocError, Global};
-use venue_rules::{PictureEntries, Reply, RoomFact, Taken, What};
+use trade_history::quoted_room;
+use venue_rules::{Reply, ReplyBody, RoomFact, SnapshotEntries, Taken};
 
 /// Who sent a message.
 fn sender(taken: &Taken) -> Sender
@@ -36,7 +36,7 @@ fn sender(taken: &Taken) -> Sender
 pub(crate) fn plan_request(
     alloc: Global,
     market: &Market,
-    day: &mut Day,
+    day: &mut VenueState,
     taken: &Taken,
     request: &QuoteRequest,
     moment: Moment,
@@ -49,7 +49,7 @@ pub(crate) fn plan_request(
 {
     rooms_decide();
     let sender = sender(taken);
-    let answer = room_answers::plan_request(
+    let answer = rfq_handler::plan_request(
         alloc,
         &market.participants,
         &market.instruments,
@@ -63,11 +63,11 @@ pub(crate) fn plan_request(
 }
 
 // The picture of the book that a reply is.
-fn picture_in(reply: Option<&Reply>) -> Option<&PictureEntries>
+fn picture_in(reply: Option<&Reply>) -> Option<&SnapshotEntries>
     ensures { option_map (λ e. e.now) result ≡ picture_in (option_map (λ r. r.now) reply.entry) }
 {
     match &reply?.what {
-        What::Prices(prices) => Some(&prices.entries),
+        ReplyBody::BookSnapshot(prices) => Some(&prices.entries),
         _ => None,
     }
 }
@@ -97,7 +97,7 @@ fn quote_read(
 pub(crate) fn plan_quote(
     alloc: Global,
     market: &Market,
-    day: &mut Day,
+    day: &mut VenueState,
     taken: &Taken,
     quote: &Quote,
     moment: Moment,
@@ -111,7 +111,7 @@ pub(crate) fn plan_quote(
     rooms_decide();
     book_is_read_alone();
     let sender = sender(taken);
-    let answer = room_answers::plan_quote(
+    let answer = rfq_handler::plan_quote(
         alloc,
         &market.participants,
         &market.instruments,
@@ -131,7 +131,7 @@ pub(crate) fn plan_quote(
 pub(crate) fn plan_withdrawal(
     alloc: Global,
     market: &Market,
-    day: &mut Day,
+    day: &mut VenueState,
     taken: &Taken,
     request: &QuoteCancel,
     moment: Moment,
@@ -144,7 +144,7 @@ pub(crate) fn plan_withdrawal(
 {
     rooms_decide();
     let sender = sender(taken);
-    let answer = room_answers::plan_withdrawal(
+    let answer = rfq_handler::plan_withdrawal(
         alloc,
         &market.instruments,
         &mut day.rooms,
@@ -160,7 +160,7 @@ pub(crate) fn plan_withdrawal(
 pub(crate) fn plan_response(
     alloc: Global,
     market: &Market,
-    day: &mut Day,
+    day: &mut VenueState,
     taken: &Taken,
     response: &QuoteResponse,
     moment: Moment,
@@ -174,7 +174,7 @@ pub(crate) fn plan_response(
     rooms_decide();
     let sender = sender(taken);
     let counts = counts(day);
-    let answer = room_answers::plan_response(
+    let answer = rfq_handler::plan_response(
         alloc,
         &market.instruments,
         &mut day.rooms,

@@ -3,8 +3,8 @@ ghost use Rattle.std.specs.Prelude.{◌≡◌, ◌≤◌};
 ghost use Rattle.venue_core.specs.Plan.{answer_of};
 ghost use Rattle.venue_core.specs.declared.plan.Part.TheVariants.{OfOrders, OfRooms};
 
-use order_answers::OrderAnswer;
-use room_answers::RoomAnswer;
+use order_handler::OrderAnswer;
+use rfq_handler::RoomAnswer;
 use std::marker::Model;
 use venue_rules::{Reply, RoomFact};
 

@@ -1,21 +1,21 @@
 //! Messages that the venue does not process.
 ghost use Rattle.std.specs.Prelude.{IfOk};
 ghost use Rattle.venue_rules.specs.declared.refusals.BusinessRefusal.TheVariants.{UnsupportedMessageType};
-ghost use Rattle.venue_rules.specs.Answer.{no_answer, unprocessed};
+ghost use Rattle.venue_rules.specs.Answer.{no_answer, business_reject};
 ghost use Rattle.venue_rules.specs.Market.{Market};
-ghost use Rattle.order_answers.specs.Market.{sender};
-ghost use Rattle.venue_core.specs.declared.day.Day.{Day as DayValue};
+ghost use Rattle.order_handler.specs.Market.{sender};
+ghost use Rattle.venue_core.specs.declared.venue_state.VenueState.{VenueState as DayValue};
 ghost use Rattle.venue_core.specs.Plan.{IsMade, IsPlanned};
-ghost use Rattle.venue_core.specs.State.{Standing};
+ghost use Rattle.venue_core.specs.State.{VenueFacts};
 
 use crate::plan::Plan;
-use order_answers::{OrderAnswer, unprocessed};
+use order_handler::{OrderAnswer, business_reject};
 use std::alloc::{AllocError, Global};
 use venue_rules::{BusinessRefusal, Taken};
 
 /// A BusinessMessageReject (j) is not answered.
 pub(crate) fn plan_nothing(alloc: Global) -> Plan
-    ensures planned { (s : Standing) → IsPlanned s (λ h. no_answer) result }
+    ensures planned { (s : VenueFacts) → IsPlanned s (λ h. no_answer) result }
     ensures made { (m : Market) (d : DayValue) → IsMade m d result }
 {
     let answer = OrderAnswer::of_replies(alloc, Vec::new(alloc));
@@ -24,9 +24,9 @@ pub(crate) fn plan_nothing(alloc: Global) -> Plan
 
 /// A message of a type that only the venue sends, or of none that is known, is not processed.
 pub(crate) fn plan_unsupported(alloc: Global, taken: &Taken) -> Result<Plan, AllocError>
-    ensures planned { IfOk result (λ p. (s : Standing) → IsPlanned s (λ h. unprocessed (sender taken.now) UnsupportedMessageType) p) }
+    ensures planned { IfOk result (λ p. (s : VenueFacts) → IsPlanned s (λ h. business_reject (sender taken.now) UnsupportedMessageType) p) }
     ensures made { IfOk result (λ p. (m : Market) (d : DayValue) → IsMade m d p) }
 {
-    let answer = unprocessed(alloc, taken, BusinessRefusal::UnsupportedMessageType)?;
+    let answer = business_reject(alloc, taken, BusinessRefusal::UnsupportedMessageType)?;
     Ok(Plan::of_orders(answer))
 }

@@ -5,14 +5,14 @@ ghost use Rattle.venue_rules.specs.Facts.{History, no_history};
 ghost use Rattle.venue_rules.specs.Readings.{room_fact, trade_facts};
 ghost use Rattle.venue_rules.specs.Run.{Message, Tick};
 ghost use Rattle.venue_core.specs.Plan.{IsPlanOf, answer_of, most_items};
-ghost use Rattle.venue_core.specs.Standing.{IsAfter, IsAnswer, IsHistory};
+ghost use Rattle.venue_core.specs.VenueFacts.{IsAfter, IsAnswer, IsHistory};
 ghost use Rattle.venue_core.specs.State.{standing};
 
-use crate::day::{Day, add_plan, new_day};
 use crate::market::Market;
 use crate::messages::plan_message;
 use crate::of_orders::plan_due;
 use crate::plan::Plan;
+use crate::venue_state::{VenueState, add_plan, new_day};
 use cross_delay::delay_is_read_alone;
 use instruments::Instruments;
 use participants::Participants;
@@ -25,7 +25,7 @@ use venue_rules::{RoomFact, Taken, TradeFact};
 pub struct Venue {
     alloc: Global,
     market: Market,
-    day: Day,
+    day: VenueState,
     items: u64,
 }
 

@@ -5,10 +5,10 @@ use Rattle.std.specs.Io.KnownBytes.{Appends}
 use Rattle.std.proofs.lemmas.Bool.{and_parts}
 use Rattle.participants.specs.ParticipantFile.{ParticipantFile}
 use Rattle.participants.specs.Rows.{is_participant_file, most_participants}
-use Rattle.run_venue.specs.Closing.{Closing}
+use Rattle.venue_runtime.specs.Closing.{Closing}
 use Rattle.venue_rules.specs.Market.{Market}
 use Rattle.venue_rules.specs.declared.trail.TrailRow.{TrailRow}
-use Rattle.venue_main.specs.Serve.{HasServed, TellsClosed, closing_line, counted, is_message}
+use Rattle.venue_main.specs.Serve.{HasServed, EmitsClosed, closing_line, counted, is_message}
 
 -- a file names 32 participants at most
 pub few_names : (file : ParticipantFile) → is_participant_file file ≡ true → length file.names ≤ 32
@@ -18,9 +18,9 @@ few_names file h =
     leb-true (length file.names) most_participants few.0
 
 -- what is told of so many sessions, which were closed, and of rows among which are as many messages as among those that were kept
-pub tells_read : (turns : ℕ) (m : Market) (kept : List TrailRow) (c : Closing) (count : ℕ) (read : List TrailRow) (before after : Option (List ℕ)) → HasServed turns m kept c → length c.sessions ≡ count
-    → count_by is_message read ≡ count_by is_message c.rows → Appends before after (closing_line count read) → TellsClosed turns m kept before after
-tells_read turns m kept c count read before after served counts same written =
+pub emits_read : (turns : ℕ) (m : Market) (kept : List TrailRow) (c : Closing) (count : ℕ) (read : List TrailRow) (before after : Option (List ℕ)) → HasServed turns m kept c → length c.sessions ≡ count
+    → count_by is_message read ≡ count_by is_message c.rows → Appends before after (closing_line count read) → EmitsClosed turns m kept before after
+emits_read turns m kept c count read before after served counts same written =
     let each : length c.sessions ≡ length m.participants.names = served.closed.counted.sessions ∙ served.each in
     let line : closing_line count read ≡ closing_line (length m.participants.names) c.rows =
     ap (λ (n : ℕ). counted n (count_by is_message read)) (sym counts ∙ each) ∙ ap (counted (length m.participants.names)) same in

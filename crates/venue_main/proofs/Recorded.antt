@@ -5,12 +5,12 @@ use Rattle.sqlite_trees.specs.declared.store.Store.{Ghosts}
 use Rattle.sqlite.specs.Held.{Held, state}
 use Rattle.sqlite.specs.State.{State, HasCleanDisk}
 use Rattle.audit_trail.specs.declared.files.Files.{Files}
-use Rattle.trail_keeper.specs.Journal.{Began, Recording, ShowsAll, disk}
-use Rattle.run_venue.specs.Closing.{Closing}
+use Rattle.trail_journal.specs.Journal.{Began, Recording, ShowsAll, disk}
+use Rattle.venue_runtime.specs.Closing.{Closing}
 use Rattle.venue_rules.specs.Market.{Market}
 use Rattle.venue_rules.specs.declared.trail.TrailFault.{TrailFault}
 use Rattle.venue_rules.specs.declared.trail.TrailFault.TheVariants.{Refused, OtherFiles, BadRow, BadDelay, OtherVersion, NoMemory}
-use Rattle.venue_main.specs.Recorded.{HasRecorded, IsRecordingFailure, IsRefusalOf, UnlessTelling}
+use Rattle.venue_main.specs.Recorded.{HasRecorded, IsRecordingFailure, IsRefusalOf, UnlessEmitting}
 use Rattle.venue_main.specs.Serve.{HasServed, UnlessWriting, closing_line}
 use Rattle.venue_main.specs.declared.failure.Failure.{Failure}
 use Rattle.venue_main.specs.declared.failure.Failure.TheVariants.{Stopped, Served, CommandLine, Participants, Instruments, Trail as TrailRefused}
@@ -66,10 +66,10 @@ unless_written Trail P p = p
 unless_written Network P p = p
 unless_written Thread P p = p
 
-pub unless_told : (failure : Failure) (P : Type 0) → P → UnlessTelling failure P
-unless_told (Stopped fault) P p = p
-unless_told (Served fault) P p = unless_written fault P p
-unless_told CommandLine P p = p
-unless_told (Participants number) P p = p
-unless_told (Instruments number) P p = p
-unless_told (TrailRefused number) P p = p
+pub unless_emitted : (failure : Failure) (P : Type 0) → P → UnlessEmitting failure P
+unless_emitted (Stopped fault) P p = p
+unless_emitted (Served fault) P p = unless_written fault P p
+unless_emitted CommandLine P p = p
+unless_emitted (Participants number) P p = p
+unless_emitted (Instruments number) P p = p
+unless_emitted (TrailRefused number) P p = p

@@ -10,7 +10,7 @@ use Rattle.venue_main.specs.declared.market.FilesFault.{FilesFault}
 use Rattle.venue_main.specs.declared.market.FilesFault.TheVariants as files
 use Rattle.venue_main.specs.declared.failure.Failure.{Failure}
 use Rattle.venue_main.specs.declared.failure.Failure.TheVariants.{Stopped, Served, CommandLine, Participants, Instruments, Trail as TrailRefused}
-use Rattle.answer_stream.specs.declared.fault.OnceFault.TheVariants.{Memory, Output}
+use Rattle.once_session.specs.declared.fault.OnceFault.TheVariants.{Memory, Output}
 use Rattle.gateway.specs.declared.threads.RunFault.{RunFault}
 use Rattle.gateway.specs.declared.threads.RunFault.TheVariants as run
 use Rattle.sqlite.specs.declared.error.Error.{Error}

@@ -5,8 +5,8 @@ use Rattle.sqlite_trees.specs.declared.store.Store.{Ghosts}
 use Rattle.sqlite.specs.State.{State, HasCleanDisk}
 use Rattle.audit_trail.specs.Trail.{shown_rows}
 use Rattle.audit_trail.specs.declared.files.Files.{Files}
-use Rattle.trail_keeper.specs.Journal.{Began, Recording}
-use Rattle.run_venue.specs.Closing.{Closing}
+use Rattle.trail_journal.specs.Journal.{Began, Recording}
+use Rattle.venue_runtime.specs.Closing.{Closing}
 use Rattle.venue_rules.specs.Market.{Market}
 use Rattle.venue_rules.specs.declared.trail.TrailFault.{TrailFault}
 use Rattle.venue_rules.specs.declared.trail.TrailFault.TheVariants.{Refused}
@@ -30,13 +30,13 @@ pub record HasRecorded {S : Type 0} (g : Ghosts S) (turns : ℕ) (m : Market) (f
   pub written : HasCleanDisk new → Appends before after (closing_line (length m.participants.names) closed.rows)
 
 -- the fact, unless the closing line was not written
-abbrev pub UnlessTelling : Failure → Type 0 → Type 0
-UnlessTelling (Stopped fault) fact = fact
-UnlessTelling (Served fault) fact = UnlessWriting fault fact
-UnlessTelling CommandLine fact = fact
-UnlessTelling (Participants number) fact = fact
-UnlessTelling (Instruments number) fact = fact
-UnlessTelling (TrailRefused number) fact = fact
+abbrev pub UnlessEmitting : Failure → Type 0 → Type 0
+UnlessEmitting (Stopped fault) fact = fact
+UnlessEmitting (Served fault) fact = UnlessWriting fault fact
+UnlessEmitting CommandLine fact = fact
+UnlessEmitting (Participants number) fact = fact
+UnlessEmitting (Instruments number) fact = fact
+UnlessEmitting (TrailRefused number) fact = fact
 
 -- A trail with this fault ends the program so: as its number says, or, where the store refused it, as a trail whose disk failed.
 abbrev pub IsRefusalOf : TrailFault → Failure → Type 0

@@ -2,8 +2,8 @@
 use Rattle.std.specs.Prelude.{◌≡◌, ℕ, Bool, ◌^◌, ◌&&◌, ◌++◌, List, [], ◌∷◌, ◌==◌, nat_le, codes, decimal, not, length, Option}
 use Rattle.std.specs.List.{count_by}
 use Rattle.std.specs.Io.KnownBytes.{Appends}
-use Rattle.run_venue.specs.Closing.{Closing, HasClosed}
-use Rattle.run_venue.specs.Starting.{Outside}
+use Rattle.venue_runtime.specs.Closing.{Closing, HasClosed}
+use Rattle.venue_runtime.specs.Starting.{SessionIo}
 use Rattle.venue_rules.specs.Market.{Market}
 use Rattle.venue_rules.specs.declared.trail.TrailRow.{TrailRow}
 use Rattle.venue_main.specs.declared.serve.ServeFault.{ServeFault}
@@ -27,15 +27,15 @@ closing_line sessions rows = counted sessions (count_by is_message rows)
 
 -- a venue of this market ran from these rows for so many turns, on a line for each participant, and this is what was closed of it
 pub record HasServed (turns : ℕ) (m : Market) (kept : List TrailRow) (c : Closing) : Type 0 where
-  pub lines : List Outside
+  pub lines : List SessionIo
   pub each : length lines ≡ length m.participants.names
-  pub told : List ℕ
-  pub told' : List ℕ
-  pub closed : HasClosed turns m kept lines told told' c
+  pub emitted : List ℕ
+  pub emitted' : List ℕ
+  pub closed : HasClosed turns m kept lines emitted emitted' c
 
 -- Such a venue was closed, and what was written is the one line that tells how many sessions it had, one for each participant, and how
 -- many of the rows that it kept are messages.
-pub record TellsClosed (turns : ℕ) (m : Market) (kept : List TrailRow) (before after : Option (List ℕ)) : Type 0 where
+pub record EmitsClosed (turns : ℕ) (m : Market) (kept : List TrailRow) (before after : Option (List ℕ)) : Type 0 where
   pub closed : Closing
   pub served : HasServed turns m kept closed
   pub sessions : length closed.sessions ≡ length m.participants.names

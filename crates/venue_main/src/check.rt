@@ -33,7 +33,7 @@ pub fn check<W: Write>(
     instruments_text: &[u8],
     writer: &mut W,
 ) -> Result<(), CheckFault>
-    ensures told { OnOk result ((file : ParticipantFile) × (rows : List Instrument) × AreRead participants_text.now instruments_text.now file rows
+    ensures emitted { OnOk result ((file : ParticipantFile) × (rows : List Instrument) × AreRead participants_text.now instruments_text.now file rows
         × Appends (W.contents writer.old) (W.contents writer.new) (summary file rows)) }
     ensures fault { IfErr result (Stops participants_text.now instruments_text.now) }
     ensures unwritten { IfErr result (λ fault. UnlessWriting fault (Keeps (W.contents writer.old) (W.contents writer.new))) }
@@ -43,16 +43,16 @@ pub fn check<W: Write>(
         Err(FilesFault::Participants(fault)) => return Err(CheckFault::Participants(fault)),
         Err(FilesFault::Instruments(fault)) => return Err(CheckFault::Instruments(fault)),
     };
-    let told = tell(&market, writer);
+    let emitted = write_summary(&market, writer);
     drop(market);
-    match told {
+    match emitted {
         Ok(()) => Ok(()),
         Err(_) => Err(CheckFault::Output),
     }
 }
 
 /// Writes how many of each the files have.
-fn tell<W: Write>(market: &Market, writer: &mut W) -> io::Result<()>
+fn write_summary<W: Write>(market: &Market, writer: &mut W) -> io::Result<()>
     ensures { OnOk result (Appends (W.contents writer.old) (W.contents writer.new) (summary market.now.participants market.now.instruments)) }
 {
     let names = market.participants.len();

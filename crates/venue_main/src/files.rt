@@ -8,7 +8,7 @@ use std::fs;
 use std::io::{ErrorKind, Read};
 
 /// How many bytes a file may have.
-const LONGEST: u64 = 1_048_576;
+const MAX_FILE_SIZE: u64 = 1_048_576;
 
 /// The paths of the two files.
 #[derive(Drop)]
@@ -47,11 +47,11 @@ pub fn text_of<R: Read + Drop>(alloc: Global, reader: R) -> Result<Vec<u8>, Once
     ensures short { IfOk result (λ text. length text.items ≤ 1_048_576) }
 {
     let mut text = Vec::new(alloc);
-    match reader.take(LONGEST + 1).read_to_end(&mut text) {
+    match reader.take(MAX_FILE_SIZE + 1).read_to_end(&mut text) {
         Ok(_) => {}
         Err(error) => return Err(fault_of(error.kind())),
     }
-    if text.len() as u64 > LONGEST {
+    if text.len() as u64 > MAX_FILE_SIZE {
         return Err(OnceFault::Input);
     }
     Ok(text)

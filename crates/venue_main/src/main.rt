@@ -1,7 +1,6 @@
 //! The program of the venue.
 #![tactic(auto)]
 
-mod asked;
 mod check;
 mod command_line;
 mod failure;
@@ -10,11 +9,11 @@ mod market;
 mod once;
 mod recording;
 mod serve;
+mod serve_request;
 mod service;
 mod serving;
 mod trail_file;
 
-use asked::{Asked, Kept, asked_for};
 use audit_trail::Files;
 pub use check::{CheckFault, check};
 use command_line::{Task, task_given};
@@ -24,7 +23,8 @@ pub use market::{FilesFault, Market};
 pub use once::{OnceFault, once};
 pub use recording::serve_recorded;
 use sef_moment::Moment;
-pub use serve::{ServeFault, serve, tell_closed};
+pub use serve::{ServeFault, emit_closed, serve};
+use serve_request::{ServeRequest, StoredTrail, asked_for};
 use service::Service;
 use sqlite::{Alter, Connection};
 use std::alloc::Global;
@@ -111,7 +111,7 @@ fn serve_trail<
 }
 
 /// Does what the command line asks for. What is to be served is handed back, since `main` alone may start threads.
-fn run(rt: &HostRuntime) -> Result<Option<Asked>, Failure> {
+fn run(rt: &HostRuntime) -> Result<Option<ServeRequest>, Failure> {
     match task_given(rt)? {
         Task::Once { paths, at } => answer_texts(
             rt.alloc(),
@@ -140,14 +140,14 @@ fn main(rt: HostRuntime) -> ExitCode {
     let ended = match run(&rt) {
         Ok(
             Some(
-                Asked {
+                ServeRequest {
                     market,
                     service,
                     kept,
                 },
             ),
         ) => match kept {
-            Some(Kept { conn, files }) => match serve_trail(
+            Some(StoredTrail { conn, files }) => match serve_trail(
                 &rt,
                 rt.alloc(),
                 conn,

@@ -1,3 +1,3 @@
 //! One participant's stream, answered to its end.
 
-pub use answer_stream::{OnceFault, answer_stream as once};
+pub use once_session::{OnceFault, answer_stream as once};

@@ -4,11 +4,11 @@ ghost use Rattle.std.specs.Prelude.{◌≡◌, ◌≢◌, IfErr, IfOk, OnOk, map
 ghost use Rattle.std.specs.Io.KnownBytes.{Appends, Keeps};
 ghost use Rattle.sqlite.specs.Held.{state};
 ghost use Rattle.sqlite.specs.State.{HasCleanDisk};
-ghost use Rattle.trail_keeper.specs.Journal.{Began, ShowsAll, disk};
-ghost use Rattle.trail_keeper.specs.Written.{LeadsTo};
-ghost use Rattle.run_venue.specs.Closing.{closing};
+ghost use Rattle.trail_journal.specs.Journal.{Began, ShowsAll, disk};
+ghost use Rattle.trail_journal.specs.Written.{LeadsTo};
+ghost use Rattle.venue_runtime.specs.Closing.{closing};
 ghost use Rattle.venue_core.specs.State.{standing};
-ghost use Rattle.venue_main.specs.Recorded.{HasRecorded, IsRecordingFailure, IsRefusalOf, UnlessTelling};
+ghost use Rattle.venue_main.specs.Recorded.{HasRecorded, IsRecordingFailure, IsRefusalOf, UnlessEmitting};
 ghost use Rattle.venue_main.specs.Serve.{HasServed, UnlessWriting, closing_line};
 ghost use Rattle.venue_main.specs.declared.failure.Failure.TheVariants.{Served};
 ghost use Rattle.venue_main.specs.declared.serve.ServeFault.TheVariants.{Output};
@@ -30,7 +30,7 @@ use std::sync::Wait;
 use std::thread::Threads;
 use std::time::Clock;
 use tcp_line::TcpLine;
-use trail_keeper::{Journal, start_trail};
+use trail_journal::{Journal, start_trail};
 use venue_core::Venue;
 use venue_rules::TrailFault;
 
@@ -59,8 +59,8 @@ pub fn serve_recorded<
     notes: &mut N,
     output: &mut W,
 ) -> Result<Connection<S>, Failure>
-    ensures told { IfOk result (λ back. HasRecorded S.Store service.turns (record { participants = market.participants; instruments = market.instruments }) files.now (state S.Store conn) (state S.Store back) (W.contents output.old) (W.contents output.new)) }
-    ensures silent { IfErr result (λ failure. UnlessTelling failure (Keeps (W.contents output.old) (W.contents output.new))) }
+    ensures emitted { IfOk result (λ back. HasRecorded S.Store service.turns (record { participants = market.participants; instruments = market.instruments }) files.now (state S.Store conn) (state S.Store back) (W.contents output.old) (W.contents output.new)) }
+    ensures silent { IfErr result (λ failure. UnlessEmitting failure (Keeps (W.contents output.old) (W.contents output.new))) }
     ensures fault { IfErr result IsRecordingFailure }
 {
     let (journal, venue) = begin(alloc, conn, files, market)?;
@@ -70,7 +70,7 @@ pub fn serve_recorded<
     };
     let sessions = closed.sessions.len();
     let mut journal = keeper_of(closed);
-    match tell_read(sessions, &mut journal, output) {
+    match emit_read(sessions, &mut journal, output) {
         Ok(()) => Ok(journal.into_connection()),
         Err(fault) => {
             drop(journal);
@@ -132,19 +132,19 @@ fn serve_journal<
     notes: &mut N,
 ) -> Result<Closed<TcpLine<T>, Journal<S>>, ServeFault>
     requires leads { LeadsTo journal.rows venue }
-    ensures served { IfOk result (λ c. HasServed service.turns venue.market journal.rows (closing (map (λ s. s.state) c.sessions.items) (map (λ l. l.account) c.lines.items) c.left.items c.replies_left.items c.queues.items (standing c.venue.day) c.keeper.rows true)) }
+    ensures served { IfOk result (λ c. HasServed service.turns venue.market journal.rows (closing (map (λ s. s.state) c.sessions.items) (map (λ l. l.log) c.lines.items) c.left.items c.replies_left.items c.queues.items (standing c.venue.day) c.keeper.rows true)) }
     ensures fault { IfErr result (λ fault. fault ≢ Output) }
 {
     serve_over(rt, alloc, clock, venue, journal, service, notes)
 }
 
 /// Reads the rows back, and tells how many sessions were served and how many of the rows are messages.
-fn tell_read<S: Alter + Drop, W: Write>(
+fn emit_read<S: Alter + Drop, W: Write>(
     sessions: usize,
     journal: &mut Journal<S>,
     output: &mut W,
 ) -> Result<(), ServeFault>
-    ensures told { HasCleanDisk (disk S.Store journal.new) → OnOk result (Appends (W.contents output.old) (W.contents output.new) (closing_line sessions journal.old.rows)) }
+    ensures emitted { HasCleanDisk (disk S.Store journal.new) → OnOk result (Appends (W.contents output.old) (W.contents output.new) (closing_line sessions journal.old.rows)) }
     ensures shown { HasCleanDisk (disk S.Store journal.new) → OnOk result (ShowsAll S.Store journal.new) }
     ensures same { journal.new.rows ≡ journal.old.rows }
     ensures silent { IfErr result (λ fault. UnlessWriting fault (Keeps (W.contents output.old) (W.contents output.new))) }

@@ -3,9 +3,9 @@
 ghost use Rattle.std.specs.Prelude.{◌≡◌, ◌≢◌, ◌+◌, ℕ, List, [], IfErr, IfOk, OnOk, length, map, true};
 ghost use Rattle.std.specs.Io.KnownBytes.{Appends, Keeps};
 ghost use Rattle.std.specs.List.{count_by};
-ghost use Rattle.run_venue.specs.Closing.{closing};
+ghost use Rattle.venue_runtime.specs.Closing.{closing};
 ghost use Rattle.venue_core.specs.State.{standing};
-ghost use Rattle.venue_main.specs.Serve.{HasServed, TellsClosed, UnlessWriting, closing_line, counted, is_message};
+ghost use Rattle.venue_main.specs.Serve.{HasServed, EmitsClosed, UnlessWriting, closing_line, counted, is_message};
 ghost use Rattle.venue_main.specs.Failures.{run_fault};
 ghost use Rattle.venue_main.specs.declared.serve.ServeFault.TheVariants.{Memory, Output};
 
@@ -90,13 +90,13 @@ pub fn serve<
     notes: &mut N,
     output: &mut W,
 ) -> Result<(), ServeFault>
-    ensures told { OnOk result (TellsClosed service.turns (record { participants = market.participants; instruments = market.instruments }) [] (W.contents output.old) (W.contents output.new)) }
+    ensures emitted { OnOk result (EmitsClosed service.turns (record { participants = market.participants; instruments = market.instruments }) [] (W.contents output.old) (W.contents output.new)) }
     ensures silent { IfErr result (λ fault. UnlessWriting fault (Keeps (W.contents output.old) (W.contents output.new))) }
 {
     let closed = serve_in_memory(rt, alloc, *rt, market, service, notes)?;
-    let told = tell_closed(&closed, output);
+    let emitted = emit_closed(&closed, output);
     drop(keeper_of(closed));
-    match told {
+    match emitted {
         Ok(()) => Ok(()),
         Err(_) => Err(ServeFault::Output),
     }
@@ -115,7 +115,7 @@ fn serve_in_memory<
     service: Service,
     notes: &mut N,
 ) -> Result<Closed<TcpLine<T>, ListTrail>, ServeFault>
-    ensures served { IfOk result (λ c. HasServed service.turns (record { participants = market.participants; instruments = market.instruments }) [] (closing (map (λ s. s.state) c.sessions.items) (map (λ l. l.account) c.lines.items) c.left.items c.replies_left.items c.queues.items (standing c.venue.day) c.keeper.rows true)) }
+    ensures served { IfOk result (λ c. HasServed service.turns (record { participants = market.participants; instruments = market.instruments }) [] (closing (map (λ s. s.state) c.sessions.items) (map (λ l. l.log) c.lines.items) c.left.items c.replies_left.items c.queues.items (standing c.venue.day) c.keeper.rows true)) }
     ensures fault { IfErr result (λ fault. fault ≢ Output) }
 {
     let venue = Venue::open(alloc, market.participants, market.instruments)?;
@@ -124,7 +124,7 @@ fn serve_in_memory<
 }
 
 /// Tells how many sessions were served, and how many messages were taken: `closed sessions 5 taken 2`.
-pub fn tell_closed<L: Drop, W: Write>(
+pub fn emit_closed<L: Drop, W: Write>(
     closed: &Closed<L, ListTrail>,
     output: &mut W,
 ) -> io::Result<()>

@@ -9,7 +9,7 @@ const FIRST_PORT: u64 = 1_024;
 const LAST_PORT: u64 = 65_500;
 
 /// How many turns may be asked for.
-const MOST_TURNS: u64 = 1_000_000_000;
+const MAX_TURNS: u64 = 1_000_000_000;
 
 /// Where a venue is served, and for how many turns.
 #[derive(Clone, Copy)]
@@ -30,7 +30,7 @@ impl Service {
         if port < FIRST_PORT || port > LAST_PORT {
             return None;
         }
-        if turns < 1 || turns > MOST_TURNS {
+        if turns < 1 || turns > MAX_TURNS {
             return None;
         }
         Some(Service {

@@ -1,8 +1,8 @@
 //! A venue whose participants' sessions are each served over TCP, with any keeper of its rows.
 
 ghost use Rattle.std.specs.Prelude.{◌≡◌, ◌≢◌, ◌≤◌, ◌+◌, ◌^◌, List, IfOk, IfErr, length, map, true};
-ghost use Rattle.run_venue.specs.Closing.{closing};
-ghost use Rattle.venue_core.specs.Standing.{IsHistory};
+ghost use Rattle.venue_runtime.specs.Closing.{closing};
+ghost use Rattle.venue_core.specs.VenueFacts.{IsHistory};
 ghost use Rattle.venue_core.specs.State.{standing};
 ghost use Rattle.venue_rules.specs.Run.{Input, rows, run};
 ghost use Rattle.venue_worker.specs.Inputs.{AreRising};
@@ -14,7 +14,6 @@ use crate::service::Service;
 use gateway::closing::Closed;
 use gateway::threads::RunFault;
 use participants::{Participants, Who};
-use run_venue::run_venue;
 use std::alloc::Global;
 use std::io::{self, ErrorKind, Write};
 use std::mem::drop;
@@ -22,9 +21,10 @@ use std::net::{Net, TcpListener, TcpStream};
 use std::sync::Wait;
 use std::thread::Threads;
 use std::time::Clock;
-use tcp_line::{Opened, Outside, TcpLine, WorkerClock, open_lines};
+use tcp_line::{SessionIo, TcpLine, VenueIo, WorkerClock, open_lines};
 use venue_core::Venue;
 use venue_rules::Keep;
+use venue_runtime::run_venue;
 
 /// Opens a line for each participant, tells who listens where once all do, and runs the venue on these lines until it closes. What a
 /// counterparty did not take yet waits in its line.
@@ -45,7 +45,7 @@ pub(crate) fn serve_over<
     requires clean { K.is_clean keeper ≡ true }
     requires history { (before : List Input) × (K.rows keeper ≡ rows before) × (length before ≤ 10 ^ 15) × IsHistory venue (run venue.market before).history × AreRising before }
     requires items { venue.items ≤ length (K.rows keeper) }
-    ensures served { IfOk result (λ c. HasServed service.turns venue.market (K.rows keeper) (closing (map (λ s. s.state) c.sessions.items) (map (λ l. l.account) c.lines.items) c.left.items c.replies_left.items c.queues.items (standing c.venue.day) (K.rows c.keeper) (K.is_clean c.keeper))) }
+    ensures served { IfOk result (λ c. HasServed service.turns venue.market (K.rows keeper) (closing (map (λ s. s.state) c.sessions.items) (map (λ l. l.log) c.lines.items) c.left.items c.replies_left.items c.queues.items (standing c.venue.day) (K.rows c.keeper) (K.is_clean c.keeper))) }
     ensures fault { IfErr result (λ fault. fault ≢ Output) }
 {
     let count = count_of(venue.participants());
@@ -58,7 +58,7 @@ pub(crate) fn serve_over<
             return Err(fault_of(error.kind()));
         }
     };
-    let Opened { sessions, worker } = opened;
+    let VenueIo { sessions, worker } = opened;
     // Where nobody can be told the venue is served all the same.
     let _ = announce(venue.participants(), count, port, notes);
     match run_lines(rt, alloc, venue, keeper, sessions, worker, service.turns()) {
@@ -99,7 +99,7 @@ fn run_lines<R: Threads + Wait + Sync, T: Clock + Send + Drop, K: Keep + Drop>(
     alloc: Global,
     venue: Venue,
     keeper: K,
-    lines: Vec<Outside<T>>,
+    lines: Vec<SessionIo<T>>,
     clock: WorkerClock<T>,
     turns: u64,
 ) -> Result<Closed<TcpLine<T>, K>, RunFault>
@@ -107,7 +107,7 @@ fn run_lines<R: Threads + Wait + Sync, T: Clock + Send + Drop, K: Keep + Drop>(
     requires clean { K.is_clean keeper ≡ true }
     requires history { (before : List Input) × (K.rows keeper ≡ rows before) × (length before ≤ 10 ^ 15) × IsHistory venue (run venue.market before).history × AreRising before }
     requires items { venue.items ≤ length (K.rows keeper) }
-    ensures { IfOk result (λ c. HasServed turns venue.market (K.rows keeper) (closing (map (λ s. s.state) c.sessions.items) (map (λ l. l.account) c.lines.items) c.left.items c.replies_left.items c.queues.items (standing c.venue.day) (K.rows c.keeper) (K.is_clean c.keeper))) }
+    ensures { IfOk result (λ c. HasServed turns venue.market (K.rows keeper) (closing (map (λ s. s.state) c.sessions.items) (map (λ l. l.log) c.lines.items) c.left.items c.replies_left.items c.queues.items (standing c.venue.day) (K.rows c.keeper) (K.is_clean c.keeper))) }
 {
     let (closed, clock) = run_venue(rt, alloc, venue, keeper, lines, clock, turns)?;
     drop(clock);

@@ -1,7 +1,7 @@
 //! The file of a trail.
 
 ghost use Rattle.std.specs.Prelude.{◌≡◌, ◌⊎◌, IfErr, IfOk, IfSome, IsTrue, take};
-ghost use Rattle.answer_stream.specs.declared.fault.OnceFault.TheVariants.{Memory};
+ghost use Rattle.once_session.specs.declared.fault.OnceFault.TheVariants.{Memory};
 ghost use Rattle.venue_main.specs.TrailFile.{MayBegin};
 ghost use Rattle.venue_main.specs.declared.failure.Failure.TheVariants.{Served, Stopped};
 ghost use Rattle.venue_main.specs.declared.serve.ServeFault.TheVariants.{Trail};
@@ -15,12 +15,12 @@ use std::fs;
 use std::io::{self, ErrorKind, Read};
 
 /// What an SQLite database begins with, and a byte 0.
-const BEGINNING: &[u8] = b"SQLite format 3\0";
+const SQLITE_MAGIC: &[u8] = b"SQLite format 3\0";
 
 /// Opens the file at a path as a database, or makes one where there is none. The file is looked at first, so that none that is no
 /// database is touched.
 pub fn open_trail(rt: &HostRuntime, path: &str) -> Result<Connection<FileStore<File>>, Failure> {
-    look_at(rt, path)?;
+    refuse_non_database(rt, path)?;
     match Connection::open(rt, path) {
         Ok(conn) => Ok(conn),
         Err(error) => Err(Failure::from(error)),
@@ -43,9 +43,9 @@ pub fn close_trail(conn: Connection<FileStore<File>>) -> Result<(), Failure>
 
 /// Refuses a file whose bytes are none of a database: opened as one it could be made into one.
 /// `Input` where the file is there and cannot be read.
-fn look_at(rt: &HostRuntime, path: &str) -> Result<(), Failure> {
+fn refuse_non_database(rt: &HostRuntime, path: &str) -> Result<(), Failure> {
     match fs::open(rt, path) {
-        Ok(file) => look_into(rt.alloc(), file),
+        Ok(file) => refuse_other_bytes(rt.alloc(), file),
         Err(error) => match error.kind() {
             ErrorKind::NotFound => Ok(()),
             kind => Err(failure_of(kind)),
@@ -53,7 +53,7 @@ fn look_at(rt: &HostRuntime, path: &str) -> Result<(), Failure> {
     }
 }
 
-fn look_into<R: Read + Drop>(alloc: Global, file: R) -> Result<(), Failure> {
+fn refuse_other_bytes<R: Read + Drop>(alloc: Global, file: R) -> Result<(), Failure> {
     match may_be_database(alloc, file) {
         Ok(true) => Ok(()),
         Ok(false) => Err(Failure::Trail(1)),
@@ -68,16 +68,16 @@ pub fn may_be_database<R: Read + Drop>(alloc: Global, reader: R) -> io::Result<b
 {
     let mut first = Vec::new(alloc);
     reader.take(16).read_to_end(&mut first)?;
-    Ok(is_beginning(first.as_slice()))
+    Ok(is_sqlite_magic(first.as_slice()))
 }
 
-fn is_beginning(first: &[u8]) -> bool
+fn is_sqlite_magic(first: &[u8]) -> bool
     ensures { IsTrue result → MayBegin first.now }
 {
     match first.first() {
         None => true,
         Some(0) => true,
-        Some(_) => first == BEGINNING,
+        Some(_) => first == SQLITE_MAGIC,
     }
 }
 

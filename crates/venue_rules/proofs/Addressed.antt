@@ -25,7 +25,7 @@ use Rattle.venue_rules.specs.declared.facts.Room.{Room}
 use Rattle.venue_rules.specs.declared.facts.RoomQuote.{RoomQuote}
 use Rattle.venue_rules.specs.declared.replies.Reply.{Reply}
 use Rattle.venue_rules.specs.declared.replies.QuoteState.TheVariants as state
-use Rattle.venue_rules.specs.declared.replies.What.TheVariants.{OrderEntered, OrderReplaced}
+use Rattle.venue_rules.specs.declared.replies.ReplyBody.TheVariants.{OrderEntered, OrderReplaced}
 use Rattle.venue_rules.specs.declared.refusals.ChangeRefusal.TheVariants.{HeldSide as IsHeldSide}
 use Rattle.venue_rules.specs.Market.{Market}
 use Rattle.venue_rules.specs.Facts.{History, no_history, entries, held_sides, rooms, quotes, next_trade}
@@ -39,7 +39,7 @@ use Rattle.venue_rules.specs.Changes.{Named, IsResting, IsHeld, IsUnknown, named
 use Rattle.venue_rules.specs.Crosses.{answer_cross, answer_due, cross_accepted, cross_refusals, due_refusals, first_side, side_order}
 use Rattle.venue_rules.specs.Requests.{answer_request, named_recipients, opened, recipients, request_accepted, request_refusals, request_sent}
 use Rattle.venue_rules.specs.Quotes.{answer_quote_of, quote_accepted, quote_refusals, shown_with}
-use Rattle.venue_rules.specs.Withdrawals.{answer_withdrawal_of, both_told, not_found, to_maker, to_requester, withdraw_one, withdrawn_or}
+use Rattle.venue_rules.specs.Withdrawals.{answer_withdrawal_of, both_emitted, not_found, to_maker, to_requester, withdraw_one, withdrawn_or}
 use Rattle.venue_rules.specs.Responses.{answer_hit, answer_hit_at, answer_response, answer_response_in, answer_response_to, kind_refusals, price_for, response_refusals, taken_side}
 use Rattle.venue_rules.specs.MarketData.{answer_market_data, market_data, market_data_refusals}
 use Rattle.venue_rules.specs.Answers.{answer_app}
@@ -234,9 +234,9 @@ replaced-Stays n m h s d r t a low its =
     let o : OrderFact = replacement d r in
     let e : Entry = entering h.facts o (filled r) t in
     let fs : List Fill = fills h.facts o in
-    let told : ℕ → Reply = λ k. reply s.who (OrderReplaced (record { order = order_report m e o.quantity (filled r) k; original_id = d.original_id })) in
-    let made : AreFor n (told ∷ entry_reports m h.facts e fs) = ((λ k. low), entry-AreFor n m h.facts e fs its (fill_below n h.facts o a)) in
-    ((tt, entry-AreBelow n e fs its), numbered-AreTo n h.reports (told ∷ entry_reports m h.facts e fs) made)
+    let emitted : ℕ → Reply = λ k. reply s.who (OrderReplaced (record { order = order_report m e o.quantity (filled r) k; original_id = d.original_id })) in
+    let made : AreFor n (emitted ∷ entry_reports m h.facts e fs) = ((λ k. low), entry-AreFor n m h.facts e fs its (fill_below n h.facts o a)) in
+    ((tt, entry-AreBelow n e fs its), numbered-AreTo n h.reports (emitted ∷ entry_reports m h.facts e fs) made)
 
 replace_of-Stays : (n : ℕ) (m : Market) (h : History) (s : Sender) (d : ReplaceMessage) (t : ℕ) (k : Named) → AreBelow n h.facts → s.who < n → IsEntered h.facts k → Stays n (answer_replace_of m h s d t k)
 replace_of-Stays n m h s d t IsUnknown a low i = (tt, (low, tt))
@@ -296,14 +296,14 @@ both-AreTo n m q (Some r) rest low its a = (low, (its r refl, a))
 number_below : (n : ℕ) (facts : List Fact) (number : ℕ) → AreBelow n facts → (x : Room) → room_by_number facts number ≡ Some x → x.requester < n
 number_below n facts number a x e = room_below n facts x a (In-find (λ (r : Room). r.number == number) (rooms facts) x e).0
 
-told-AreTo : (n : ℕ) (m : Market) (h : History) (qs : List RoomQuote) → AreBelow n h.facts → ((q : RoomQuote) → In q qs → In q (quotes h.facts)) → AreTo n (flat_map (both_told m h) qs)
-told-AreTo n m h [] a there = tt
-told-AreTo n m h (q ∷ qs) a there =
-    both-AreTo n m q (room_by_number h.facts q.room) (flat_map (both_told m h) qs) (quote_below n h.facts q a (there q (inl refl))) (number_below n h.facts q.room a) (told-AreTo n m h qs a (λ x i. there x (inr i)))
+emitted-AreTo : (n : ℕ) (m : Market) (h : History) (qs : List RoomQuote) → AreBelow n h.facts → ((q : RoomQuote) → In q qs → In q (quotes h.facts)) → AreTo n (flat_map (both_emitted m h) qs)
+emitted-AreTo n m h [] a there = tt
+emitted-AreTo n m h (q ∷ qs) a there =
+    both-AreTo n m q (room_by_number h.facts q.room) (flat_map (both_emitted m h) qs) (quote_below n h.facts q a (there q (inl refl))) (number_below n h.facts q.room a) (emitted-AreTo n m h qs a (λ x i. there x (inr i)))
 
 withdrawn_or-Stays : (n : ℕ) (m : Market) (h : History) (x : Answer) (qs : List RoomQuote) → AreBelow n h.facts → ((q : RoomQuote) → In q qs → In q (quotes h.facts)) → Stays n x → Stays n (withdrawn_or m h x qs)
 withdrawn_or-Stays n m h x [] a there k = k
-withdrawn_or-Stays n m h x (q ∷ qs) a there k = (AreBelow-map n (λ (y : RoomQuote). Withdrawn (record { quote = y.number })) (q ∷ qs) (λ y. tt), told-AreTo n m h (q ∷ qs) a there)
+withdrawn_or-Stays n m h x (q ∷ qs) a there k = (AreBelow-map n (λ (y : RoomQuote). Withdrawn (record { quote = y.number })) (q ∷ qs) (λ y. tt), emitted-AreTo n m h (q ∷ qs) a there)
 
 of_live : (facts : List Fact) (who t : ℕ) (q : RoomQuote) → In q (live_quotes facts who t) → In q (quotes facts)
 of_live facts who t q i = (In-filter (λ (x : RoomQuote). x.maker == who && is_live facts t x) (quotes facts) q i).0

@@ -311,10 +311,10 @@ digits-printable (c ∷ cs) h =
     both_true (is_printable c) (list_all is_printable cs) shown (digits-printable cs h.1)
 
 pub printed_identifiers : PrintedNumbersAreIdentifiers
-printed_identifiers letter n shown small =
+printed_identifiers prefix n shown small =
     let numeral = decimal_is_IsNumeral n small in
     let short : length (decimal n) ≤ 20 = length-decimal-le 20 n (omega arith) (omega (arith, small)) small in
-    let bytes : list_all is_printable (printed letter n) ≡ true = both_true (is_printable letter) (list_all is_printable (decimal n)) shown (digits-printable (decimal n) numeral.0.1) in
-    let long : length (printed letter n) ≤ 64 = omega (arith, short) in
-    let some : 0 < length (printed letter n) = omega arith in
+    let bytes : list_all is_printable (printed prefix n) ≡ true = both_true (is_printable prefix) (list_all is_printable (decimal n)) shown (digits-printable (decimal n) numeral.0.1) in
+    let long : length (printed prefix n) ≤ 64 = omega (arith, short) in
+    let some : 0 < length (printed prefix n) = omega arith in
     grind (arith, nat_tests)

@@ -12,8 +12,8 @@ use Rattle.venue_rules.specs.Rooms.{printed}
 use Rattle.venue_rules.specs.Answer.{Answer}
 use Rattle.venue_rules.specs.Messages.{message}
 use Rattle.venue_rules.specs.Run.{is_report, Input, answer_input, after, run_from, run}
-use Rattle.venue_rules.specs.Reported.{ReportsAreNumbered, TradesAreReported, execution_id, execution_ids, to_be_told, told_in, trades_told}
-use Rattle.venue_rules.proofs.Reports.{Reports, reports_in, count_reports, tells}
+use Rattle.venue_rules.specs.Reported.{ReportsAreNumbered, TradesAreReported, execution_id, execution_ids, to_be_emitted, emitted_in, trades_emitted}
+use Rattle.venue_rules.proofs.Reports.{Reports, reports_in, count_reports, emits}
 use Rattle.venue_rules.proofs.ReportsEach.{input-Reports}
 
 -- Over every list of inputs the reports have the next numbers, and the trades are reported.
@@ -56,8 +56,8 @@ enumerate_more n (x ∷ xs) ys = ap (λ zs. (n, x) ∷ zs) (enumerate_more (n + 
     later : (i j : ℕ) → i + 1 + j ≡ i + suc j
     later i j = omega arith
 
-tells_more : (m : Market) (side : Side) (n : ℕ) (xs ys : List Trade) → tells m side n (xs ++ ys) ≡ tells m side n xs ++ tells m side (n + length xs) ys
-tells_more m side n xs ys = ap (map (to_be_told m side)) (enumerate_more n xs ys) ∙ map-append (to_be_told m side) (enumerate_from n xs) (enumerate_from (n + length xs) ys)
+emits_more : (m : Market) (side : Side) (n : ℕ) (xs ys : List Trade) → emits m side n (xs ++ ys) ≡ emits m side n xs ++ emits m side (n + length xs) ys
+emits_more m side n xs ys = ap (map (to_be_emitted m side)) (enumerate_more n xs ys) ∙ map-append (to_be_emitted m side) (enumerate_from n xs) (enumerate_from (n + length xs) ys)
 
 reports_more : (xs ys : List Reply) → reports_in (xs ++ ys) ≡ reports_in xs + reports_in ys
 reports_more [] ys = none (reports_in ys)
@@ -75,10 +75,10 @@ reports_more (x ∷ xs) ys = one_more (is_report x.what) (reports_in (xs ++ ys))
 record RunReports (m : Market) (h : History) (is : List Input) : Type 0 where
   count : (run_from m h is).history.reports ≡ h.reports + reports_in (run_from m h is).replies
   ids : execution_ids (run_from m h is).replies ≡ map (printed 69) (range_with_len (h.reports + 1) (reports_in (run_from m h is).replies))
-  told : (side : Side) → trades_told side (run_from m h is).replies ≡ tells m side (next_trade h.facts) (trades (added m h is))
+  emitted : (side : Side) → trades_emitted side (run_from m h is).replies ≡ emits m side (next_trade h.facts) (trades (added m h is))
 
 run-RunReports : (m : Market) (h : History) (is : List Input) → RunReports m h is
-run-RunReports m h [] = record { count = none h.reports; ids = refl; told = λ side. refl }
+run-RunReports m h [] = record { count = none h.reports; ids = refl; emitted = λ side. refl }
   where
     none : (n : ℕ) → n ≡ n + 0
     none n = omega arith
@@ -97,10 +97,10 @@ run-RunReports m h (i ∷ is) =
           ∙ (ap (λ xs. map (printed 69) (range_with_len (h.reports + 1) (reports_in a.replies)) ++ xs) (l.ids ∙ ap (λ n. map (printed 69) (range_with_len n (reports_in rest))) (ap (λ n. n + 1) counted ∙ past h.reports (reports_in a.replies)))
           ∙ (sym (map-append (printed 69) (range_with_len (h.reports + 1) (reports_in a.replies)) (range_with_len (h.reports + 1 + reports_in a.replies) (reports_in rest)))
           ∙ ap (map (printed 69)) (sym (range_more (h.reports + 1) (reports_in a.replies) (reports_in rest)) ∙ ap (range_with_len (h.reports + 1)) (sym both)))));
-      told = λ side. filter_map-append (λ (r : Reply). told_in side r.to (message r.what)) a.replies rest
-          ∙ (ap (λ xs. xs ++ trades_told side rest) (k.1 side)
-          ∙ (ap (λ xs. tells m side (next_trade h.facts) (trades a.facts) ++ xs) (l.told side ∙ ap (λ n. tells m side n (trades (added m (after h a) is))) (next h.facts a.facts))
-          ∙ (sym (tells_more m side (next_trade h.facts) (trades a.facts) (trades (added m (after h a) is))) ∙ ap (tells m side (next_trade h.facts)) (sym (filter_map-append trade_in a.facts (added m (after h a) is))))));
+      emitted = λ side. filter_map-append (λ (r : Reply). emitted_in side r.to (message r.what)) a.replies rest
+          ∙ (ap (λ xs. xs ++ trades_emitted side rest) (k.1 side)
+          ∙ (ap (λ xs. emits m side (next_trade h.facts) (trades a.facts) ++ xs) (l.emitted side ∙ ap (λ n. emits m side n (trades (added m (after h a) is))) (next h.facts a.facts))
+          ∙ (sym (emits_more m side (next_trade h.facts) (trades a.facts) (trades (added m (after h a) is))) ∙ ap (emits m side (next_trade h.facts)) (sym (filter_map-append trade_in a.facts (added m (after h a) is))))));
     }
   where
     plus : (x y z : ℕ) → x + y + z ≡ x + (y + z)
@@ -121,4 +121,4 @@ reports_numbered m is = let k : RunReports m no_history is = run-RunReports m no
     none n = omega arith
 
 pub trades_reported : (m : Market) (is : List Input) → TradesAreReported m (run m is)
-trades_reported m is side = (run-RunReports m no_history is).told side ∙ ap (λ fs. tells m side 1 (trades fs)) (sym (run_facts m no_history is))
+trades_reported m is side = (run-RunReports m no_history is).emitted side ∙ ap (λ fs. emits m side 1 (trades fs)) (sym (run_facts m no_history is))

@@ -34,7 +34,7 @@ asked_together : (m : Market) (is : List Input) (asked : Room) → In (Asked ask
 asked_together m is asked k =
     let by = added_by m no_history is (Asked asked) (subst (λ fs. In (Asked asked) fs) (run_facts m no_history is) k) in
     let c : Contains (answer_input m (run m by.0).history by.1).facts (Asked asked) = Contains-from_In (answer_input m (run m by.0).history by.1).facts (Asked asked) by.4 in
-    record { earlier = by.0; input = by.1; later = by.2; taken = by.3; opened = c; told = (lawful m is).recipients_asked_together by.0 by.2 by.1 asked by.3 c }
+    record { earlier = by.0; input = by.1; later = by.2; taken = by.3; opened = c; emitted = (lawful m is).recipients_asked_together by.0 by.2 by.1 asked by.3 c }
 
 -- the first quote of a room that has one
 

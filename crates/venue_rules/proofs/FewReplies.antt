@@ -22,11 +22,11 @@ use Rattle.venue_rules.specs.declared.facts.RoomQuote.{RoomQuote}
 use Rattle.venue_rules.specs.declared.replies.Reply.{Reply}
 use Rattle.venue_rules.specs.declared.refusals.ChangeRefusal.TheVariants.{HeldSide as IsHeldSide}
 use Rattle.venue_rules.specs.declared.replies.QuoteState.TheVariants.{Accepted}
-use Rattle.venue_rules.specs.declared.replies.What.TheVariants.{OrderEntered, OrderReplaced}
+use Rattle.venue_rules.specs.declared.replies.ReplyBody.TheVariants.{OrderEntered, OrderReplaced}
 use Rattle.instruments.specs.Listing.{symbol_of}
 use Rattle.venue_rules.specs.Market.{Market}
 use Rattle.venue_rules.specs.Facts.{History, next_trade}
-use Rattle.venue_rules.specs.Book.{Fill, Resting, accepts, against, filled, fills, is_killed, opposite, paired, resting, shares, side_room}
+use Rattle.venue_rules.specs.Book.{Fill, Resting, accepts, against, filled, fills, is_killed, opposite, paired, resting, shares, side_capacity}
 use Rattle.venue_rules.specs.Delay.{due}
 use Rattle.venue_rules.specs.Rooms.{find_quote, find_room, first_quote, room_by_number}
 use Rattle.venue_rules.specs.Entering.{entering, entry_reports, fill_reports, order_report, unfilled_reports}
@@ -44,7 +44,7 @@ use Rattle.venue_rules.specs.Limits.{IsRising, RepliesAreFew, reply_room}
 use Rattle.venue_rules.proofs.OpenRooms.{filter_short, first_of-each}
 use Rattle.venue_rules.proofs.ShortSides.{IsShort}
 use Rattle.venue_rules.proofs.ShortSidesEach.{run-IsShort}
-use Rattle.venue_rules.proofs.Told.{withdrawals_few}
+use Rattle.venue_rules.proofs.Emitted.{withdrawals_few}
 
 -- One input tells each participant few times: an order at most twice for each resting order of a side and twice more, a withdrawal once for each live quote.
 
@@ -67,14 +67,14 @@ unless_killed true fs n h = omega arith
 unless_killed false fs n h = h
 
 -- an order has no more fills than orders rest on the other side
-fills-few : (facts : List Fact) (o : OrderFact) → IsShort facts → length (fills facts o) ≤ side_room
+fills-few : (facts : List Fact) (o : OrderFact) → IsShort facts → length (fills facts o) ≤ side_capacity
 fills-few facts o short =
     let pairs : List Fill = paired (against facts o) (shares o.quantity (map (λ (r : Resting). r.left) (against facts o))) in
     let some : length (filter (λ (f : Fill). nat_lt 0 f.quantity) pairs) ≤ length pairs = filter_short (λ (f : Fill). nat_lt 0 f.quantity) pairs in
     let each : length pairs ≤ length (against facts o) = paired-short (against facts o) (shares o.quantity (map (λ (r : Resting). r.left) (against facts o))) in
     let there : length (against facts o) ≤ length (resting facts o.instrument (opposite o.side)) = filter_short (λ (r : Resting). accepts o.side o.price r.entry.order.price) (resting facts o.instrument (opposite o.side)) in
-    let few : length (resting facts o.instrument (opposite o.side)) ≤ side_room = short o.instrument (opposite o.side) in
-    unless_killed (is_killed o.life o.quantity _) (filter (λ (f : Fill). nat_lt 0 f.quantity) pairs) side_room (omega (arith, some, each, there, few))
+    let few : length (resting facts o.instrument (opposite o.side)) ≤ side_capacity = short o.instrument (opposite o.side) in
+    unless_killed (is_killed o.life o.quantity _) (filter (λ (f : Fill). nat_lt 0 f.quantity) pairs) side_capacity (omega (arith, some, each, there, few))
 
 fill_reports-length : (m : Market) (e : Entry) (all : List Fill) (trade j : ℕ) (fs : List Fill) → length (flat_map (fill_reports m e all trade) (enumerate_from j fs)) ≤ length fs + length fs
 fill_reports-length m e all trade j [] = omega arith
@@ -85,7 +85,7 @@ unfilled-length x true = omega arith
 unfilled-length x false = omega arith
 
 -- a report of the order, two of each fill, and one of what is not filled
-entry-few : (m : Market) (facts : List Fact) (e : Entry) (fs : List Fill) (n : ℕ) (first : ℕ → Reply) → length fs ≤ side_room → length (numbered n (first ∷ entry_reports m facts e fs)) ≤ reply_room
+entry-few : (m : Market) (facts : List Fact) (e : Entry) (fs : List Fill) (n : ℕ) (first : ℕ → Reply) → length fs ≤ side_capacity → length (numbered n (first ∷ entry_reports m facts e fs)) ≤ reply_room
 entry-few m facts e fs n first few =
     let count : length (numbered n (first ∷ entry_reports m facts e fs)) ≡ suc (length (entry_reports m facts e fs)) = numbered-length n (first ∷ entry_reports m facts e fs) in
     let both : length (entry_reports m facts e fs) ≡ length (flat_map (fill_reports m e fs (next_trade facts)) (enumerate_from 0 fs)) + length (unfilled_reports m e fs) = length-append (flat_map (fill_reports m e fs (next_trade facts)) (enumerate_from 0 fs)) (unfilled_reports m e fs) in

@@ -155,26 +155,26 @@ request-Keeps m h s d t = first_of-Keeps m h.facts (request_refusals m h s d t) 
 among : (rs : List ℕ) (w : ℕ) → list_any (λ p. p == w) rs ≡ true → In w rs
 among rs w h = let a = Any-from_list_any (λ p. p == w) rs h in subst (λ x. In x rs) (eqb-true a.1 w a.4) (In-from_Contains rs a.1 (a.0, a.2, a.3))
 
-told_alone : (w : ℕ) (x : Reply) (b : Bool) (rs : List Reply) → (earlier : List Reply) × (cond b (x ∷ rs) rs ≡ earlier ++ rs)
-told_alone w x true rs = (x ∷ [], refl)
-told_alone w x false rs = ([], refl)
+emitted_alone : (w : ℕ) (x : Reply) (b : Bool) (rs : List Reply) → (earlier : List Reply) × (cond b (x ∷ rs) rs ≡ earlier ++ rs)
+emitted_alone w x true rs = (x ∷ [], refl)
+emitted_alone w x false rs = ([], refl)
 
-told_both : (w : ℕ) (a b : Reply) → a.to ≡ w → b.to ≡ w → replies_to w (a ∷ b ∷ []) ≡ a ∷ b ∷ []
-told_both w a b ha hb = both (a.to == w) (b.to == w) (eq-eqb a.to w ha) (eq-eqb b.to w hb)
+emitted_both : (w : ℕ) (a b : Reply) → a.to ≡ w → b.to ≡ w → replies_to w (a ∷ b ∷ []) ≡ a ∷ b ∷ []
+emitted_both w a b ha hb = both (a.to == w) (b.to == w) (eq-eqb a.to w ha) (eq-eqb b.to w hb)
   where
     both : (x y : Bool) → x ≡ true → y ≡ true → cond x (a ∷ cond y (b ∷ []) []) (cond y (b ∷ []) []) ≡ a ∷ b ∷ []
     both true true h k = refl
     both true false h k = absurd (true≢false (sym k))
     both false y h k = absurd (true≢false (sym h))
 
-told_then : (w : ℕ) (x a b : Reply) → a.to ≡ w → b.to ≡ w → (earlier later : List Reply) × (replies_to w (x ∷ a ∷ b ∷ []) ≡ earlier ++ (a ∷ b ∷ later))
-told_then w x a b ha hb =
-    let k = told_alone w x (x.to == w) (replies_to w (a ∷ b ∷ [])) in
-    (k.0, [], k.1 ∙ ap (λ rs. k.0 ++ rs) (told_both w a b ha hb))
+emitted_then : (w : ℕ) (x a b : Reply) → a.to ≡ w → b.to ≡ w → (earlier later : List Reply) × (replies_to w (x ∷ a ∷ b ∷ []) ≡ earlier ++ (a ∷ b ∷ later))
+emitted_then w x a b ha hb =
+    let k = emitted_alone w x (x.to == w) (replies_to w (a ∷ b ∷ [])) in
+    (k.0, [], k.1 ∙ ap (λ rs. k.0 ++ rs) (emitted_both w a b ha hb))
 
 first-IsShownBefore : (m : Market) (h : History) (s : Sender) (r : Room) (d : QuoteMessage) (o : Option RoomQuote) → o ≡ None
     → (earlier later : List Reply) × (replies_to r.requester (quote_status s d (Some (symbol_of m.instruments r.instrument)) Accepted ∷ shown_with m h r o ++ quote_sent m r (quoted h s r d) ∷ []) ≡ earlier ++ (shown_then m h.facts r ∷ quote_sent m r (quoted h s r d) ∷ later))
-first-IsShownBefore m h s r d None e = told_then r.requester (quote_status s d (Some (symbol_of m.instruments r.instrument)) Accepted) (shown_then m h.facts r) (quote_sent m r (quoted h s r d)) refl refl
+first-IsShownBefore m h s r d None e = emitted_then r.requester (quote_status s d (Some (symbol_of m.instruments r.instrument)) Accepted) (shown_then m h.facts r) (quote_sent m r (quoted h s r d)) refl refl
 first-IsShownBefore m h s r d (Some q) e = absurd (no_quote q e)
   where
     no_quote : (x : RoomQuote) → Some x ≡ None → ⊥

@@ -3,7 +3,7 @@ use Rattle.std.specs.Fmt.{digits}
 use Rattle.fix_dictionary.specs.declared.values.Side.TheVariants.{Buy, Sell}
 use Rattle.venue_rules.specs.declared.facts.Fact.{Fact}
 use Rattle.venue_rules.specs.declared.facts.Fact.TheVariants.{Asked, Entered, Held}
-use Rattle.venue_rules.specs.declared.facts.Life.TheVariants.{Day}
+use Rattle.venue_rules.specs.declared.facts.TimeInForce.TheVariants.{Day}
 use Rattle.venue_rules.specs.Facts.{History}
 use Rattle.venue_rules.specs.Run.{Tick}
 use Rattle.venue_rules.proofs.ExampleInputs.{alpha, beta, start, swap, two_and_a_half, sends, order, cross, request}

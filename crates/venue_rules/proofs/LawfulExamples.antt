@@ -1,8 +1,8 @@
 use Rattle.std.proofs.Common.{refl, ℕ, ◌+◌, [], ◌∷◌, None, codes, arith, ◌<◌, ◌≤◌}
 use Rattle.fix_dictionary.specs.declared.values.Side.TheVariants.{Buy}
 use Rattle.venue_rules.specs.declared.facts.Fact.TheVariants.{Entered, Traded}
-use Rattle.venue_rules.specs.declared.facts.Life.TheVariants.{Day}
-use Rattle.venue_rules.specs.declared.facts.Place.TheVariants.{Book as InBook, Room as InRoom}
+use Rattle.venue_rules.specs.declared.facts.TimeInForce.TheVariants.{Day}
+use Rattle.venue_rules.specs.declared.facts.TradeSource.TheVariants.{Book as InBook, Room as InRoom}
 use Rattle.venue_rules.specs.declared.facts.Trade.{Trade}
 use Rattle.venue_rules.specs.declared.facts.Entry.{Entry}
 use Rattle.venue_rules.specs.Lawful.{RequestsComeFirst, LinkedOrdersWait}

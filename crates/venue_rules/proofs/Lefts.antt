@@ -11,7 +11,7 @@ use Rattle.venue_rules.specs.declared.facts.Fact.{Fact}
 use Rattle.venue_rules.specs.declared.facts.Fact.TheVariants.{Entered, Traded, Removed, Unheld}
 use Rattle.venue_rules.specs.declared.facts.Entry.{Entry}
 use Rattle.venue_rules.specs.declared.facts.Trade.{Trade}
-use Rattle.venue_rules.specs.declared.facts.Place.TheVariants.{Book as InBook}
+use Rattle.venue_rules.specs.declared.facts.TradeSource.TheVariants.{Book as InBook}
 use Rattle.venue_rules.specs.declared.facts.Removal.{Removal}
 use Rattle.venue_rules.specs.declared.facts.Release.{Release}
 use Rattle.venue_rules.specs.Facts.{entries, entry_in, trades, trade_in}

@@ -58,7 +58,7 @@ pub mod OpenRoomsEach
 -- a participant has one live quote in each open room at most
 pub mod LiveQuotes
 -- a withdrawal tells each participant of each quote once at most
-pub mod Told
+pub mod Emitted
 -- one input more, and more of them
 pub mod MoreInputLemmas
 -- an order comes to rest alone where there is room, so few orders rest on a side

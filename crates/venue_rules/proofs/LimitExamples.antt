@@ -5,7 +5,7 @@ use Rattle.venue_rules.specs.Run.{Input, answer_input, run}
 use Rattle.venue_rules.proofs.ExampleInputs.{venue, alpha, beta, gamma, delta, epsilon, start, swap, two_and_a_half, sends, order, request}
 use Rattle.venue_rules.specs.declared.facts.Fact.{Fact}
 use Rattle.venue_rules.specs.declared.facts.Fact.TheVariants.{Entered}
-use Rattle.venue_rules.specs.declared.facts.Life.TheVariants.{Day}
+use Rattle.venue_rules.specs.declared.facts.TimeInForce.TheVariants.{Day}
 use Rattle.venue_rules.specs.Facts.{History}
 use Rattle.participants.specs.Relations.{three_unrelated}
 use Rattle.venue_rules.specs.Market.{Market}

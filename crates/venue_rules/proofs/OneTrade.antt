@@ -4,7 +4,7 @@ use Rattle.std.proofs.lemmas.Bool.{true≢false, and_parts, or_right}
 use Rattle.std.proofs.lemmas.List.Folds.{list_any-append}
 use Rattle.venue_rules.specs.declared.facts.Fact.{Fact}
 use Rattle.venue_rules.specs.declared.facts.Fact.TheVariants.{Traded, Closed}
-use Rattle.venue_rules.specs.declared.facts.Place.TheVariants.{Room as InRoom}
+use Rattle.venue_rules.specs.declared.facts.TradeSource.TheVariants.{Room as InRoom}
 use Rattle.venue_rules.specs.declared.facts.RoomQuote.{RoomQuote}
 use Rattle.venue_rules.specs.declared.facts.Trade.{Trade}
 use Rattle.venue_rules.specs.Market.{Market}

@@ -10,7 +10,7 @@ use Rattle.venue_rules.specs.declared.facts.Fact.TheVariants.{Traded}
 use Rattle.venue_rules.specs.declared.facts.Entry.{Entry}
 use Rattle.venue_rules.specs.declared.facts.Trade.{Trade}
 use Rattle.venue_rules.specs.declared.replies.Reply.{Reply}
-use Rattle.venue_rules.specs.declared.replies.What.TheVariants.{OrderUnfilled}
+use Rattle.venue_rules.specs.declared.replies.ReplyBody.TheVariants.{OrderUnfilled}
 use Rattle.instruments.specs.Listing.{symbol_of}
 use Rattle.venue_rules.specs.Market.{Market}
 use Rattle.venue_rules.specs.Facts.{History, next_trade, trades, trade_in}
@@ -20,7 +20,7 @@ use Rattle.venue_rules.specs.Answer.{Answer, first_of, numbered, reply}
 use Rattle.venue_rules.specs.Entering.{buyer, entry_facts, entry_reports, fill_report, fill_reports, order_report, trade_of, unfilled_reports}
 use Rattle.venue_rules.specs.Messages.{message}
 use Rattle.venue_rules.specs.Run.{is_report}
-use Rattle.venue_rules.specs.Reported.{Told, execution_id, execution_ids, told_in, to_be_told, trades_told}
+use Rattle.venue_rules.specs.Reported.{Emitted, execution_id, execution_ids, emitted_in, to_be_emitted, trades_emitted}
 use Rattle.venue_rules.proofs.Members.{In, In-filter}
 use Rattle.venue_rules.proofs.Lefts.{In-resting, rests_side, rests_instrument}
 
@@ -40,14 +40,14 @@ count_reports (r ∷ rs) =
     sum_by-cons (λ (x : Reply). cond (is_report x.what) 1 0) r rs ∙ (ap (λ n. cond (is_report r.what) 1 0 + n) (count_reports rs) ∙ count_one (is_report r.what) (reports_in rs))
 
 -- what is told of trades whose first has this number
-abbrev pub tells : Market → Side → ℕ → List Trade → List Told
-tells m side n ts = map (to_be_told m side) (enumerate_from n ts)
+abbrev pub emits : Market → Side → ℕ → List Trade → List Emitted
+emits m side n ts = map (to_be_emitted m side) (enumerate_from n ts)
 
 -- the reports of an answer have the next numbers, and its trades are told once to each side
 abbrev pub Reports : Market → History → Answer → Type 0
 Reports m h a =
     (execution_ids a.replies ≡ map (printed 69) (range_with_len (h.reports + 1) (reports_in a.replies)))
-    × ((side : Side) → trades_told side a.replies ≡ tells m side (next_trade h.facts) (trades a.facts))
+    × ((side : Side) → trades_emitted side a.replies ≡ emits m side (next_trade h.facts) (trades a.facts))
 
 -- the first refusal that holds
 
@@ -68,19 +68,19 @@ first_of-Reports m h (r ∷ rs) x n k = first_case m h r.0 r.1 (first_of rs x) n
 pub record IsQuiet (rs : List Reply) : Type 0 where
   pub count : reports_in rs ≡ 0
   pub ids : execution_ids rs ≡ []
-  pub told : (side : Side) → trades_told side rs ≡ []
+  pub emitted : (side : Side) → trades_emitted side rs ≡ []
 
 pub quiet-Reports : (m : Market) (h : History) (a : Answer) → IsQuiet a.replies → trades a.facts ≡ [] → Reports m h a
 quiet-Reports m h a q e = (
   q.ids ∙ sym (ap (λ n. map (printed 69) (range_with_len (h.reports + 1) n)) q.count),
-  λ side. q.told side ∙ sym (ap (tells m side (next_trade h.facts)) e),
+  λ side. q.emitted side ∙ sym (ap (emits m side (next_trade h.facts)) e),
 )
 
 -- reports that wait for their numbers
 
 abbrev pub IsMaker : (ℕ → Reply) → Type 0
 IsMaker f =
-    (k : ℕ) → (is_report (f k).what ≡ true) × (execution_id (message (f k).what) ≡ Some (printed 69 k)) × ((side : Side) → told_in side (f k).to (message (f k).what) ≡ told_in side (f 0).to (message (f 0).what))
+    (k : ℕ) → (is_report (f k).what ≡ true) × (execution_id (message (f k).what) ≡ Some (printed 69 k)) × ((side : Side) → emitted_in side (f k).to (message (f k).what) ≡ emitted_in side (f 0).to (message (f 0).what))
 
 abbrev pub AreMakers : List (ℕ → Reply) → Type 0
 AreMakers [] = Unit {0}
@@ -101,12 +101,12 @@ numbered_ids n (f ∷ fs) w =
     ∙ (ap (λ xs. printed 69 (n + 1) ∷ xs) (numbered_ids (n + 1) fs w.1) ∙ sym (ap (λ k. map (printed 69) (range_with_len (n + 1) k)) (counted (is_report (f (n + 1)).what) (reports_in (numbered (n + 1) fs)) (w.0 (n + 1)).0)))
 
 -- what a report tells whatever its number
-abbrev pub told_by : Side → (ℕ → Reply) → Option Told
-told_by side f = told_in side (f 0).to (message (f 0).what)
+abbrev pub emitted_by : Side → (ℕ → Reply) → Option Emitted
+emitted_by side f = emitted_in side (f 0).to (message (f 0).what)
 
-pub numbered_told : (side : Side) (n : ℕ) (fs : List (ℕ → Reply)) → AreMakers fs → trades_told side (numbered n fs) ≡ filter_map (told_by side) fs
-numbered_told side n [] w = refl
-numbered_told side n (f ∷ fs) w = ap (λ o. cons_option o (trades_told side (numbered (n + 1) fs))) ((w.0 (n + 1)).2 side) ∙ ap (cons_option (told_by side f)) (numbered_told side (n + 1) fs w.1)
+pub numbered_emitted : (side : Side) (n : ℕ) (fs : List (ℕ → Reply)) → AreMakers fs → trades_emitted side (numbered n fs) ≡ filter_map (emitted_by side) fs
+numbered_emitted side n [] w = refl
+numbered_emitted side n (f ∷ fs) w = ap (λ o. cons_option o (trades_emitted side (numbered (n + 1) fs))) ((w.0 (n + 1)).2 side) ∙ ap (cons_option (emitted_by side f)) (numbered_emitted side (n + 1) fs w.1)
 
 -- the fills of an order are with orders of the other side in its instrument
 
@@ -155,37 +155,37 @@ abbrev party_of : Side → Side → ℕ → ℕ → ℕ
 party_of Buy s w v = buyer s w v
 party_of Sell s w v = buyer s v w
 
-two_told : (C : ℕ → Told) (w v : ℕ) (rest : List Told) (side s o : Side) → o ≡ opposite s
+two_emitted : (C : ℕ → Emitted) (w v : ℕ) (rest : List Emitted) (side s o : Side) → o ≡ opposite s
     → cons_option (if is_side s side then Some (C w) else None) (cons_option (if is_side o side then Some (C v) else None) rest) ≡ C (party_of side s w v) ∷ rest
-two_told C w v rest Buy Buy o e = ap (λ x. C w ∷ cons_option (if is_side x Buy then Some (C v) else None) rest) e
-two_told C w v rest Buy Sell o e = ap (λ x. cons_option (if is_side x Buy then Some (C v) else None) rest) e
-two_told C w v rest Sell Buy o e = ap (λ x. cons_option (if is_side x Sell then Some (C v) else None) rest) e
-two_told C w v rest Sell Sell o e = ap (λ x. C w ∷ cons_option (if is_side x Sell then Some (C v) else None) rest) e
+two_emitted C w v rest Buy Buy o e = ap (λ x. C w ∷ cons_option (if is_side x Buy then Some (C v) else None) rest) e
+two_emitted C w v rest Buy Sell o e = ap (λ x. cons_option (if is_side x Buy then Some (C v) else None) rest) e
+two_emitted C w v rest Sell Buy o e = ap (λ x. cons_option (if is_side x Sell then Some (C v) else None) rest) e
+two_emitted C w v rest Sell Sell o e = ap (λ x. C w ∷ cons_option (if is_side x Sell then Some (C v) else None) rest) e
 
-told_party : (m : Market) (e : Entry) (f : Fill) (number : ℕ) (side : Side) → to_be_told m side (number, trade_of e f) ≡ record (to_be_told m side (number, trade_of e f)) { who = party_of side e.order.side e.order.who f.resting.entry.order.who }
-told_party m e f number Buy = refl
-told_party m e f number Sell = refl
+emitted_party : (m : Market) (e : Entry) (f : Fill) (number : ℕ) (side : Side) → to_be_emitted m side (number, trade_of e f) ≡ record (to_be_emitted m side (number, trade_of e f)) { who = party_of side e.order.side e.order.who f.resting.entry.order.who }
+emitted_party m e f number Buy = refl
+emitted_party m e f number Sell = refl
 
-fill_told : (m : Market) (e : Entry) (f : Fill) (left filled left' filled' number : ℕ) (rest : List Told) (side : Side) → f.resting.entry.order.side ≡ opposite e.order.side → f.resting.entry.order.instrument ≡ e.order.instrument
-    → cons_option (told_by side (fill_report m e left filled f number)) (cons_option (told_by side (fill_report m f.resting.entry left' filled' f number)) rest) ≡ to_be_told m side (number, trade_of e f) ∷ rest
-fill_told m e f left filled left' filled' number rest side other here =
-    ap (λ x. cons_option (told_by side (fill_report m e left filled f number)) (cons_option (if is_side f.resting.entry.order.side side then Some (told f.resting.entry.order.who x) else None) rest)) here
-    ∙ (two_told (λ w. told w e.order.instrument) e.order.who f.resting.entry.order.who rest side e.order.side f.resting.entry.order.side other ∙ ap (λ x. x ∷ rest) (sym (told_party m e f number side)))
+fill_emitted : (m : Market) (e : Entry) (f : Fill) (left filled left' filled' number : ℕ) (rest : List Emitted) (side : Side) → f.resting.entry.order.side ≡ opposite e.order.side → f.resting.entry.order.instrument ≡ e.order.instrument
+    → cons_option (emitted_by side (fill_report m e left filled f number)) (cons_option (emitted_by side (fill_report m f.resting.entry left' filled' f number)) rest) ≡ to_be_emitted m side (number, trade_of e f) ∷ rest
+fill_emitted m e f left filled left' filled' number rest side other here =
+    ap (λ x. cons_option (emitted_by side (fill_report m e left filled f number)) (cons_option (if is_side f.resting.entry.order.side side then Some (emitted f.resting.entry.order.who x) else None) rest)) here
+    ∙ (two_emitted (λ w. emitted w e.order.instrument) e.order.who f.resting.entry.order.who rest side e.order.side f.resting.entry.order.side other ∙ ap (λ x. x ∷ rest) (sym (emitted_party m e f number side)))
   where
-    told : ℕ → ℕ → Told
-    told w x = record { who = w; symbol = symbol_of m.instruments x; trade = printed 84 number; price = Some f.resting.entry.order.price; quantity = Some f.quantity }
+    emitted : ℕ → ℕ → Emitted
+    emitted w x = record { who = w; symbol = symbol_of m.instruments x; trade = printed 84 number; price = Some f.resting.entry.order.price; quantity = Some f.quantity }
 
 -- the trades of the fills of an order
 
 abbrev traded_facts : Entry → List Fill → List Fact
 traded_facts e fs = map (λ f. Traded (trade_of e f)) fs
 
-fills_told : (m : Market) (e : Entry) (all : List Fill) (trade : ℕ) (side : Side) (j : ℕ) (fs : List Fill) → AreOpposite e fs
-    → filter_map (told_by side) (flat_map (fill_reports m e all trade) (enumerate_from j fs)) ≡ tells m side (trade + j) (trades (traded_facts e fs))
-fills_told m e all trade side j [] k = refl
-fills_told m e all trade side j (f ∷ fs) k =
-    fill_told m e f (e.order.quantity - filled_by (take (j + 1) all)) (e.filled_before + filled_by (take (j + 1) all)) (f.resting.left - f.quantity) (filled f.resting + f.quantity) (trade + j) (filter_map (told_by side) (flat_map (fill_reports m e all trade) (enumerate_from (j + 1) fs))) side k.0.0 k.0.1
-    ∙ ap (λ xs. to_be_told m side (trade + j, trade_of e f) ∷ xs) (fills_told m e all trade side (j + 1) fs k.1 ∙ ap (λ n. tells m side n (trades (traded_facts e fs))) (next trade j))
+fills_emitted : (m : Market) (e : Entry) (all : List Fill) (trade : ℕ) (side : Side) (j : ℕ) (fs : List Fill) → AreOpposite e fs
+    → filter_map (emitted_by side) (flat_map (fill_reports m e all trade) (enumerate_from j fs)) ≡ emits m side (trade + j) (trades (traded_facts e fs))
+fills_emitted m e all trade side j [] k = refl
+fills_emitted m e all trade side j (f ∷ fs) k =
+    fill_emitted m e f (e.order.quantity - filled_by (take (j + 1) all)) (e.filled_before + filled_by (take (j + 1) all)) (f.resting.left - f.quantity) (filled f.resting + f.quantity) (trade + j) (filter_map (emitted_by side) (flat_map (fill_reports m e all trade) (enumerate_from (j + 1) fs))) side k.0.0 k.0.1
+    ∙ ap (λ xs. to_be_emitted m side (trade + j, trade_of e f) ∷ xs) (fills_emitted m e all trade side (j + 1) fs k.1 ∙ ap (λ n. emits m side n (trades (traded_facts e fs))) (next trade j))
   where
     next : (a b : ℕ) → a + (b + 1) ≡ a + b + 1
     next a b = omega arith
@@ -201,30 +201,30 @@ unfilled_makers : (m : Market) (e : Entry) (fs : List Fill) (b : Bool) → AreMa
 unfilled_makers m e fs true = ((λ k. (refl, refl, λ side. refl)), tt)
 unfilled_makers m e fs false = tt
 
-unfilled_told : (m : Market) (e : Entry) (fs : List Fill) (b : Bool) (side : Side) → filter_map (told_by side) (unfilled m e fs b) ≡ []
-unfilled_told m e fs true side = refl
-unfilled_told m e fs false side = refl
+unfilled_emitted : (m : Market) (e : Entry) (fs : List Fill) (b : Bool) (side : Side) → filter_map (emitted_by side) (unfilled m e fs b) ≡ []
+unfilled_emitted m e fs true side = refl
+unfilled_emitted m e fs false side = refl
 
 pub entry-AreMakers : (m : Market) (facts : List Fact) (e : Entry) (fs : List Fill) → AreMakers (entry_reports m facts e fs)
 entry-AreMakers m facts e fs = AreMakers-append (flat_map (fill_reports m e fs (next_trade facts)) (enumerate_from 0 fs)) (unfilled_reports m e fs) (fills_makers m e fs (next_trade facts) 0 fs) (unfilled_makers m e fs (not (is_day e.order.life) && nat_lt (filled_by fs) e.order.quantity))
 
-pub entry_told : (m : Market) (facts : List Fact) (e : Entry) (fs : List Fill) (side : Side) → AreOpposite e fs → filter_map (told_by side) (entry_reports m facts e fs) ≡ tells m side (next_trade facts) (trades (entry_facts e fs))
-entry_told m facts e fs side k =
-    filter_map-append (told_by side) (flat_map (fill_reports m e fs (next_trade facts)) (enumerate_from 0 fs)) (unfilled_reports m e fs)
-    ∙ (ap (λ xs. filter_map (told_by side) (flat_map (fill_reports m e fs (next_trade facts)) (enumerate_from 0 fs)) ++ xs) (unfilled_told m e fs (not (is_day e.order.life) && nat_lt (filled_by fs) e.order.quantity) side)
-    ∙ (append-nil _ ∙ (fills_told m e fs (next_trade facts) side 0 fs k ∙ ap (λ n. tells m side n (trades (traded_facts e fs))) (from_zero (next_trade facts)))))
+pub entry_emitted : (m : Market) (facts : List Fact) (e : Entry) (fs : List Fill) (side : Side) → AreOpposite e fs → filter_map (emitted_by side) (entry_reports m facts e fs) ≡ emits m side (next_trade facts) (trades (entry_facts e fs))
+entry_emitted m facts e fs side k =
+    filter_map-append (emitted_by side) (flat_map (fill_reports m e fs (next_trade facts)) (enumerate_from 0 fs)) (unfilled_reports m e fs)
+    ∙ (ap (λ xs. filter_map (emitted_by side) (flat_map (fill_reports m e fs (next_trade facts)) (enumerate_from 0 fs)) ++ xs) (unfilled_emitted m e fs (not (is_day e.order.life) && nat_lt (filled_by fs) e.order.quantity) side)
+    ∙ (append-nil _ ∙ (fills_emitted m e fs (next_trade facts) side 0 fs k ∙ ap (λ n. emits m side n (trades (traded_facts e fs))) (from_zero (next_trade facts)))))
   where
     from_zero : (n : ℕ) → n + 0 ≡ n
     from_zero n = omega arith
 
 -- an order that enters after one report of another kind, such as that it is new
-pub entered-Reports : (m : Market) (h : History) (e : Entry) (first : ℕ → Reply) → IsMaker first → ((side : Side) → told_by side first ≡ None) → (before : List Fact) → trades before ≡ []
+pub entered-Reports : (m : Market) (h : History) (e : Entry) (first : ℕ → Reply) → IsMaker first → ((side : Side) → emitted_by side first ≡ None) → (before : List Fact) → trades before ≡ []
     → Reports m h (record { facts = before ++ entry_facts e (fills h.facts e.order); replies = numbered h.reports (first ∷ entry_reports m h.facts e (fills h.facts e.order)) })
 entered-Reports m h e first maker silent before none = (
   numbered_ids h.reports (first ∷ entry_reports m h.facts e (fills h.facts e.order)) makers,
-  λ side. numbered_told side h.reports (first ∷ entry_reports m h.facts e (fills h.facts e.order)) makers
-      ∙ (ap (λ o. cons_option o (filter_map (told_by side) (entry_reports m h.facts e (fills h.facts e.order)))) (silent side)
-      ∙ (entry_told m h.facts e (fills h.facts e.order) side (fills-AreOpposite h.facts e) ∙ sym (ap (tells m side (next_trade h.facts)) more))),
+  λ side. numbered_emitted side h.reports (first ∷ entry_reports m h.facts e (fills h.facts e.order)) makers
+      ∙ (ap (λ o. cons_option o (filter_map (emitted_by side) (entry_reports m h.facts e (fills h.facts e.order)))) (silent side)
+      ∙ (entry_emitted m h.facts e (fills h.facts e.order) side (fills-AreOpposite h.facts e) ∙ sym (ap (emits m side (next_trade h.facts)) more))),
 )
   where
     makers : AreMakers (first ∷ entry_reports m h.facts e (fills h.facts e.order))

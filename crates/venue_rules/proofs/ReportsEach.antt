@@ -26,7 +26,7 @@ use Rattle.venue_rules.specs.Entering.{entering, order_report}
 use Rattle.venue_rules.specs.Answer.{Answer, Sender, reply}
 use Rattle.fix_dictionary.specs.declared.values.Side.{Side}
 use Rattle.fix_dictionary.specs.declared.values.Side.TheVariants.{Buy, Sell}
-use Rattle.venue_rules.specs.declared.replies.What.TheVariants.{OrderEntered, OrderReplaced}
+use Rattle.venue_rules.specs.declared.replies.ReplyBody.TheVariants.{OrderEntered, OrderReplaced}
 use Rattle.std.proofs.Common.{ℤ}
 use Rattle.venue_rules.specs.Delay.{due}
 use Rattle.venue_rules.specs.Orders.{accepted, answer_order, order_asked, order_refusals}
@@ -35,14 +35,14 @@ use Rattle.venue_rules.specs.declared.refusals.ChangeRefusal.TheVariants.{HeldSi
 use Rattle.venue_rules.specs.Crosses.{answer_cross, cross_accepted, cross_refusals, side_order, first_side, due_refusals, answer_due}
 use Rattle.venue_rules.specs.Requests.{answer_request, request_accepted, request_refusals, request_sent, opened}
 use Rattle.venue_rules.specs.Quotes.{answer_quote_of, quote_refusals, quote_accepted, quote_sent, quote_status, quoted, shown_with}
-use Rattle.venue_rules.specs.Withdrawals.{answer_withdrawal_of, withdraw_one, withdrawn_or, withdrawn_all, not_found, both_told, to_maker, to_requester}
+use Rattle.venue_rules.specs.Withdrawals.{answer_withdrawal_of, withdraw_one, withdrawn_or, withdrawn_all, not_found, both_emitted, to_maker, to_requester}
 use Rattle.venue_rules.specs.Responses.{answer_response, answer_response_to, answer_response_in, answer_hit, answer_hit_at, response_refusals, kind_refusals, room_traded, taken_side, price_for}
 use Rattle.venue_rules.specs.MarketData.{answer_market_data, market_data_refusals, market_data}
 use Rattle.venue_rules.specs.Rooms.{find_room, find_quote, first_quote, room_by_number}
 use Rattle.venue_rules.specs.Answers.{answer_app}
-use Rattle.venue_rules.specs.Reported.{trades_told}
+use Rattle.venue_rules.specs.Reported.{trades_emitted}
 use Rattle.venue_rules.specs.Run.{Input, Message, Tick, answer_input, answer_due_of}
-use Rattle.venue_rules.proofs.Reports.{Reports, IsQuiet, quiet-Reports, first_of-Reports, entered-Reports, tells}
+use Rattle.venue_rules.proofs.Reports.{Reports, IsQuiet, quiet-Reports, first_of-Reports, entered-Reports, emits}
 
 -- The reports and trades of the answer to each message, and to a tick.
 
@@ -75,7 +75,7 @@ cross_accepted-Reports : (m : Market) (h : History) (s : Sender) (d : CrossMessa
 cross_accepted-Reports m h s d t =
     let first = accepted m h (side_order m s.who d (first_side d)) t in
     let k : Reports m h first = accepted-Reports m h (side_order m s.who d (first_side d)) t in
-    (k.0, λ side. k.1 side ∙ sym (ap (tells m side (next_trade h.facts)) (filter_map-append trade_in first.facts _ ∙ append-nil (trades first.facts))))
+    (k.0, λ side. k.1 side ∙ sym (ap (emits m side (next_trade h.facts)) (filter_map-append trade_in first.facts _ ∙ append-nil (trades first.facts))))
 
 cross-Reports : (m : Market) (h : History) (s : Sender) (d : CrossMessage) (t : ℕ) → Reports m h (answer_cross m h s d t)
 cross-Reports m h s d t = first_of-Reports m h (cross_refusals m h s d t) (cross_accepted m h s d t) ((refl, λ side. refl), ((refl, λ side. refl), ((refl, λ side. refl), ((refl, λ side. refl), ((refl, λ side. refl), ((refl, λ side. refl), ((refl, λ side. refl), ((refl, λ side. refl), ((refl, λ side. refl), ((refl, λ side. refl), ((refl, λ side. refl), tt))))))))))) (cross_accepted-Reports m h s d t)
@@ -86,8 +86,8 @@ due-Reports m h k = first_of-Reports m h (due_refusals m h k) (accepted m h k.or
 -- requests and quotes
 
 requests-IsQuiet : (m : Market) (r : Room) (rs : List ℕ) → IsQuiet (map (request_sent m r) rs)
-requests-IsQuiet m r [] = record { count = refl; ids = refl; told = λ side. refl }
-requests-IsQuiet m r (x ∷ xs) = let k = requests-IsQuiet m r xs in record { count = k.count; ids = k.ids; told = k.told }
+requests-IsQuiet m r [] = record { count = refl; ids = refl; emitted = λ side. refl }
+requests-IsQuiet m r (x ∷ xs) = let k = requests-IsQuiet m r xs in record { count = k.count; ids = k.ids; emitted = k.emitted }
 
 request-Reports : (m : Market) (h : History) (s : Sender) (d : RequestMessage) (t : ℕ) → Reports m h (answer_request m h s d t)
 request-Reports m h s d t =
@@ -95,8 +95,8 @@ request-Reports m h s d t =
     first_of-Reports m h (request_refusals m h s d t) (request_accepted m r) ((refl, λ side. refl), ((refl, λ side. refl), ((refl, λ side. refl), ((refl, λ side. refl), ((refl, λ side. refl), ((refl, λ side. refl), ((refl, λ side. refl), ((refl, λ side. refl), ((refl, λ side. refl), ((refl, λ side. refl), tt)))))))))) (quiet-Reports m h (request_accepted m r) (requests-IsQuiet m r r.recipients) refl)
 
 shown-IsQuiet : (m : Market) (h : History) (s : Sender) (r : Room) (d : QuoteMessage) (o : Option RoomQuote) → IsQuiet (quote_status s d (Some (symbol_of m.instruments r.instrument)) Accepted ∷ shown_with m h r o ++ quote_sent m r (quoted h s r d) ∷ [])
-shown-IsQuiet m h s r d None = record { count = refl; ids = refl; told = λ side. refl }
-shown-IsQuiet m h s r d (Some q) = record { count = refl; ids = refl; told = λ side. refl }
+shown-IsQuiet m h s r d None = record { count = refl; ids = refl; emitted = λ side. refl }
+shown-IsQuiet m h s r d (Some q) = record { count = refl; ids = refl; emitted = λ side. refl }
 
 quote_of-Reports : (m : Market) (h : History) (s : Sender) (d : QuoteMessage) (t : ℕ) (r : Option Room) → Reports m h (answer_quote_of m h s d t r)
 quote_of-Reports m h s d t None = (refl, λ side. refl)
@@ -104,13 +104,13 @@ quote_of-Reports m h s d t (Some r) = first_of-Reports m h (quote_refusals m h s
 
 -- withdrawals
 
-told-IsQuiet : (m : Market) (q : RoomQuote) (o : Option Room) (rs : List Reply) → IsQuiet rs → IsQuiet (elim o [ None ↦ [] | Some r ↦ to_maker m r q Withdrawn ∷ to_requester m r q Withdrawn ∷ [] ] ++ rs)
-told-IsQuiet m q None rs k = k
-told-IsQuiet m q (Some r) rs k = record { count = k.count; ids = k.ids; told = k.told }
+emitted-IsQuiet : (m : Market) (q : RoomQuote) (o : Option Room) (rs : List Reply) → IsQuiet rs → IsQuiet (elim o [ None ↦ [] | Some r ↦ to_maker m r q Withdrawn ∷ to_requester m r q Withdrawn ∷ [] ] ++ rs)
+emitted-IsQuiet m q None rs k = k
+emitted-IsQuiet m q (Some r) rs k = record { count = k.count; ids = k.ids; emitted = k.emitted }
 
-all_told-IsQuiet : (m : Market) (h : History) (qs : List RoomQuote) → IsQuiet (flat_map (both_told m h) qs)
-all_told-IsQuiet m h [] = record { count = refl; ids = refl; told = λ side. refl }
-all_told-IsQuiet m h (q ∷ qs) = told-IsQuiet m q (room_by_number h.facts q.room) (flat_map (both_told m h) qs) (all_told-IsQuiet m h qs)
+all_emitted-IsQuiet : (m : Market) (h : History) (qs : List RoomQuote) → IsQuiet (flat_map (both_emitted m h) qs)
+all_emitted-IsQuiet m h [] = record { count = refl; ids = refl; emitted = λ side. refl }
+all_emitted-IsQuiet m h (q ∷ qs) = emitted-IsQuiet m q (room_by_number h.facts q.room) (flat_map (both_emitted m h) qs) (all_emitted-IsQuiet m h qs)
 
 none_traded : (qs : List RoomQuote) → trades (map (λ (q : RoomQuote). WithdrawnFact (record { quote = q.number })) qs) ≡ []
 none_traded [] = refl
@@ -118,7 +118,7 @@ none_traded (q ∷ qs) = none_traded qs
 
 withdrawn_or-Reports : (m : Market) (h : History) (x : Answer) (qs : List RoomQuote) → Reports m h x → Reports m h (withdrawn_or m h x qs)
 withdrawn_or-Reports m h x [] k = k
-withdrawn_or-Reports m h x (q ∷ qs) k = quiet-Reports m h (withdrawn_all m h (q ∷ qs)) (all_told-IsQuiet m h (q ∷ qs)) (none_traded (q ∷ qs))
+withdrawn_or-Reports m h x (q ∷ qs) k = quiet-Reports m h (withdrawn_all m h (q ∷ qs)) (all_emitted-IsQuiet m h (q ∷ qs)) (none_traded (q ∷ qs))
 
 withdraw_one-Reports : (m : Market) (h : History) (s : Sender) (t : ℕ) (id : Option (List ℕ)) → Reports m h (withdraw_one m h s t id)
 withdraw_one-Reports m h s t None = (refl, λ side. refl)
@@ -133,13 +133,13 @@ withdrawal_of-Reports m h s d t false false = (refl, λ side. refl)
 
 -- the requester is told first, the maker then, and one of them is the buyer
 traded-Reports : (m : Market) (h : History) (s : Sender) (r : Room) (q : RoomQuote) (d : ResponseMessage) (t : ℕ) (side : Side) (p : ℤ) → Reports m h (room_traded m h s r q d side p t)
-traded-Reports m h s r q d t taken p = (refl, told taken)
+traded-Reports m h s r q d t taken p = (refl, emitted taken)
   where
-    told : (taken side : Side) → trades_told side (room_traded m h s r q d taken p t).replies ≡ tells m side (next_trade h.facts) (trades (room_traded m h s r q d taken p t).facts)
-    told Buy Buy = refl
-    told Buy Sell = refl
-    told Sell Buy = refl
-    told Sell Sell = refl
+    emitted : (taken side : Side) → trades_emitted side (room_traded m h s r q d taken p t).replies ≡ emits m side (next_trade h.facts) (trades (room_traded m h s r q d taken p t).facts)
+    emitted Buy Buy = refl
+    emitted Buy Sell = refl
+    emitted Sell Buy = refl
+    emitted Sell Sell = refl
 
 hit_at-Reports : (m : Market) (h : History) (s : Sender) (r : Room) (q : RoomQuote) (d : ResponseMessage) (t : ℕ) (side : Side) (p : Option ℤ) → Reports m h (answer_hit_at m h s r q d t side p)
 hit_at-Reports m h s r q d t side None = (refl, λ side. refl)

@@ -13,7 +13,7 @@ use Rattle.venue_rules.specs.declared.facts.Entry.{Entry}
 use Rattle.venue_rules.specs.declared.facts.Removal.{Removal}
 use Rattle.venue_rules.specs.declared.facts.Trade.{Trade}
 use Rattle.venue_rules.specs.Facts.{entries, entry_in, trades, trade_in}
-use Rattle.venue_rules.specs.Book.{Fill, Resting, filled_by, is_better, is_day, is_side, left, rank, ranked, removes, resting, rests, side_room, takes_part, traded, with_left}
+use Rattle.venue_rules.specs.Book.{Fill, Resting, filled_by, is_better, is_day, is_side, left, rank, ranked, removes, resting, rests, side_capacity, takes_part, traded, with_left}
 use Rattle.venue_rules.specs.Entering.{entry_facts, trade_of}
 use Rattle.venue_rules.proofs.Members.{In}
 use Rattle.venue_rules.proofs.Own.{left-own}
@@ -21,7 +21,7 @@ use Rattle.venue_rules.proofs.Own.{left-own}
 -- How many orders rest on a side: at most 200, after more facts too, where an order comes to rest alone where there is room.
 
 abbrev pub IsShort : List Fact → Type 0
-IsShort facts = (x : ℕ) (side : Side) → length (resting facts x side) ≤ side_room
+IsShort facts = (x : ℕ) (side : Side) → length (resting facts x side) ≤ side_capacity
 
 -- what is left grows with no fact
 
@@ -126,7 +126,7 @@ no_more facts more none x side =
 pub quiet-IsShort : (facts more : List Fact) → IsShort facts → entries more ≡ [] → IsShort (facts ++ more)
 quiet-IsShort facts more short none x side =
     let less : length (resting (facts ++ more) x side) ≤ length (resting facts x side) = no_more facts more none x side in
-    let few : length (resting facts x side) ≤ side_room = short x side in
+    let few : length (resting facts x side) ≤ side_capacity = short x side in
     omega (arith, less, few)
 
 -- no more of an order is left than its fills leave
@@ -148,7 +148,7 @@ same_side Sell Sell h = refl
 
 -- an order of which something is left rests where there is room
 abbrev pub HasRoom : List Fact → Entry → List Fill → Type 0
-HasRoom facts e fs = is_day e.order.life ≡ true → filled_by fs < e.order.quantity → length (resting facts e.order.instrument e.order.side) < side_room
+HasRoom facts e fs = is_day e.order.life ≡ true → filled_by fs < e.order.quantity → length (resting facts e.order.instrument e.order.side) < side_capacity
 
 no_entries : (e : Entry) (fs : List Fill) → entries (entry_facts e fs) ≡ e ∷ []
 no_entries e fs = ap (λ es. e ∷ es) (none fs)
@@ -170,7 +170,7 @@ entered-IsShort facts e fs short room x side = go (stays (facts ++ entry_facts e
     one : (b : Bool) → stays (facts ++ entry_facts e fs) x side e ≡ b → length (filter (stays (facts ++ entry_facts e fs) x side) (e ∷ [])) ≡ length (cond b (e ∷ []) [])
     one b h = ap (λ c. length (cond c (e ∷ []) [])) h
 
-    go : (b : Bool) → stays (facts ++ entry_facts e fs) x side e ≡ b → length (resting (facts ++ entry_facts e fs) x side) ≤ side_room
+    go : (b : Bool) → stays (facts ++ entry_facts e fs) x side e ≡ b → length (resting (facts ++ entry_facts e fs) x side) ≤ side_capacity
     go false h = let none = one false h in let few = short x side in omega (arith, all, none, few)
     go true h =
         let day = and_parts (is_day e.order.life) (e.order.instrument == x && (is_side e.order.side side && nat_lt 0 (left (facts ++ entry_facts e fs) e))) h in
@@ -178,7 +178,7 @@ entered-IsShort facts e fs short room x side = go (stays (facts ++ entry_facts e
         let its = and_parts (is_side e.order.side side) (nat_lt 0 (left (facts ++ entry_facts e fs) e)) here.1 in
         let some : 0 < left (facts ++ entry_facts e fs) e = ltb-true 0 (left (facts ++ entry_facts e fs) e) its.1 in
         let most : left (facts ++ entry_facts e fs) e ≤ e.order.quantity - filled_by fs = own-left facts e fs in
-        let low : length (resting facts e.order.instrument e.order.side) < side_room = room day.0 (omega (arith, some, most)) in
+        let low : length (resting facts e.order.instrument e.order.side) < side_capacity = room day.0 (omega (arith, some, most)) in
         let place : length (resting facts e.order.instrument e.order.side) ≡ length (resting facts x side) = (λ j. length (resting facts (eqb-true e.order.instrument x here.0 j) (same_side e.order.side side its.0 j))) in
         let just = one true h in
         omega (arith, all, just, low, place)

@@ -24,7 +24,7 @@ use Rattle.venue_rules.specs.declared.facts.RoomQuote.{RoomQuote}
 use Rattle.venue_rules.specs.declared.refusals.ChangeRefusal.TheVariants.{HeldSide as IsHeldSide}
 use Rattle.venue_rules.specs.Market.{Market}
 use Rattle.venue_rules.specs.Facts.{History, entries, no_history}
-use Rattle.venue_rules.specs.Book.{Resting, filled, filled_by, fills, find_order, is_day, is_side_full, left, resting, rests, side_room, with_left}
+use Rattle.venue_rules.specs.Book.{Resting, filled, filled_by, fills, find_order, is_day, is_side_full, left, resting, rests, side_capacity, with_left}
 use Rattle.venue_rules.specs.Delay.{due, find_held}
 use Rattle.venue_rules.specs.Rooms.{find_quote, find_room, live_quotes, room_by_number}
 use Rattle.venue_rules.specs.Entering.{entering, entry_facts}
@@ -58,14 +58,14 @@ second_false : (a b : Bool) → (a && b) ≡ false → a ≡ true → b ≡ fals
 second_false true b h k = h
 second_false false b h k = absurd (true≢false (sym k))
 
-below : (n : ℕ) → nat_le side_room n ≡ false → n < side_room
+below : (n : ℕ) → nat_le side_capacity n ≡ false → n < side_capacity
 below n h = grind (arith, nat_tests)
 
 -- where the side is not full, there is room for what is left
-room_for : (facts : List Fact) (o : OrderFact) → is_side_full facts o ≡ false → is_day o.life ≡ true → filled_by (fills facts o) < o.quantity → length (resting facts o.instrument o.side) < side_room
+room_for : (facts : List Fact) (o : OrderFact) → is_side_full facts o ≡ false → is_day o.life ≡ true → filled_by (fills facts o) < o.quantity → length (resting facts o.instrument o.side) < side_capacity
 room_for facts o h day less =
     below (length (resting facts o.instrument o.side))
-    (second_false (nat_lt (filled_by (fills facts o)) o.quantity) (nat_le side_room (length (resting facts o.instrument o.side)))
+    (second_false (nat_lt (filled_by (fills facts o)) o.quantity) (nat_le side_capacity (length (resting facts o.instrument o.side)))
     (second_false (is_day o.life) _ h day) (lt-ltb (filled_by (fills facts o)) o.quantity less))
 
 accepted-IsShort : (m : Market) (h : History) (o : OrderFact) (t : ℕ) → IsShort h.facts → is_side_full h.facts o ≡ false → KeepsShort h.facts (accepted m h o t)
@@ -108,7 +108,7 @@ replaced-IsShort m h s d r t short there =
     let without : IsShort (h.facts ++ (Removed x ∷ [])) = quiet-IsShort h.facts (Removed x ∷ []) short refl in
     let less : length (resting (h.facts ++ (Removed x ∷ [])) r.entry.order.instrument r.entry.order.side) < length (resting h.facts r.entry.order.instrument r.entry.order.side) =
     one_left h.facts x r.entry.order.instrument r.entry.order.side r.entry there.0 (eq-eqb r.entry.number r.entry.number refl) there.1 in
-    let few : length (resting h.facts r.entry.order.instrument r.entry.order.side) ≤ side_room = short r.entry.order.instrument r.entry.order.side in
+    let few : length (resting h.facts r.entry.order.instrument r.entry.order.side) ≤ side_capacity = short r.entry.order.instrument r.entry.order.side in
     subst IsShort (append_assoc h.facts (Removed x ∷ []) (entry_facts (entering h.facts o (filled r) t) (fills h.facts o)))
     (entered-IsShort (h.facts ++ (Removed x ∷ [])) (entering h.facts o (filled r) t) (fills h.facts o) without (λ day some. omega (arith, less, few)))
 
@@ -137,7 +137,7 @@ due-IsShort m h k short =
     subst IsShort (append_assoc h.facts (Unheld u ∷ []) (first_of (due_refusals m h k) (accepted m h k.order k.due)).facts)
     (first_of-each (KeepsShort (h.facts ++ (Unheld u ∷ []))) (due_refusals m h k) (accepted m h k.order k.due) (same, (same, tt))
     (λ n. entered-IsShort (h.facts ++ (Unheld u ∷ [])) (entering h.facts k.order 0 k.due) (fills h.facts k.order) now
-    (λ day some. subst (λ (rs : List Resting). length rs < side_room) (sym (resting-unheld h.facts u k.order.instrument k.order.side)) (room_for h.facts k.order n.1.0 day some))))
+    (λ day some. subst (λ (rs : List Resting). length rs < side_capacity) (sym (resting-unheld h.facts u k.order.instrument k.order.side)) (room_for h.facts k.order n.1.0 day some))))
 
 -- no other answer enters an order
 

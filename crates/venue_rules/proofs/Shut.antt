@@ -1,14 +1,14 @@
 use Rattle.std.proofs.Common.{◌≡◌, ap, Bool, true, false, List, [], ◌∷◌, ◌++◌}
 use Rattle.venue_rules.specs.declared.facts.Fact.{Fact}
 use Rattle.venue_rules.specs.declared.facts.Fact.TheVariants.{Entered, Traded, Removed, Held, Unheld, Asked, Quoted, Withdrawn, Closed}
-use Rattle.venue_rules.specs.declared.facts.Place.{Place}
-use Rattle.venue_rules.specs.declared.facts.Place.TheVariants.{Book as InBook, Room as InRoom}
+use Rattle.venue_rules.specs.declared.facts.TradeSource.{TradeSource}
+use Rattle.venue_rules.specs.declared.facts.TradeSource.TheVariants.{Book as InBook, Room as InRoom}
 use Rattle.venue_rules.specs.Answer.{Answer, first_of}
 
 -- A room is closed right after its trade.
 
 -- what comes after a trade closes its room
-abbrev pub ShutBy : Place → List Fact → Type 0
+abbrev pub ShutBy : TradeSource → List Fact → Type 0
 ShutBy (InBook old new) fs = Unit {0}
 ShutBy (InRoom room quote) fs = (rest : List Fact) × (fs ≡ Closed (record { room = room }) ∷ rest)
 
@@ -24,7 +24,7 @@ Shut (Quoted x ∷ fs) = Shut fs
 Shut (Withdrawn x ∷ fs) = Shut fs
 Shut (Closed x ∷ fs) = Shut fs
 
-ShutBy-append : (p : Place) (fs gs : List Fact) → ShutBy p fs → ShutBy p (fs ++ gs)
+ShutBy-append : (p : TradeSource) (fs gs : List Fact) → ShutBy p fs → ShutBy p (fs ++ gs)
 ShutBy-append (InBook old new) fs gs k = tt
 ShutBy-append (InRoom room quote) fs gs k = (k.0 ++ gs, ap (λ xs. xs ++ gs) k.1)
 

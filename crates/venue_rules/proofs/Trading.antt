@@ -8,8 +8,8 @@ use Rattle.venue_rules.specs.declared.facts.Fact.{Fact}
 use Rattle.venue_rules.specs.declared.facts.Fact.TheVariants.{Entered, Traded, Removed, Held, Unheld, Asked, Quoted, Withdrawn, Closed}
 use Rattle.venue_rules.specs.declared.facts.Entry.{Entry}
 use Rattle.venue_rules.specs.declared.facts.Trade.{Trade}
-use Rattle.venue_rules.specs.declared.facts.Place.{Place}
-use Rattle.venue_rules.specs.declared.facts.Place.TheVariants.{Book as InBook, Room as InRoom}
+use Rattle.venue_rules.specs.declared.facts.TradeSource.{TradeSource}
+use Rattle.venue_rules.specs.declared.facts.TradeSource.TheVariants.{Book as InBook, Room as InRoom}
 use Rattle.venue_rules.specs.declared.replies.Reply.{Reply}
 use Rattle.venue_rules.specs.Market.{Market}
 use Rattle.venue_rules.specs.Facts.{entries, entry_in, trades, trade_in}
@@ -73,7 +73,7 @@ grown facts f n h =
     let more : length (entries (facts ++ (f ∷ []))) ≡ length (entries facts) + length (entries (f ∷ [])) = ap length (filter_map-append entry_in facts (f ∷ [])) ∙ length-append (entries facts) (entries (f ∷ [])) in
     omega (arith, h, more)
 
-traded-fresh : (m : Market) (facts : List Fact) (t : Trade) (n : ℕ) → Numbered facts → IsFresh facts n → length (entries facts) < n → (place : Place) → t.place ≡ place → TradeFollows m facts t place → IsFresh (facts ++ (Traded t ∷ [])) n
+traded-fresh : (m : Market) (facts : List Fact) (t : Trade) (n : ℕ) → Numbered facts → IsFresh facts n → length (entries facts) < n → (place : TradeSource) → t.place ≡ place → TradeFollows m facts t place → IsFresh (facts ++ (Traded t ∷ [])) n
 traded-fresh m facts t n known fresh past (InBook old new) at p =
     fresh-traded facts t n fresh (ap (takes_part n) at ∙ or_from (old == n) (new == n) (not_past facts p.1.entry old n known.places p.9 p.5 past) (not_past facts p.0 new n known.places p.3 p.4 past))
 traded-fresh m facts t n known fresh past (InRoom room quote) at p = fresh-traded facts t n fresh (ap (takes_part n) at)
@@ -115,7 +115,7 @@ within-part facts t y w part = subst (λ n. n ≤ y.order.quantity) (sym (traded
     by true h = added_within (list_any (removes y.number) facts) y.order.quantity (traded facts y.number) t.quantity (h refl) w
     by false h = subst (λ n. n ≤ y.order.quantity) (sym (none (traded facts y.number))) w
 
-traded-within : (m : Market) (facts : List Fact) (t : Trade) → Numbered facts → TradesWithin facts → (place : Place) → t.place ≡ place → TradeFollows m facts t place → TradesWithin (facts ++ (Traded t ∷ []))
+traded-within : (m : Market) (facts : List Fact) (t : Trade) → Numbered facts → TradesWithin facts → (place : TradeSource) → t.place ≡ place → TradeFollows m facts t place → TradesWithin (facts ++ (Traded t ∷ []))
 traded-within m facts t known w (InBook old new) at p y i = within-part facts t y (w y j) (λ h. by (or_cases (old == y.number) (new == y.number) (sym (ap (takes_part y.number) at) ∙ h)))
   where
     j : In y (entries facts)

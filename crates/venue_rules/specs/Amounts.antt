@@ -47,4 +47,4 @@ FillsAreWithin = (facts : List Fact) (o : OrderFact) → ((k : ℕ) → filled_b
 
 -- the identifier that is printed for a number of 64 bits has the form of one
 abbrev pub PrintedNumbersAreIdentifiers : Type 0
-PrintedNumbersAreIdentifiers = (letter n : ℕ) → is_printable letter ≡ true → n < 2 ^ 64 → IsText 64 (printed letter n)
+PrintedNumbersAreIdentifiers = (prefix n : ℕ) → is_printable prefix ≡ true → n < 2 ^ 64 → IsText 64 (printed prefix n)

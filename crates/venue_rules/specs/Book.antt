@@ -6,11 +6,11 @@ use Rattle.venue_rules.specs.declared.facts.Fact.{Fact}
 use Rattle.venue_rules.specs.declared.facts.Fact.TheVariants.{Removed}
 use Rattle.venue_rules.specs.declared.facts.Entry.{Entry}
 use Rattle.venue_rules.specs.declared.facts.OrderFact.{OrderFact}
-use Rattle.venue_rules.specs.declared.facts.Life.{Life}
-use Rattle.venue_rules.specs.declared.facts.Life.TheVariants.{Day, FillOrKill}
-use Rattle.venue_rules.specs.declared.facts.Place.{Place}
-use Rattle.venue_rules.specs.declared.facts.Place.TheVariants.{Book as InBook, Room as InRoom}
-use Rattle.venue_rules.specs.declared.replies.PictureEntry.{PictureEntry}
+use Rattle.venue_rules.specs.declared.facts.TimeInForce.{TimeInForce}
+use Rattle.venue_rules.specs.declared.facts.TimeInForce.TheVariants.{Day, FillOrKill}
+use Rattle.venue_rules.specs.declared.facts.TradeSource.{TradeSource}
+use Rattle.venue_rules.specs.declared.facts.TradeSource.TheVariants.{Book as InBook, Room as InRoom}
+use Rattle.venue_rules.specs.declared.replies.SnapshotEntry.{SnapshotEntry}
 use Rattle.participants.specs.Relations.{related}
 use Rattle.instruments.specs.Listing.{delay_of}
 use Rattle.venue_rules.specs.Market.{Market}
@@ -37,13 +37,13 @@ abbrev pub accepts : Side → ℤ → ℤ → Bool
 accepts Buy limit p = int_le p limit
 accepts Sell limit p = int_le limit p
 
-abbrev pub is_day : Life → Bool
+abbrev pub is_day : TimeInForce → Bool
 is_day Day = true
 is_day _ = false
 
 -- what is left
 
-abbrev pub takes_part : ℕ → Place → Bool
+abbrev pub takes_part : ℕ → TradeSource → Bool
 takes_part number (InBook resting entering) = resting == number || entering == number
 takes_part number (InRoom room quote) = false
 
@@ -106,7 +106,7 @@ paired [] qs = []
 paired (r ∷ rs) [] = []
 paired (r ∷ rs) (q ∷ qs) = record { resting = r; quantity = q } ∷ paired rs qs
 
-abbrev pub is_killed : Life → ℕ → ℕ → Bool
+abbrev pub is_killed : TimeInForce → ℕ → ℕ → Bool
 is_killed FillOrKill quantity available = nat_lt available quantity
 is_killed _ quantity available = false
 
@@ -140,20 +140,20 @@ abbrev pub too_soon : Market → List Fact → OrderFact → ℕ → Option Fill
 too_soon m facts o t = find (is_too_soon m o t) (fills facts o)
 
 -- how many orders may rest on a side
-abbrev pub side_room : ℕ
-side_room = 200
+abbrev pub side_capacity : ℕ
+side_capacity = 200
 
 -- a day order that its fills leave something of, where no more may rest
 abbrev pub is_side_full : List Fact → OrderFact → Bool
-is_side_full facts o = is_day o.life && (nat_lt (filled_by (fills facts o)) o.quantity && nat_le side_room (length (resting facts o.instrument o.side)))
+is_side_full facts o = is_day o.life && (nat_lt (filled_by (fills facts o)) o.quantity && nat_le side_capacity (length (resting facts o.instrument o.side)))
 
 -- the picture
 
-abbrev pub shown : Resting → PictureEntry
+abbrev pub shown : Resting → SnapshotEntry
 shown r = record { side = r.entry.order.side; price = r.entry.order.price; left = r.left; order = r.entry.number }
 
 -- every resting order of an instrument: bids, then offers, each best first (17 CFR 37.9(a)(3))
-abbrev pub picture : List Fact → ℕ → List PictureEntry
+abbrev pub picture : List Fact → ℕ → List SnapshotEntry
 picture facts x = map shown (resting facts x Buy) ++ map shown (resting facts x Sell)
 
 -- a participant's resting order by its current identifier

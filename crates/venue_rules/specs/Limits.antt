@@ -2,7 +2,7 @@ use Rattle.std.specs.Prelude.{◌≡◌, ℕ, ◌+◌, ◌≤◌, List, [], ◌�
 use Rattle.fix_dictionary.specs.declared.values.Side.{Side}
 use Rattle.venue_rules.specs.declared.trail.TrailRow.{TrailRow}
 use Rattle.venue_rules.specs.Market.{Market}
-use Rattle.venue_rules.specs.Book.{resting, side_room}
+use Rattle.venue_rules.specs.Book.{resting, side_capacity}
 use Rattle.venue_rules.specs.Requests.{open_room}
 use Rattle.venue_rules.specs.Rooms.{live_quotes, open_rooms}
 use Rattle.venue_rules.specs.Run.{Input, Message, Tick, replies_to, rows, run}
@@ -15,7 +15,7 @@ use Rattle.fix_dictionary.specs.declared.messages.QuoteCancel.{QuoteCancel}
 
 -- at most 200 orders rest on a side of an instrument
 abbrev pub SidesAreShort : Market → List Input → Type 0
-SidesAreShort m is = (x : ℕ) (side : Side) → length (resting (run m is).history.facts x side) ≤ side_room
+SidesAreShort m is = (x : ℕ) (side : Side) → length (resting (run m is).history.facts x side) ≤ side_capacity
 
 abbrev pub moment_of : Input → ℕ
 moment_of (Message taken t) = t

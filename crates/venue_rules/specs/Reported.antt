@@ -30,7 +30,7 @@ abbrev pub ReportsAreNumbered : Outcome → Type 0
 ReportsAreNumbered o = execution_ids o.replies ≡ map (printed 69) (range_with_len 1 o.history.reports)
 
 -- what a participant is told of a trade: the symbol (55), the trade's number (880), its price (31) and its quantity (32)
-pub record Told : Type 0 where
+pub record Emitted : Type 0 where
   pub who : ℕ
   pub symbol : List ℕ
   pub trade : List ℕ
@@ -38,17 +38,17 @@ pub record Told : Type 0 where
   pub quantity : Option ℕ
 
 -- what an execution report to a participant tells of a trade (880), where it is on this side (54)
-abbrev pub told_in_report : Side → ℕ → ReportMessage → Option (List ℕ) → Option Told
-told_in_report side who r None = None
-told_in_report side who r (Some trade) = if is_side r.side side then Some (record { who = who; symbol = r.symbol; trade = trade; price = r.last_price; quantity = r.last_quantity }) else None
+abbrev pub emitted_in_report : Side → ℕ → ReportMessage → Option (List ℕ) → Option Emitted
+emitted_in_report side who r None = None
+emitted_in_report side who r (Some trade) = if is_side r.side side then Some (record { who = who; symbol = r.symbol; trade = trade; price = r.last_price; quantity = r.last_quantity }) else None
 
-abbrev pub told_in : Side → ℕ → App → Option Told
-told_in side who (ExecutionReport r) = told_in_report side who r r.trade_id
-told_in side who _ = None
+abbrev pub emitted_in : Side → ℕ → App → Option Emitted
+emitted_in side who (ExecutionReport r) = emitted_in_report side who r r.trade_id
+emitted_in side who _ = None
 
 -- the trades that buyers are told of, or sellers
-abbrev pub trades_told : Side → List Reply → List Told
-trades_told side rs = filter_map (λ (r : Reply). told_in side r.to (message r.what)) rs
+abbrev pub trades_emitted : Side → List Reply → List Emitted
+trades_emitted side rs = filter_map (λ (r : Reply). emitted_in side r.to (message r.what)) rs
 
 -- who bought, or who sold
 abbrev pub party : Side → Trade → ℕ
@@ -56,9 +56,9 @@ party Buy t = t.buyer
 party Sell t = t.seller
 
 -- a numbered trade as its buyer, or its seller, is to be told of it
-abbrev pub to_be_told : Market → Side → ℕ × Trade → Told
-to_be_told m side p = record { who = party side p.1; symbol = symbol_of m.instruments p.1.instrument; trade = printed 84 p.0; price = Some p.1.price; quantity = Some p.1.quantity }
+abbrev pub to_be_emitted : Market → Side → ℕ × Trade → Emitted
+to_be_emitted m side p = record { who = party side p.1; symbol = symbol_of m.instruments p.1.instrument; trade = printed 84 p.0; price = Some p.1.price; quantity = Some p.1.quantity }
 
 -- each trade is reported once to its buyer and once to its seller, in the order of the trades, under the numbers T1, T2, T3 and so on, with its symbol, price and quantity
 abbrev pub TradesAreReported : Market → Outcome → Type 0
-TradesAreReported m o = (side : Side) → trades_told side o.replies ≡ map (to_be_told m side) (enumerate_from 1 (trades o.history.facts))
+TradesAreReported m o = (side : Side) → trades_emitted side o.replies ≡ map (to_be_emitted m side) (enumerate_from 1 (trades o.history.facts))

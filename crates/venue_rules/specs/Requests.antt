@@ -6,7 +6,7 @@ use Rattle.venue_rules.specs.declared.facts.Fact.TheVariants.{Asked}
 use Rattle.venue_rules.specs.declared.facts.Room.{Room}
 use Rattle.venue_rules.specs.declared.refusals.RequestRefusal.{RequestRefusal}
 use Rattle.venue_rules.specs.declared.refusals.RequestRefusal.TheVariants.{DuplicateRequest, UnknownInstrument, QuantityBelowLeast, UnknownParticipant, RequesterAmongRecipients, RecipientTwice, TooManyRecipients, TooFewRecipients, RecipientsNotUnrelated, TooManyRequests}
-use Rattle.venue_rules.specs.declared.replies.What.TheVariants.{RequestRefused, RequestSent}
+use Rattle.venue_rules.specs.declared.replies.ReplyBody.TheVariants.{RequestRefused, RequestSent}
 use Rattle.participants.specs.Relations.{find_participant, three_unrelated}
 use Rattle.instruments.specs.Listing.{instrument_of, is_unknown_instrument, least_of, request_life_of, symbol_of}
 use Rattle.venue_rules.specs.declared.replies.Reply.{Reply}

@@ -3,7 +3,7 @@ use Rattle.fix_dictionary.specs.declared.messages.QuoteResponse.{QuoteResponse}
 use Rattle.fix_dictionary.specs.declared.values.Side.{Side}
 use Rattle.fix_dictionary.specs.declared.values.Side.TheVariants.{Buy, Sell}
 use Rattle.venue_rules.specs.declared.facts.Fact.TheVariants.{Traded, Closed, Withdrawn as WithdrawnFact}
-use Rattle.venue_rules.specs.declared.facts.Place.TheVariants.{Room as InRoom}
+use Rattle.venue_rules.specs.declared.facts.TradeSource.TheVariants.{Room as InRoom}
 use Rattle.venue_rules.specs.declared.facts.Room.{Room}
 use Rattle.venue_rules.specs.declared.facts.RoomQuote.{RoomQuote}
 use Rattle.venue_rules.specs.declared.facts.Trade.{Trade}
@@ -12,7 +12,7 @@ use Rattle.venue_rules.specs.declared.refusals.ResponseRefusal.TheVariants.{Unsu
 use Rattle.venue_rules.specs.declared.replies.QuoteState.{QuoteState}
 use Rattle.venue_rules.specs.declared.replies.QuoteState.TheVariants.{Expired, NotFound, Passed, ResponseRefused, Withdrawn}
 use Rattle.venue_rules.specs.declared.replies.Reply.{Reply}
-use Rattle.venue_rules.specs.declared.replies.What.TheVariants.{QuoteStatus, RoomTraded}
+use Rattle.venue_rules.specs.declared.replies.ReplyBody.TheVariants.{QuoteStatus, RoomTraded}
 use Rattle.instruments.specs.Listing.{symbol_of}
 use Rattle.venue_rules.specs.Market.{Market}
 use Rattle.venue_rules.specs.Facts.{History, next_trade}
@@ -20,7 +20,7 @@ use Rattle.venue_rules.specs.Book.{is_side, opposite}
 use Rattle.venue_rules.specs.Rooms.{find_quote, is_closed, is_replaced, is_withdrawn, room_by_number}
 use Rattle.venue_rules.specs.Entering.{buyer}
 use Rattle.venue_rules.specs.Withdrawals.{to_maker}
-use Rattle.venue_rules.specs.Answer.{Answer, Sender, answers, first_of, numbered, reply, unprocessed}
+use Rattle.venue_rules.specs.Answer.{Answer, Sender, answers, first_of, numbered, reply, business_reject}
 
 -- what is said to the sender: 117 and 693 as sent, and of a room of its own its request and the instrument
 abbrev pub response_status : Sender → QuoteResponse → Option (List ℕ) → Option (List ℕ) → QuoteState → Reply
@@ -69,7 +69,7 @@ answer_hit_at m h s r q d t side None = answers (response_status s d (Some r.id)
 answer_hit_at m h s r q d t side (Some price) = room_traded m h s r q d side price t
 
 abbrev pub answer_hit : Market → History → Sender → Room → RoomQuote → QuoteResponse → ℕ → Option Side → Answer
-answer_hit m h s r q d t None = unprocessed s SideMissing
+answer_hit m h s r q d t None = business_reject s SideMissing
 answer_hit m h s r q d t (Some side) = answer_hit_at m h s r q d t side (price_for side q)
 
 -- what comes before a hit: the room is another's, the quote is no longer there, the requester passes it, or names the other side

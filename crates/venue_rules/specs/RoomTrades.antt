@@ -1,7 +1,7 @@
 use Rattle.std.specs.Prelude.{◌≡◌, ℕ, true, List, ◌∷◌, ◌++◌, map, Contains, None}
 use Rattle.venue_rules.specs.declared.facts.Fact.{Fact}
 use Rattle.venue_rules.specs.declared.facts.Fact.TheVariants.{Traded, Asked, Quoted}
-use Rattle.venue_rules.specs.declared.facts.Place.TheVariants.{Room as InRoom}
+use Rattle.venue_rules.specs.declared.facts.TradeSource.TheVariants.{Room as InRoom}
 use Rattle.venue_rules.specs.declared.facts.Room.{Room}
 use Rattle.venue_rules.specs.declared.facts.RoomQuote.{RoomQuote}
 use Rattle.venue_rules.specs.declared.facts.Trade.{Trade}
@@ -23,7 +23,7 @@ pub record AskedTogether (m : Market) (is : List Input) (asked : Room) : Type 0 
   pub later : List Input
   pub taken : is ≡ earlier ++ (input ∷ later)
   pub opened : Contains (answer_input m (run m earlier).history input).facts (Asked asked)
-  pub told : (answer_input m (run m earlier).history input).replies ≡ map (request_sent m asked) asked.recipients
+  pub emitted : (answer_input m (run m earlier).history input).replies ≡ map (request_sent m asked) asked.recipients
 
 -- the room had a first quote among these facts, and the requester was shown what rested in the book when it came, right before it was sent on (17 CFR 37.9(a)(3))
 pub record ShownWithFirst (m : Market) (o : Outcome) (facts : List Fact) (asked : Room) : Type 0 where

@@ -3,8 +3,8 @@ use Rattle.std.specs.List.{count_by, enumerate_from}
 use Rattle.fix_dictionary.specs.declared.messages.App.{App}
 use Rattle.fix_dictionary.specs.Text.{app_text}
 use Rattle.venue_rules.specs.declared.replies.Reply.{Reply}
-use Rattle.venue_rules.specs.declared.replies.What.{What}
-use Rattle.venue_rules.specs.declared.replies.What.TheVariants.{OrderRefused, CrossRefused, OrderEntered, OrderFilled, OrderUnfilled, OrderCancelled, OrderReplaced, RoomTraded}
+use Rattle.venue_rules.specs.declared.replies.ReplyBody.{ReplyBody}
+use Rattle.venue_rules.specs.declared.replies.ReplyBody.TheVariants.{OrderRefused, CrossRefused, OrderEntered, OrderFilled, OrderUnfilled, OrderCancelled, OrderReplaced, RoomTraded}
 use Rattle.venue_rules.specs.declared.trail.Taken.{Taken}
 use Rattle.venue_rules.specs.declared.trail.TrailRow.{TrailRow}
 use Rattle.venue_rules.specs.Market.{Market}
@@ -22,7 +22,7 @@ pub data Input : Type 0 where
   Tick : ℕ → Input
 
 -- an execution report (message 8)
-abbrev pub is_report : What → Bool
+abbrev pub is_report : ReplyBody → Bool
 is_report (OrderRefused r) = true
 is_report (CrossRefused r) = true
 is_report (OrderEntered r) = true

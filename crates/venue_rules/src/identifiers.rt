@@ -29,14 +29,14 @@ pub fn symbol_of(instruments: &Instruments, instrument: u32) -> Identifier
 }
 
 /// The identifier that the venue prints for a number: a letter, as `O` for an order, then the digits.
-pub fn printed_identifier(letter: u8, number: u64) -> Identifier
-    requires { is_printable letter ≡ true }
-    ensures { result ≡ printed letter number }
+pub fn printed_identifier(prefix: u8, number: u64) -> Identifier
+    requires { is_printable prefix ≡ true }
+    ensures { result ≡ printed prefix number }
 {
     let mut digits = Buffer::new();
     let digits = digits.format(number).as_bytes();
     let mut bytes = ArrayVec::<u8, 21>::new();
-    bytes.push(letter);
+    bytes.push(prefix);
     bytes.try_extend_from_slice(digits).unwrap();
     printed_numbers_are_identifiers();
     Identifier::from_slice(&bytes)

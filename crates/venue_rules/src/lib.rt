@@ -15,8 +15,8 @@ mod sides;
 mod trail;
 
 pub use facts::{
-    Closing, Entry, Fact, HeldSide, Life, OrderFact, Place, Release, Removal, Room, RoomQuote,
-    Trade, Withdrawal,
+    Closing, Entry, Fact, HeldSide, OrderFact, Release, Removal, Room, RoomQuote, TimeInForce,
+    Trade, TradeSource, Withdrawal,
 };
 pub use fixture::{fixture_instruments, fixture_participants};
 pub use identifiers::{name_identifier, printed_identifier, symbol_of};
@@ -26,7 +26,7 @@ pub use laws::{
     open_rooms_are_few, printed_numbers_are_identifiers, replies_are_few,
     replies_go_to_participants, rows_are_in_order, run_goes_on, runs_join,
 };
-pub use lists::{PictureEntries, Recipients, RowText, Shown};
+pub use lists::{Recipients, RowText, Shown, SnapshotEntries};
 pub use names::is_name;
 pub use participants::Who;
 pub use refusals::{
@@ -34,9 +34,9 @@ pub use refusals::{
     RequestRefusal, ResponseRefusal,
 };
 pub use replies::{
-    ChangeKind, ChangeRefused, ChangedReport, CrossRefused, FilledReport, OrderRefused,
-    OrderReport, PictureEntry, Prices, PricesRefused, QuoteSent, QuoteState, QuoteStatus, Reply,
-    RequestRefused, RequestSent, RoomReport, Standing, Unprocessed, What,
+    BookSnapshot, BusinessReject, ChangeKind, ChangeRefused, ChangedReport, CrossRefused,
+    FilledReport, MarketDataReject, OrderRefused, OrderReport, OrderStatus, QuoteSent, QuoteState,
+    QuoteStatus, Reply, ReplyBody, RequestRefused, RequestSent, RoomReport, SnapshotEntry,
 };
 pub use sides::{buyer, is_side, opposite};
 pub use trail::{EventFault, Keep, RoomFact, ShownOrder, Taken, TradeFact, TrailFault, TrailRow};

@@ -1,9 +1,9 @@
 //! Lists within facts and replies, each seen as a list.
 
 ghost use Rattle.std.specs.Prelude.{◌≡◌, ◌≤◌, ◌*◌, length};
-ghost use Rattle.venue_rules.specs.Book.{side_room};
+ghost use Rattle.venue_rules.specs.Book.{side_capacity};
 
-use crate::replies::PictureEntry;
+use crate::replies::SnapshotEntry;
 use crate::trail::ShownOrder;
 use participants::Who;
 use std::marker::Model;
@@ -39,35 +39,35 @@ impl Recipients {
 
 /// The resting orders of an instrument, as they are shown: bids, then offers, each best first.
 #[derive(Drop)]
-pub struct PictureEntries {
-    entries: Vec<PictureEntry>,
+pub struct SnapshotEntries {
+    entries: Vec<SnapshotEntry>,
 }
 
-impl Model for PictureEntries {
+impl Model for SnapshotEntries {
     ghost use Rattle.std.specs.Prelude.{◌≤◌, ◌*◌, List, length};
-    ghost use Rattle.venue_rules.specs.declared.replies.PictureEntry.{PictureEntry};
-    ghost use Rattle.venue_rules.specs.Book.{side_room};
+    ghost use Rattle.venue_rules.specs.declared.replies.SnapshotEntry.{SnapshotEntry};
+    ghost use Rattle.venue_rules.specs.Book.{side_capacity};
 
-    ghost Value = { List PictureEntry };
+    ghost Value = { List SnapshotEntry };
 
     ghost view = { λ a. a.entries.items };
 
-    ghost invariant = { λ a. length a.entries.items ≤ 2 * side_room };
+    ghost invariant = { λ a. length a.entries.items ≤ 2 * side_capacity };
 }
 
-impl PictureEntries {
+impl SnapshotEntries {
     /// These entries, no more than may rest on the two sides.
-    pub fn from_vec(entries: Vec<PictureEntry>) -> PictureEntries
-        requires { length entries.items ≤ 2 * side_room }
+    pub fn from_vec(entries: Vec<SnapshotEntry>) -> SnapshotEntries
+        requires { length entries.items ≤ 2 * side_capacity }
         ensures { result ≡ entries.items }
     {
-        PictureEntries { entries }
+        SnapshotEntries { entries }
     }
 
     /// Its members.
-    pub fn as_slice(&self) -> &[PictureEntry]
+    pub fn as_slice(&self) -> &[SnapshotEntry]
         ensures value { result.now ≡ self.now }
-        ensures few { length result.now ≤ 2 * side_room }
+        ensures few { length result.now ≤ 2 * side_capacity }
     {
         &self.entries
     }

@@ -1,9 +1,9 @@
 //! What the venue answers.
 
 ghost use Rattle.std.specs.Prelude.{◌≡◌, [], ◌∷◌};
-ghost use Rattle.venue_rules.specs.Answer.{answers, unprocessed};
+ghost use Rattle.venue_rules.specs.Answer.{answers, business_reject};
 
-use crate::lists::PictureEntries;
+use crate::lists::SnapshotEntries;
 use crate::refusals::{
     BusinessRefusal, ChangeRefusal, CrossRefusal, MarketDataRefusal, OrderRefusal, QuoteRefusal,
     RequestRefusal, ResponseRefusal,
@@ -63,7 +63,7 @@ pub enum ChangeKind {
 
 /// The resting order that a cancel or replacement named, and what of it is filled.
 #[derive(Drop)]
-pub struct Standing {
+pub struct OrderStatus {
     pub order: u64,
     pub filled: Amount,
 }
@@ -71,7 +71,7 @@ pub struct Standing {
 /// A refusal of a cancel or a replacement.
 #[derive(Drop)]
 pub struct ChangeRefused {
-    pub standing: Option<Standing>,
+    pub standing: Option<OrderStatus>,
     pub id: Identifier,
     pub original_id: Identifier,
     pub kind: ChangeKind,
@@ -146,7 +146,7 @@ pub struct RoomReport {
 
 /// One resting order of a picture.
 #[derive(Drop)]
-pub struct PictureEntry {
+pub struct SnapshotEntry {
     pub side: Side,
     pub price: Price,
     pub left: Amount,
@@ -155,29 +155,29 @@ pub struct PictureEntry {
 
 /// The picture of an instrument.
 #[derive(Drop)]
-pub struct Prices {
+pub struct BookSnapshot {
     pub request_id: Identifier,
     pub symbol: Identifier,
-    pub entries: PictureEntries,
+    pub entries: SnapshotEntries,
 }
 
 /// A refusal of a request for market data.
 #[derive(Drop)]
-pub struct PricesRefused {
+pub struct MarketDataReject {
     pub request_id: Identifier,
     pub cause: MarketDataRefusal,
 }
 
 /// A message that was read and not processed: its number and type.
 #[derive(Drop)]
-pub struct Unprocessed {
+pub struct BusinessReject {
     pub number: SequenceNumber,
     pub kind: Identifier,
     pub cause: BusinessRefusal,
 }
 
 /// An answer of the venue.
-pub enum What {
+pub enum ReplyBody {
     OrderRefused(OrderRefused),
     CrossRefused(CrossRefused),
     OrderEntered(OrderReport),
@@ -191,31 +191,31 @@ pub enum What {
     QuoteStatus(QuoteStatus),
     QuoteSent(QuoteSent),
     RoomTraded(RoomReport),
-    Prices(Prices),
-    PricesRefused(PricesRefused),
-    Unprocessed(Unprocessed),
+    BookSnapshot(BookSnapshot),
+    MarketDataReject(MarketDataReject),
+    BusinessReject(BusinessReject),
 }
 
 // Written out, so that a proof sees one call where it is dropped, and not the drop of each part.
-impl Drop for What {
+impl Drop for ReplyBody {
     fn drop(self) {
         match self {
-            What::OrderRefused(_a) => {}
-            What::CrossRefused(_a) => {}
-            What::OrderEntered(_a) => {}
-            What::OrderFilled(_a) => {}
-            What::OrderUnfilled(_a) => {}
-            What::OrderCancelled(_a) => {}
-            What::OrderReplaced(_a) => {}
-            What::ChangeRefused(_a) => {}
-            What::RequestRefused(_a) => {}
-            What::RequestSent(_a) => {}
-            What::QuoteStatus(_a) => {}
-            What::QuoteSent(_a) => {}
-            What::RoomTraded(_a) => {}
-            What::Prices(_a) => {}
-            What::PricesRefused(_a) => {}
-            What::Unprocessed(_a) => {}
+            ReplyBody::OrderRefused(_a) => {}
+            ReplyBody::CrossRefused(_a) => {}
+            ReplyBody::OrderEntered(_a) => {}
+            ReplyBody::OrderFilled(_a) => {}
+            ReplyBody::OrderUnfilled(_a) => {}
+            ReplyBody::OrderCancelled(_a) => {}
+            ReplyBody::OrderReplaced(_a) => {}
+            ReplyBody::ChangeRefused(_a) => {}
+            ReplyBody::RequestRefused(_a) => {}
+            ReplyBody::RequestSent(_a) => {}
+            ReplyBody::QuoteStatus(_a) => {}
+            ReplyBody::QuoteSent(_a) => {}
+            ReplyBody::RoomTraded(_a) => {}
+            ReplyBody::BookSnapshot(_a) => {}
+            ReplyBody::MarketDataReject(_a) => {}
+            ReplyBody::BusinessReject(_a) => {}
         }
     }
 }
@@ -223,7 +223,7 @@ impl Drop for What {
 /// An answer and whom it goes to.
 pub struct Reply {
     pub to: Who,
-    pub what: What,
+    pub what: ReplyBody,
 }
 
 // Written out, so that a proof sees one call where it is dropped, and not the drop of each part.
@@ -238,17 +238,17 @@ impl Drop for Reply {
 
 impl Reply {
     /// The message of this number and type (35) is not processed, for this cause: a BusinessMessageReject (j).
-    pub fn unprocessed(
+    pub fn business_reject(
         to: Who,
         number: SequenceNumber,
         kind: Identifier,
         cause: BusinessRefusal,
     ) -> Reply
-        ensures { answers (result ∷ []) ≡ unprocessed (record { who = to; number = number; kind = kind }) cause }
+        ensures { answers (result ∷ []) ≡ business_reject (record { who = to; number = number; kind = kind }) cause }
     {
         Reply {
             to,
-            what: What::Unprocessed(Unprocessed {
+            what: ReplyBody::BusinessReject(BusinessReject {
                 number,
                 kind,
                 cause,

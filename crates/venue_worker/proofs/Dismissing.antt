@@ -3,58 +3,58 @@ use Rattle.std.proofs.Common.{◌≡◌, ◌≢◌, ◌⊎◌, inl, inr, ℕ, ze
 use Rattle.std.specs.Prelude.{slice_get, Some}
 use Rattle.std.proofs.lemmas.Bool.{false≢true}
 use Rattle.intake_seats.specs.Given.{HandEnd}
-use Rattle.taken_and_owed.specs.declared.outgoing.Outgoing.{Outgoing}
-use Rattle.taken_and_owed.specs.declared.queue.Queue.{Queue}
+use Rattle.outbound_queue.specs.declared.outgoing.Outgoing.{Outgoing}
+use Rattle.outbound_queue.specs.declared.queue.Queue.{Queue}
 use Rattle.venue_worker.specs.Work.{Work}
 use Rattle.venue_worker.specs.Calls.{IsDelivery, Delivers, Cuts, IsCut, IsSameElse, with_session, with_sessions}
 use Rattle.venue_worker.specs.Turns.{IsServed, AreServed}
-use Rattle.venue_worker.specs.Dismissal.{mark, IsSeenOff, AreSeenOff, CutsServed, SeesOff, AreServedUpTo, AreLookedAt}
+use Rattle.venue_worker.specs.Shutdown.{cut_token, IsSeenOff, AreDrained, CutsServed, SeesOff, AreServedUpTo, AreLookedAt}
 use Rattle.venue_worker.proofs.Lists.{at_set, at_below, below_at}
 use Rattle.venue_worker.proofs.Moving.{some_at}
 use Rattle.venue_worker.proofs.Turning.{looks_grow, served_by}
 
 -- marks
 
-no_mark : (b : Bool) → mark b b ≡ []
-no_mark true = refl
-no_mark false = refl
+no_cut_token : (b : Bool) → cut_token b b ≡ []
+no_cut_token true = refl
+no_cut_token false = refl
 
-marks_then : (a b c : Bool) → (a ≡ true → b ≡ true) → (b ≡ true → c ≡ true) → mark a b ++ mark b c ≡ mark a c
-marks_then true true true s t = refl
-marks_then true true false s t = absurd (false≢true (t refl))
-marks_then true false c s t = absurd (false≢true (s refl))
-marks_then false true true s t = refl
-marks_then false true false s t = absurd (false≢true (t refl))
-marks_then false false true s t = refl
-marks_then false false false s t = refl
+tokens_then : (a b c : Bool) → (a ≡ true → b ≡ true) → (b ≡ true → c ≡ true) → cut_token a b ++ cut_token b c ≡ cut_token a c
+tokens_then true true true s t = refl
+tokens_then true true false s t = absurd (false≢true (t refl))
+tokens_then true false c s t = absurd (false≢true (s refl))
+tokens_then false true true s t = refl
+tokens_then false true false s t = absurd (false≢true (t refl))
+tokens_then false false true s t = refl
+tokens_then false false false s t = refl
 
 -- nothing is added where a queue is cut no more than before
-unmarked : (w : List Outgoing) (b b' : Bool) → b' ≡ b → w ++ mark b b' ≡ w
-unmarked w b b' same = ap (λ z. w ++ mark b z) same ∙ ap (λ z. w ++ z) (no_mark b) ∙ append-nil w
+without_cuts : (w : List Outgoing) (b b' : Bool) → b' ≡ b → w ++ cut_token b b' ≡ w
+without_cuts w b b' same = ap (λ z. w ++ cut_token b z) same ∙ ap (λ z. w ++ z) (no_cut_token b) ∙ append-nil w
 
 -- one participant
 
 seen_none : (q : Queue) (h : HandEnd Outgoing) → IsSeenOff q q h h
-seen_none q h = record { next = []; given = sym (append-nil h.given); waiting = sym (unmarked q.waiting.items q.is_cut q.is_cut refl); still = λ c. c }
+seen_none q h = record { next = []; given = sym (append-nil h.given); waiting = sym (without_cuts q.waiting.items q.is_cut q.is_cut refl); still = λ c. c }
 
 pub seen_then : (q q' q'' : Queue) (h h' h'' : HandEnd Outgoing) → IsSeenOff q q' h h' → IsSeenOff q' q'' h' h'' → IsSeenOff q q'' h h''
 seen_then q q' q'' h h' h'' s t = record {
   next = s.next ++ t.next;
   given = t.given ∙ ap (λ z. z ++ t.next) s.given ∙ append_assoc h.given s.next t.next;
-  waiting = append_assoc s.next t.next q''.waiting.items ∙ ap (λ z. s.next ++ z) t.waiting ∙ sym (append_assoc s.next q'.waiting.items (mark q'.is_cut q''.is_cut))
-      ∙ ap (λ z. z ++ mark q'.is_cut q''.is_cut) s.waiting ∙ append_assoc q.waiting.items (mark q.is_cut q'.is_cut) (mark q'.is_cut q''.is_cut)
-      ∙ ap (λ z. q.waiting.items ++ z) (marks_then q.is_cut q'.is_cut q''.is_cut s.still t.still);
+  waiting = append_assoc s.next t.next q''.waiting.items ∙ ap (λ z. s.next ++ z) t.waiting ∙ sym (append_assoc s.next q'.waiting.items (cut_token q'.is_cut q''.is_cut))
+      ∙ ap (λ z. z ++ cut_token q'.is_cut q''.is_cut) s.waiting ∙ append_assoc q.waiting.items (cut_token q.is_cut q'.is_cut) (cut_token q'.is_cut q''.is_cut)
+      ∙ ap (λ z. q.waiting.items ++ z) (tokens_then q.is_cut q'.is_cut q''.is_cut s.still t.still);
   still = λ c. t.still (s.still c);
 }
 
 delivery_sees : (q q' : Queue) (h h' : HandEnd Outgoing) (moved : Bool) → q'.is_cut ≡ q.is_cut → IsDelivery q h q' h' moved → IsSeenOff q q' h h'
-delivery_sees q q' h h' true same d = record { next = d.0 ∷ []; given = d.2; waiting = sym d.1 ∙ sym (unmarked q.waiting.items q.is_cut q'.is_cut same); still = λ c. same ∙ c }
-delivery_sees q q' h h' false same d = record { next = []; given = d.1 ∙ sym (append-nil h.given); waiting = d.0 ∙ sym (unmarked q.waiting.items q.is_cut q'.is_cut same); still = λ c. same ∙ c }
+delivery_sees q q' h h' true same d = record { next = d.0 ∷ []; given = d.2; waiting = sym d.1 ∙ sym (without_cuts q.waiting.items q.is_cut q'.is_cut same); still = λ c. same ∙ c }
+delivery_sees q q' h h' false same d = record { next = []; given = d.1 ∙ sym (append-nil h.given); waiting = d.0 ∙ sym (without_cuts q.waiting.items q.is_cut q'.is_cut same); still = λ c. same ∙ c }
 
 -- a cut of a queue in which nothing waits
-pub cut_marks : (q q' : Queue) (b : Bool) → q.waiting.items ≡ [] → q.is_cut ≡ b → IsCut q q' b → (q'.waiting.items ≡ q.waiting.items ++ mark q.is_cut q'.is_cut) × (q.is_cut ≡ true → q'.is_cut ≡ true)
-cut_marks q q' true none was c = (c.0 ∙ sym (unmarked q.waiting.items q.is_cut q'.is_cut (c.1 ∙ sym was)), λ z. c.1)
-cut_marks q q' false none was c = (c.0 ∙ (λ i. sym none i ++ mark (sym was i) (sym c.1 i)), λ z. c.1)
+pub cut_tokens : (q q' : Queue) (b : Bool) → q.waiting.items ≡ [] → q.is_cut ≡ b → IsCut q q' b → (q'.waiting.items ≡ q.waiting.items ++ cut_token q.is_cut q'.is_cut) × (q.is_cut ≡ true → q'.is_cut ≡ true)
+cut_tokens q q' true none was c = (c.0 ∙ sym (without_cuts q.waiting.items q.is_cut q'.is_cut (c.1 ∙ sym was)), λ z. c.1)
+cut_tokens q q' false none was c = (c.0 ∙ (λ i. sym none i ++ cut_token (sym was i) (sym c.1 i)), λ z. c.1)
 
 -- a worker whose participant is one of these
 
@@ -82,10 +82,10 @@ set_same (x ∷ xs) (suc j) a at = ap (λ z. x ∷ z) (set_same xs j a at)
 pub not_cut : (w : Work) (j : ℕ) → length w.ledger.queues ≡ length w.hands → j < length w.hands → CutsServed w w j
 not_cut w j long low =
     let q = some_at w.ledger.queues j (omega (arith, low, long)) in
-    (q.0, q.0, q.1, ap (λ (z : List Queue). record w { ledger = record w.ledger { queues = z } }) (sym (set_same w.ledger.queues j q.0 q.1)), sym (unmarked q.0.waiting.items q.0.is_cut q.0.is_cut refl), λ c. c)
+    (q.0, q.0, q.1, ap (λ (z : List Queue). record w { ledger = record w.ledger { queues = z } }) (sym (set_same w.ledger.queues j q.0 q.1)), sym (without_cuts q.0.waiting.items q.0.is_cut q.0.is_cut refl), λ c. c)
 
 pub cut_served : (old new : Work) (j : ℕ) → ((q : Queue) → slice_get old.ledger.queues j ≡ Some q → q.waiting.items ≡ []) → Cuts old new j → CutsServed old new j
-cut_served old new j none c = (let m = cut_marks c.0 c.1 c.0.is_cut (none c.0 c.2) refl c.4 in (c.0, c.1, c.2, c.3, m.0, m.1))
+cut_served old new j none c = (let m = cut_tokens c.0 c.1 c.0.is_cut (none c.0 c.2) refl c.4 in (c.0, c.1, c.2, c.3, m.0, m.1))
 
 pub sees_then : (old mid new : Work) (j : ℕ) (moved : Bool) → CutsServed old mid j → Delivers mid new j moved → SeesOff j old new
 sees_then old mid new j moved c d = record {
@@ -114,13 +114,13 @@ same_then a b c e f = (f.0 ∙ ap (λ (w : Work). with_sessions w c.ledger.queue
 pub sees_same : (j : ℕ) (old new : Work) → SeesOff j old new → IsSameElse old new
 sees_same j old new s = subst (IsSameElse old) (sym s.other) (refl, length-set old.ledger.queues j s.is, length-set old.hands j s.has)
 
-pub all_seen : (w : Work) → AreSeenOff w w
+pub all_seen : (w : Work) → AreDrained w w
 all_seen w j q q' h h' q_at q'_at h_at h'_at =
     let same_q : q ≡ q' = cc in
     let same_h : h ≡ h' = cc in
     subst (λ (z : Queue). IsSeenOff q z h h') same_q (subst (λ (z : HandEnd Outgoing). IsSeenOff q q h z) same_h (seen_none q h))
 
-pub all_seen_then : (a b c : Work) → IsSameElse a b → AreSeenOff a b → AreSeenOff b c → AreSeenOff a c
+pub all_seen_then : (a b c : Work) → IsSameElse a b → AreDrained a b → AreDrained b c → AreDrained a c
 all_seen_then a b c e s t j q q'' h h'' q_at q''_at h_at h''_at =
     let mid = get_or b.ledger.queues j q in
     let mid_at = at_below b.ledger.queues j q (subst (λ n. j < n) (sym e.1) (below_at a.ledger.queues j q q_at)) in
@@ -135,7 +135,7 @@ queue_seen j old new s k q' at = at_set old.ledger.queues j k s.is q' (ap (λ (w
 hand_seen : (j : ℕ) (old new : Work) (s : SeesOff j old new) (k : ℕ) (h' : HandEnd Outgoing) → slice_get new.hands k ≡ Some h' → ((k ≡ j) × (h' ≡ s.has)) ⊎ ((k ≢ j) × (slice_get old.hands k ≡ Some h'))
 hand_seen j old new s k h' at = at_set old.hands j k s.has h' (ap (λ (w : Work). slice_get w.hands k) (sym s.other) ∙ at)
 
-pub sees_all : (j : ℕ) (old new : Work) → SeesOff j old new → AreSeenOff old new
+pub sees_all : (j : ℕ) (old new : Work) → SeesOff j old new → AreDrained old new
 sees_all j old new s k q q' h h' q_at q'_at h_at h'_at = go (queue_seen j old new s k q' q'_at) (hand_seen j old new s k h' h'_at)
   where
     go : (((k ≡ j) × (q' ≡ s.is)) ⊎ ((k ≢ j) × (slice_get old.ledger.queues k ≡ Some q'))) → (((k ≡ j) × (h' ≡ s.has)) ⊎ ((k ≢ j) × (slice_get old.hands k ≡ Some h'))) → IsSeenOff q q' h h'

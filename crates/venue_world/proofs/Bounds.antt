@@ -14,20 +14,20 @@ use Rattle.venue_rules.specs.Limits.{IsRising, moment_of}
 use Rattle.venue_rules.specs.Market.{Market}
 use Rattle.venue_rules.specs.Messages.{message}
 use Rattle.venue_rules.specs.Run.{Input, Message, Tick, replies_to}
-use Rattle.venue_world.specs.declared.act.Act.{Act}
-use Rattle.venue_world.specs.declared.act.Act.TheVariants.{Alone, Takes, VenueTicks}
-use Rattle.venue_world.specs.declared.act.Doing.{Doing}
-use Rattle.venue_world.specs.declared.act.Doing.TheVariants.{Pieces, Steps, Ticks, Breaks, Resumes, Hands, Delivers, Collects, Cuts, Writes}
+use Rattle.venue_world.specs.declared.world_event.WorldEvent.{WorldEvent}
+use Rattle.venue_world.specs.declared.world_event.WorldEvent.TheVariants.{Alone, Takes, VenueTicks}
+use Rattle.venue_world.specs.declared.world_event.SessionEvent.{SessionEvent}
+use Rattle.venue_world.specs.declared.world_event.SessionEvent.TheVariants.{Pieces, Steps, Ticks, Breaks, Resumes, Hands, Delivers, Collects, Cuts, Writes}
 use Rattle.venue_rules.specs.MoreInputs.{said_to}
-use Rattle.taken_and_owed.specs.Owed.{added, most_queued}
-use Rattle.taken_and_owed.specs.declared.outgoing.Outgoing.{Outgoing}
-use Rattle.taken_and_owed.specs.declared.outgoing.Outgoing.TheVariants as outgoing_is
+use Rattle.outbound_queue.specs.Owed.{added, most_queued}
+use Rattle.outbound_queue.specs.declared.outgoing.Outgoing.{Outgoing}
+use Rattle.outbound_queue.specs.declared.outgoing.Outgoing.TheVariants as outgoing_is
 use Rattle.venue_world.specs.Side.{Side, collected, delivered, does, fresh_side, handed}
-use Rattle.venue_world.specs.World.{Stand, after_act, after_all, answered, at, emptied, first_behind, fresh_world, ids_of, is_behind, is_due, message_from, posted, replies_after, seat_at, takes, ticks, unless_behind}
+use Rattle.venue_world.specs.World.{WorldState, after_act, after_all, answered, at, emptied, first_behind, fresh_world, ids_of, is_behind, is_due, message_from, posted, replies_after, seat_at, takes, ticks, unless_behind}
 use Rattle.venue_world.specs.Headline.{AreFrom, QueuesAreFew}
 use Rattle.venue_world.proofs.Behind.{emptied_behind}
 use Rattle.venue_world.proofs.Lists.{IsAt, here, there, heard_by, side_at, side_posted}
-use Rattle.venue_world.proofs.Rooms.{length-at, length-posted}
+use Rattle.venue_world.proofs.Capacity.{length-at, length-posted}
 
 -- One queue.
 
@@ -53,7 +53,7 @@ collected_few s t None few = few
 collected_few s t (Some (outgoing_is.Message app)) few = if_few (are_numbers_spent s.session) s _ few few
 collected_few s t (Some outgoing_is.Cut) few = few
 
-does_few : (r : Reader) (x : Doing) (s : Side) → IsFew s → IsFew (does r x s)
+does_few : (r : Reader) (x : SessionEvent) (s : Side) → IsFew s → IsFew (does r x s)
 does_few r (Pieces bytes) s few = few
 does_few r (Steps t) s few = few
 does_few r (Ticks t) s few = few
@@ -144,13 +144,13 @@ full_below [] k x e = absurd (cc)
 full_below (s ∷ sides) zero x e = omega arith
 full_below (s ∷ sides) (suc k) x e = (let rest = full_below sides k x e in omega (arith, rest))
 
-pub record Bounded (w : Stand) : Type 0 where
+pub record Bounded (w : WorldState) : Type 0 where
   pub sides : length w.sides ≡ length w.market.participants.names
   pub senders : AreFrom (length w.market.participants.names) w.items
   pub moments : IsRising 0 w.items w.moment
   pub few : QueuesAreFew w.sides
 
-alone_bounded : (r : Reader) (w : Stand) (k : ℕ) (x : Doing) → Bounded w → Bounded (after_act r w (Alone k x))
+alone_bounded : (r : Reader) (w : WorldState) (k : ℕ) (x : SessionEvent) → Bounded w → Bounded (after_act r w (Alone k x))
 alone_bounded r w k x b = record {
   sides = length-at w.sides k (does r x) ∙ b.sides;
   senders = b.senders;
@@ -158,11 +158,11 @@ alone_bounded r w k x b = record {
   few = at_few k (does r x) w.sides (does_few r x) b.few;
 }
 
-waits_bounded : (w : Stand) (t : ℕ) → w.moment ≤ t → Bounded w → Bounded (record w { moment = t })
+waits_bounded : (w : WorldState) (t : ℕ) → w.moment ≤ t → Bounded w → Bounded (record w { moment = t })
 waits_bounded w t later b = record { sides = b.sides; senders = b.senders; moments = rising_later 0 w.items w.moment t b.moments later; few = b.few }
 
 -- an item is answered, nobody being behind
-unless_bounded : (w : Stand) (item : Input) (t : ℕ) (sides : List Side) (fb : Option ℕ) → first_behind 0 (replies_after w.market w.items item) w.sides ≡ fb → first_behind 0 (replies_after w.market w.items item) sides ≡ fb
+unless_bounded : (w : WorldState) (item : Input) (t : ℕ) (sides : List Side) (fb : Option ℕ) → first_behind 0 (replies_after w.market w.items item) w.sides ≡ fb → first_behind 0 (replies_after w.market w.items item) sides ≡ fb
     → w.moment ≤ t → moment_of item ≡ t → length sides ≡ length w.sides → QueuesAreFew sides → AreFrom (length w.market.participants.names) (item ∷ []) → Bounded w → Bounded (unless_behind fb (answered w item t sides) w)
 unless_bounded w item t sides (Some j) is is' later at_t long few from b = b
 unless_bounded w item t sides None is is' later at_t long few from b = record {
@@ -172,7 +172,7 @@ unless_bounded w item t sides None is is' later at_t long few from b = record {
   few = posted_few (replies_after w.market w.items item) sides is' few;
 }
 
-takes_bounded : (w : Stand) (k t : ℕ) (b : Bool) (seat : Option Item) → seat_at k w.sides ≡ seat → w.moment ≤ t → Bounded w → Bounded (takes w k t b seat)
+takes_bounded : (w : WorldState) (k t : ℕ) (b : Bool) (seat : Option Item) → seat_at k w.sides ≡ seat → w.moment ≤ t → Bounded w → Bounded (takes w k t b seat)
 takes_bounded w k t true seat full later b = b
 takes_bounded w k t false None full later b = waits_bounded w t later b
 takes_bounded w k t false (Some x) full later b =
@@ -181,17 +181,17 @@ takes_bounded w k t false (Some x) full later b =
     unless_bounded w (message_from k x t) t (at k emptied w.sides) (first_behind 0 rs w.sides) refl (emptied_behind rs w.sides 0 k) later refl (length-at w.sides k emptied)
     (at_few k emptied w.sides (λ s few. few) b.few) (low, tt) b
 
-ticks_bounded : (w : Stand) (t : ℕ) (b : Bool) → w.moment ≤ t → Bounded w → Bounded (ticks w t b)
+ticks_bounded : (w : WorldState) (t : ℕ) (b : Bool) → w.moment ≤ t → Bounded w → Bounded (ticks w t b)
 ticks_bounded w t false later b = waits_bounded w t later b
 ticks_bounded w t true later b =
     unless_bounded w (Tick t) t w.sides (first_behind 0 (replies_after w.market w.items (Tick t)) w.sides) refl refl later refl refl b.few tt b
 
-act_bounded : (r : Reader) (w : Stand) (a : Act) → Bounded w → Bounded (after_act r w a)
+act_bounded : (r : Reader) (w : WorldState) (a : WorldEvent) → Bounded w → Bounded (after_act r w a)
 act_bounded r w (Alone k x) b = alone_bounded r w k x b
 act_bounded r w (Takes k t) b = takes_bounded w k (max w.moment t) (is_due w.market w.items (max w.moment t)) (seat_at k w.sides) refl (le-max_left w.moment t) b
 act_bounded r w (VenueTicks t) b = ticks_bounded w (max w.moment t) (is_due w.market w.items (max w.moment t)) (le-max_left w.moment t) b
 
-pub acts_bounded : (r : Reader) (w : Stand) (acts : List Act) → Bounded w → Bounded (after_all r w acts)
+pub acts_bounded : (r : Reader) (w : WorldState) (acts : List WorldEvent) → Bounded w → Bounded (after_all r w acts)
 acts_bounded r w [] b = b
 acts_bounded r w (a ∷ acts) b = acts_bounded r (after_act r w a) acts (act_bounded r w a b)
 

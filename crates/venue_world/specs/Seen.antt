@@ -9,14 +9,14 @@ use Rattle.venue_rules.specs.Market.{Market}
 use Rattle.venue_rules.specs.Run.{rows}
 use Rattle.venue_core.specs.State.{State as Venue}
 use Rattle.venue_core.specs.Taking.{Stands as VenueStands}
-use Rattle.venue_world.specs.declared.act.Act.{Act}
-use Rattle.venue_world.specs.declared.act.Act.TheVariants.{Alone, Takes, VenueTicks}
-use Rattle.venue_world.specs.declared.act.Doing.{Doing}
-use Rattle.venue_world.specs.declared.act.Doing.TheVariants.{Pieces, Steps, Ticks, Collects}
+use Rattle.venue_world.specs.declared.world_event.WorldEvent.{WorldEvent}
+use Rattle.venue_world.specs.declared.world_event.WorldEvent.TheVariants.{Alone, Takes, VenueTicks}
+use Rattle.venue_world.specs.declared.world_event.SessionEvent.{SessionEvent}
+use Rattle.venue_world.specs.declared.world_event.SessionEvent.TheVariants.{Pieces, Steps, Ticks, Collects}
 use Rattle.venue_world.specs.declared.event.Event.{Event}
 use Rattle.venue_world.specs.Acts.{act_of}
 use Rattle.venue_world.specs.Side.{Side}
-use Rattle.venue_world.specs.World.{Stand, after_act, after_all, fresh_world, refusal}
+use Rattle.venue_world.specs.World.{WorldState, after_act, after_all, fresh_world, refusal}
 
 -- The venue; the keeper's rows, whether its store is as its calls left it, and how often it refused; how many items there were; the
 -- venue's last moment; and the participants' sides.
@@ -31,7 +31,7 @@ pub record Seen : Type 0 where
 
 -- The world stands so: its venue stands for what was taken, its rows are those of what was taken, unless the store failed, and its
 -- sides are these.
-pub record Shows (s : Seen) (w : Stand) : Type 0 where
+pub record Shows (s : Seen) (w : WorldState) : Type 0 where
   pub venue : VenueStands w.market w.items s.venue
   pub rows : s.is_clean ≡ true → s.rows ≡ rows w.items
   pub count : s.count ≡ length w.items
@@ -41,7 +41,7 @@ pub record Shows (s : Seen) (w : Stand) : Type 0 where
 -- Of one event.
 
 -- what is done at one side may take memory: a piece, a step, a tick and a collected reply
-abbrev pub takes_memory : Doing → Bool
+abbrev pub takes_memory : SessionEvent → Bool
 takes_memory (Pieces bytes) = true
 takes_memory (Steps t) = true
 takes_memory (Ticks t) = true
@@ -49,13 +49,13 @@ takes_memory (Collects t) = true
 takes_memory x = false
 
 -- an act may take memory; a break, a resume, a hand, a delivery and a cut take none
-abbrev pub may_take_memory : Act → Bool
+abbrev pub may_take_memory : WorldEvent → Bool
 may_take_memory (Alone i x) = takes_memory x
 may_take_memory (Takes i t) = true
 may_take_memory (VenueTicks t) = true
 
 -- it is the venue's, which alone records rows
-abbrev pub is_of_venue : Act → Bool
+abbrev pub is_of_venue : WorldEvent → Bool
 is_of_venue (Alone i x) = false
 is_of_venue (Takes i t) = true
 is_of_venue (VenueTicks t) = true
@@ -67,29 +67,29 @@ is_refused_first (Some (Down j)) = true
 is_refused_first refusal = false
 
 -- Why an act failed: its refusal; the trail, whose count of refusals rose; or memory, where it may take some.
-abbrev pub IsCause : Option EventFault → Act → ℕ → ℕ → EventFault → Type 0
+abbrev pub IsCause : Option EventFault → WorldEvent → ℕ → ℕ → EventFault → Type 0
 IsCause refusal a refused refused' NoMemory = (may_take_memory a ≡ true) × (is_refused_first refusal ≡ false)
 IsCause refusal a refused refused' TrailRefused = (refusal ≡ None) × IsRisen refused refused' × (is_of_venue a ≡ true)
 IsCause refusal a refused refused' fault = refusal ≡ Some fault
 
 -- an act was done to a world that stood so: it was not refused, and the world stands as after it
-pub record WasDone (r : Reader) (a : Act) (w : Stand) (s' : Seen) : Type 0 where
+pub record WasDone (r : Reader) (a : WorldEvent) (w : WorldState) (s' : Seen) : Type 0 where
   pub shows : Shows s' (after_act r w a)
   pub allowed : refusal w a ≡ None
 
-abbrev pub Done : Reader → Act → Seen → Seen → Type 0
-Done r a s s' = (w : Stand) → Shows s w → WasDone r a w s'
+abbrev pub Done : Reader → WorldEvent → Seen → Seen → Type 0
+Done r a s s' = (w : WorldState) → Shows s w → WasDone r a w s'
 
 -- an act failed: the world stands as before, and there was a cause
-pub record WasUndone (a : Act) (w : Stand) (s s' : Seen) (fault : EventFault) : Type 0 where
+pub record WasUndone (a : WorldEvent) (w : WorldState) (s s' : Seen) (fault : EventFault) : Type 0 where
   pub shows : Shows s' w
   pub cause : IsCause (refusal w a) a s.refused s'.refused fault
 
-abbrev pub Undone : Act → Seen → Seen → EventFault → Type 0
-Undone a s s' fault = (w : Stand) → Shows s w → WasUndone a w s s' fault
+abbrev pub Undone : WorldEvent → Seen → Seen → EventFault → Type 0
+Undone a s s' fault = (w : WorldState) → Shows s w → WasUndone a w s s' fault
 
 -- an act names a participant that there is
-abbrev pub IsNamed : ℕ → Act → Type 0
+abbrev pub IsNamed : ℕ → WorldEvent → Type 0
 IsNamed n (Alone i x) = i < n
 IsNamed n (Takes i t) = i < n
 IsNamed n (VenueTicks t) = Unit {0}
@@ -101,7 +101,7 @@ AreNamed n [] = Unit {0}
 AreNamed n (e ∷ events) = IsNamed n (act_of e) × AreNamed n events
 
 -- the acts of the events that were answered Ok
-abbrev pub happened : {A B : Type 0} → List (Result A B) → List Event → List Act
+abbrev pub happened : {A B : Type 0} → List (Result A B) → List Event → List WorldEvent
 happened [] events = []
 happened (Ok x ∷ results) [] = []
 happened (Err x ∷ results) [] = []
@@ -118,9 +118,9 @@ AreSteps r s (Err f ∷ results) (e ∷ events) s' = (between : Seen) × Undone 
 
 -- Once these events were given, this holds of all that happened: of the acts that led from a fresh world to the one before them,
 -- whichever they were, and then of the events that were answered Ok.
-abbrev pub Holds : {A : Type 0} → (Reader → Market → List Act → Type 0) → Seen → List (Result A EventFault) → List Event → Type 0
-Holds P old results events = (r : Reader) (m : Market) (before : List Act) → Shows old (after_all r (fresh_world m) before) → P r m (before ++ happened results events)
+abbrev pub Holds : {A : Type 0} → (Reader → Market → List WorldEvent → Type 0) → Seen → List (Result A EventFault) → List Event → Type 0
+Holds P old results events = (r : Reader) (m : Market) (before : List WorldEvent) → Shows old (after_all r (fresh_world m) before) → P r m (before ++ happened results events)
 
 -- the world stands as after all acts
-abbrev pub StandsAfter : Seen → Reader → Market → List Act → Type 0
+abbrev pub StandsAfter : Seen → Reader → Market → List WorldEvent → Type 0
 StandsAfter s r m acts = Shows s (after_all r (fresh_world m) acts)

@@ -10,7 +10,7 @@ pub returns-clause-sides : goal.returns-clause-sides
 returns-clause-sides c =
     let h : HeldSide = c.args.side.now in
     let items : List HeldSide = c.args.sides.now.items in
-    let ok : is_ok c.insert-inserted.result ≡ true = c.insert-inserted.ensures.succeeds c.requires.room in
+    let ok : is_ok c.insert-inserted.result ≡ true = c.insert-inserted.ensures.succeeds c.requires.headroom in
     let parted = IsPartitionedBy-leb (λ (k : HeldSide). k.due) items h.due (rises-far 0 items c.requires.rising) in
     let point = IsPartitionPoint-from_clause (λ (k : HeldSide). leb k.due h.due) items c.partition_point-at.result (rw c.deref.ensures.value at c.partition_point-at.ensures.partitioned) parted (λ a r q k. search rules) in
     c.insert-inserted.ensures.items

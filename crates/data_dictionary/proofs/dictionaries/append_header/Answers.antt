@@ -1,5 +1,5 @@
 use Rattle.std.proofs.Common.{◌++◌, ◌∙◌, List, [], ◌∷◌, ap}
-use Rattle.fix_tables.specs.declared.table.Row.{Row}
+use Rattle.fix_validation.specs.declared.table.Row.{Row}
 use Rattle.data_dictionary.specs.declared.lines.Mention.{Mention}
 use Rattle.data_dictionary.specs.Dictionaries.{fields_asked, header_text, table_text}
 use Rattle.data_dictionary.specs.Layout.{frame_begin, required}

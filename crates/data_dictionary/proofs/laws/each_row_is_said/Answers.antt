@@ -1,7 +1,7 @@
 use Rattle.std.proofs.Common.{refl, ℕ}
 use Rattle.fix_dictionary.specs.declared.kinds.MessageType.{MessageType}
 use Rattle.fix_dictionary.specs.declared.kinds.MessageType.TheVariants as types
-use Rattle.fix_tables.specs.Tables.{rows_of}
+use Rattle.fix_validation.specs.Tables.{rows_of}
 use Rattle.data_dictionary.specs.Laws.{SaysEachRow}
 use Rattle.data_dictionary.proofs.laws.each_row_is_said.Goals as goal
 

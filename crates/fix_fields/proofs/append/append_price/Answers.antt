@@ -23,6 +23,6 @@ pub returns-clause-appends : goal.returns-clause-appends
 returns-clause-appends c =
     subst (λ (text : List ℕ). Appends c.args.bytes.now.items c.append_parts.new.bytes.items text c.append_parts.result) (same c) c.append_parts.ensures.appends
 
-pub returns-clause-room : goal.returns-clause-room
-returns-clause-room c =
-    subst (λ (text : List ℕ). OnErr c.append_parts.result (vec_capacity c.args.bytes.now < vec_len c.args.bytes.now + length text)) (same c) c.append_parts.ensures.room
+pub returns-clause-headroom : goal.returns-clause-headroom
+returns-clause-headroom c =
+    subst (λ (text : List ℕ). OnErr c.append_parts.result (vec_capacity c.args.bytes.now < vec_len c.args.bytes.now + length text)) (same c) c.append_parts.ensures.headroom

@@ -10,5 +10,5 @@ returns g c =
       led = c.session_loop-ended.ensures.session;
       free = c.session_loop-ended.ensures.nothing_in_hand;
       seat = c.session_loop-ended.ensures.seat;
-      marked = c.session_loop-ended.ensures.marked;
+      end_handed = c.session_loop-ended.ensures.end_handed;
     })

@@ -1,7 +1,7 @@
 use Rattle.std.proofs.Common.{◌∙◌}
 use Rattle.toml.specs.View.{view}
 use Rattle.instruments.specs.Reading.{instruments, is_bad_instrument}
-use Rattle.venue_files.proofs.ListLemmas.{any-seen}
+use Rattle.config_format.proofs.ListLemmas.{any-seen}
 use Rattle.instruments.proofs.reading.has_bad_instrument.Goals as goal
 
 pub returns : goal.returns

@@ -3,9 +3,9 @@ use Rattle.std.specs.List.{list_all}
 use Rattle.toml.specs.View.{view}
 use Rattle.instruments.specs.Symbols.{is_symbol}
 use Rattle.instruments.specs.Rows.{is_instrument, most_instruments}
-use Rattle.venue_files.specs.Document.{text_at}
+use Rattle.config_format.specs.Document.{text_at}
 use Rattle.instruments.specs.Reading.{Refuses, instruments, row_of, rows}
-use Rattle.venue_files.proofs.ListLemmas.{all-seen, map-seen}
+use Rattle.config_format.proofs.ListLemmas.{all-seen, map-seen}
 use Rattle.instruments.proofs.SoundLemmas.{Sound, rows-read, sound}
 use Rattle.instruments.proofs.reading.read_document.Goals as goal
 

@@ -1,7 +1,7 @@
 use Rattle.std.proofs.Common.{◌∙◌}
 use Rattle.toml.specs.View.{view}
 use Rattle.participants.specs.Reading.{is_bad_pair, related_pairs}
-use Rattle.venue_files.proofs.ListLemmas.{any-seen}
+use Rattle.config_format.proofs.ListLemmas.{any-seen}
 use Rattle.participants.proofs.reading.has_bad_pair.Goals as goal
 
 pub returns : goal.returns

@@ -2,8 +2,8 @@ use Rattle.std.proofs.Common.{◌≡◌, ◌∙◌, subst, sym, codes, List, ℕ
 use Rattle.toml.specs.View.{view}
 use Rattle.toml.specs.declared.value.Value.{Value}
 use Rattle.participants.specs.Names.{is_name}
-use Rattle.venue_files.specs.Document.{text_at}
-use Rattle.venue_files.proofs.ListLemmas.{all-at, pushed-more}
+use Rattle.config_format.specs.Document.{text_at}
+use Rattle.config_format.proofs.ListLemmas.{all-at, pushed-more}
 use Rattle.participants.proofs.reading.names_in.Goals as goal
 
 -- the name that an entry states

@@ -1,6 +1,6 @@
 use Rattle.std.proofs.Common.{◌≡◌, map, take, codes}
 use Rattle.toml.specs.View.{view}
-use Rattle.venue_files.specs.Document.{text_at}
+use Rattle.config_format.specs.Document.{text_at}
 use Rattle.participants.proofs.reading.names_in.Given as goal
 
 abbrev pub invariant-loop-entry : goal.invariant-loop-entry

@@ -3,7 +3,7 @@ use Rattle.toml.specs.View.{view}
 use Rattle.toml.specs.declared.value.Value.{Value}
 use Rattle.participants.specs.Names.{is_name}
 use Rattle.participants.specs.Reading.{named}
-use Rattle.venue_files.proofs.ListLemmas.{all-at, pushed-more}
+use Rattle.config_format.proofs.ListLemmas.{all-at, pushed-more}
 use Rattle.participants.proofs.reading.pairs_in.Goals as goal
 
 pub from_slice-requires : goal.from_slice-requires

@@ -1,6 +1,6 @@
 use Rattle.std.proofs.Common.{◌∙◌, ap, ℕ}
 use Rattle.participants.specs.Reading.{places}
-use Rattle.venue_files.proofs.ListLemmas.{pushed-more}
+use Rattle.config_format.proofs.ListLemmas.{pushed-more}
 use Rattle.participants.proofs.reading.places_of.Goals as goal
 
 pub loop-pair-preserved : goal.loop-pair-preserved

@@ -4,9 +4,9 @@ use Rattle.std.proofs.lemmas.List.{length-map}
 use Rattle.std.proofs.lemmas.List.Folds.{list_all-map}
 use Rattle.toml.specs.View.{view}
 use Rattle.participants.specs.Names.{is_name}
-use Rattle.venue_files.specs.Document.{text_at}
+use Rattle.config_format.specs.Document.{text_at}
 use Rattle.participants.specs.Reading.{Refuses, is_apart, named, named_pairs, names, participants, related_pairs}
-use Rattle.venue_files.proofs.ListLemmas.{all-seen, map-seen}
+use Rattle.config_format.proofs.ListLemmas.{all-seen, map-seen}
 use Rattle.participants.proofs.SoundLemmas.{Sound, rows-read, sound}
 use Rattle.participants.proofs.reading.read_document.Goals as goal
 

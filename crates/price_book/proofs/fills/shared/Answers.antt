@@ -3,7 +3,7 @@ use Rattle.std.specs.Option.{option_copied}
 use Rattle.std.proofs.lemmas.List.{length-reverse}
 use Rattle.venue_rules.specs.Book.{Resting, against, opposite, resting}
 use Rattle.price_book.specs.declared.row.Row.{Row}
-use Rattle.price_book.specs.Past.{facts_in}
+use Rattle.price_book.specs.GhostHistory.{facts_in}
 use Rattle.price_book.specs.Live.{seen_slot}
 use Rattle.price_book.specs.Numbered.{slot_at}
 use Rattle.price_book.specs.Rows.{rows_of}
@@ -63,8 +63,8 @@ returns-in_default-get c =
     let row : Row = c.row-row.result in
     let inside : i < length (rows_of rs) = inside-back c.in-Some.rows.now.items (rows_of rs) c.loop-at.at rows c.loop-at-test.true high in
     let is : row ≡ get_or (rows_of rs) i row = read-back c.in-Some.rows.now.items (rows_of rs) c.loop-at.at row rows c.loop-at-test.true high c.row-row.ensures in
-    let none : slot_at c.args.book.slots.now.entries row.number ≡ None = sym c.get.ensures.value ∙ ap option_copied c.in_default-get.is in
-    absurd (met-kept rs c.args.book.slots.now.entries i row (rw (resting-live f o.instrument (opposite o.side)) at (c.args.book.kept o.instrument (opposite o.side))) inside is none)
+    let none : slot_at c.args.book.stored_orders.now.entries row.number ≡ None = sym c.get.ensures.value ∙ ap option_copied c.in_default-get.is in
+    absurd (met-kept rs c.args.book.stored_orders.now.entries i row (rw (resting-live f o.instrument (opposite o.side)) at (c.args.book.kept o.instrument (opposite o.side))) inside is none)
 
 pub loop-at-preserved : goal.loop-at-preserved
 loop-at-preserved c =
@@ -77,14 +77,14 @@ loop-at-preserved c =
     let row : Row = c.row-row.result in
     let inside : i < length (rows_of rs) = inside-back c.in-Some.rows.now.items (rows_of rs) c.loop-at.at rows c.loop-at-test.true high in
     let is : row ≡ get_or (rows_of rs) i row = read-back c.in-Some.rows.now.items (rows_of rs) c.loop-at.at row rows c.loop-at-test.true high c.row-row.ensures in
-    let some : slot_at c.args.book.slots.now.entries row.number ≡ Some c.in-Some-get.slot.now = sym c.get.ensures.value ∙ ap option_copied c.in-Some-get.is in
-    let more : met o (drop i rs) ≡ seen_slot c.in-Some-get.slot.now ∷ met o (drop (i + 1) rs) = met-next o rs c.args.book.slots.now.entries i row c.in-Some-get.slot.now (rw (resting-live f o.instrument (opposite o.side)) at (c.args.book.kept o.instrument (opposite o.side))) inside is some (sym c.accepts.ensures ∙ c.if-not-accepts.false) in
+    let some : slot_at c.args.book.stored_orders.now.entries row.number ≡ Some c.in-Some-get.stored_order.now = sym c.get.ensures.value ∙ ap option_copied c.in-Some-get.is in
+    let more : met o (drop i rs) ≡ seen_slot c.in-Some-get.stored_order.now ∷ met o (drop (i + 1) rs) = met-next o rs c.args.book.stored_orders.now.entries i row c.in-Some-get.stored_order.now (rw (resting-live f o.instrument (opposite o.side)) at (c.args.book.kept o.instrument (opposite o.side))) inside is some (sym c.accepts.ensures ∙ c.if-not-accepts.false) in
     let rest : List Resting = met o (drop (i + 1) rs) in
     rw (next-back (length c.in-Some.rows.now.items) c.loop-at.at c.loop-at-test.true high) (
       ap (λ q. map seen_fill c.give.new.fills.items ++ share_out q rest) c.saturating_sub-wanted.ensures
-          ∙ ap (λ t. t ++ share_out (c.loop-at.wanted - c.in-Some-get.slot.now.left) rest) c.in_ok-give.ensures
-          ∙ append_assoc (map seen_fill c.loop-at.fills.items) (share_out c.loop-at.wanted (seen_slot c.in-Some-get.slot.now ∷ [])) (share_out (c.loop-at.wanted - c.in-Some-get.slot.now.left) rest)
-          ∙ ap (λ t. map seen_fill c.loop-at.fills.items ++ t) (sym (share-parts c.loop-at.wanted (seen_slot c.in-Some-get.slot.now) rest))
+          ∙ ap (λ t. t ++ share_out (c.loop-at.wanted - c.in-Some-get.stored_order.now.left) rest) c.in_ok-give.ensures
+          ∙ append_assoc (map seen_fill c.loop-at.fills.items) (share_out c.loop-at.wanted (seen_slot c.in-Some-get.stored_order.now ∷ [])) (share_out (c.loop-at.wanted - c.in-Some-get.stored_order.now.left) rest)
+          ∙ ap (λ t. map seen_fill c.loop-at.fills.items ++ t) (sym (share-parts c.loop-at.wanted (seen_slot c.in-Some-get.stored_order.now) rest))
           ∙ ap (λ t. map seen_fill c.loop-at.fills.items ++ share_out c.loop-at.wanted t) (sym more)
           ∙ c.loop-at.invariant.0,
       ap (λ q. left_over q rest) c.saturating_sub-wanted.ensures ∙ ap (left_over c.loop-at.wanted) (sym more) ∙ c.loop-at.invariant.1,

@@ -1,6 +1,6 @@
 use Rattle.std.proofs.Common.{◌≡◌, ◌++◌, ◌-◌, length, drop, map}
 use Rattle.venue_rules.specs.Book.{against, opposite, resting}
-use Rattle.price_book.specs.Past.{facts_in}
+use Rattle.price_book.specs.GhostHistory.{facts_in}
 use Rattle.price_book.specs.Views.{seen_fill, share_out, left_over}
 use Rattle.price_book.proofs.Giving.{met}
 use Rattle.price_book.proofs.fills.shared.Given as goal

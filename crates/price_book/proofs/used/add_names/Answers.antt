@@ -1,10 +1,10 @@
 use Rattle.std.proofs.Common.{◌≡◌, ◌∙◌, sym, ap, ◌||◌, List, Some, None, length, arith}
 use Rattle.std.specs.List.{list_any}
 use Rattle.venue_rules.specs.declared.facts.Fact.{Fact}
-use Rattle.sorted_names.specs.Names.{is_of}
-use Rattle.sorted_names.specs.Used.{Known}
+use Rattle.client_ids.specs.ClientIds.{is_of}
+use Rattle.client_ids.specs.Used.{Known}
 use Rattle.price_book.specs.Used.{name_in}
-use Rattle.price_book.proofs.SlotSteps.{names-none, any-some, any-none, count-some}
+use Rattle.price_book.proofs.StoredOrderSteps.{names-none, any-some, any-none, count-some}
 use Rattle.price_book.proofs.used.add_names.Goals.{in-Some, in_default}
 use Rattle.price_book.proofs.used.add_names.Goals as goal
 
@@ -16,12 +16,12 @@ loop-fact-preserved c =
           let some : name_in c.fact-item.result ≡ Some w.in-Some.name = sym c.name_in.ensures ∙ w.in-Some.is in (
             (λ who id. any-some (is_of who id) fs c.loop-fact.fact-index c.fact-item.result w.in-Some.name _ _ c.loop-fact-test.true c.fact-item.is some (ap (λ (u : Known). list_any (is_of who id) u.names) w.used-is ∙ w.add.ensures.names who id ∙ ap (λ b. is_of who id w.in-Some.name || b) (c.loop-fact.invariant.0 who id))),
             omega (arith, ap (λ (u : Known). u.count) w.used-is, w.add.ensures.count, c.loop-fact.invariant.1, count-some fs c.loop-fact.fact-index c.fact-item.result w.in-Some.name c.loop-fact-test.true c.fact-item.is some),
-            omega (arith, ap (λ (u : Known). u.room) w.used-is, w.add.ensures.room, c.loop-fact.invariant.2),
+            omega (arith, ap (λ (u : Known). u.headroom) w.used-is, w.add.ensures.headroom, c.loop-fact.invariant.2),
           )
       | in_default w ↦
           let none : name_in c.fact-item.result ≡ None = sym c.name_in.ensures ∙ w.in_default.is in (
             (λ who id. any-none (is_of who id) fs c.loop-fact.fact-index c.fact-item.result _ _ c.loop-fact-test.true c.fact-item.is none (ap (λ (u : Known). list_any (is_of who id) u.names) w.used-is ∙ c.loop-fact.invariant.0 who id)),
             omega (arith, ap (λ (u : Known). u.count) w.used-is, c.loop-fact.invariant.1, ap length (names-none fs c.loop-fact.fact-index c.fact-item.result c.loop-fact-test.true c.fact-item.is none)),
-            omega (arith, ap (λ (u : Known). u.room) w.used-is, c.loop-fact.invariant.2),
+            omega (arith, ap (λ (u : Known). u.headroom) w.used-is, c.loop-fact.invariant.2),
           )
     ]

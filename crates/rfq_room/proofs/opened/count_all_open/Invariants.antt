@@ -3,4 +3,4 @@ use Rattle.venue_rules.specs.Rooms.{is_open}
 use Rattle.rfq_room.proofs.opened.count_all_open.Given as goal
 
 abbrev pub invariant-loop-room : goal.invariant-loop-room
-invariant-loop-room l = (l.count ≡ length (filter (is_open l.marks.facts l.moment) (take l.room-index l.rooms))) × (l.count ≤ l.room-index)
+invariant-loop-room l = (l.count ≡ length (filter (is_open l.known_flags.facts l.moment) (take l.room-index l.rooms))) × (l.count ≤ l.room-index)

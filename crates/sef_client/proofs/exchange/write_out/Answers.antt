@@ -1,9 +1,9 @@
 use Rattle.std.proofs.Common.{refl}
-use Rattle.sef_client.proofs.Faults.{told, untold}
+use Rattle.sef_client.proofs.Faults.{emitted, unemitted}
 use Rattle.sef_client.proofs.exchange.write_out.Goals as goal
 
-pub returns-in-Ok-clause-told : goal.returns-in-Ok-clause-told
-returns-in-Ok-clause-told g c = untold _ _ _ c.in-Ok.ensures refl
+pub returns-in-Ok-clause-emitted : goal.returns-in-Ok-clause-emitted
+returns-in-Ok-clause-emitted g c = unemitted _ _ _ c.in-Ok.ensures refl
 
-pub returns-in-Err-clause-told : goal.returns-in-Err-clause-told
-returns-in-Err-clause-told g c = told _ _ _ 1 c.in-Err.ensures refl
+pub returns-in-Err-clause-emitted : goal.returns-in-Err-clause-emitted
+returns-in-Err-clause-emitted g c = emitted _ _ _ 1 c.in-Err.ensures refl

@@ -8,10 +8,10 @@ use Rattle.sef_replay.proofs.Kept.{as_it_was}
 use Rattle.sef_replay.proofs.Stops.{fault_stops, stopped_at_last}
 use Rattle.sef_replay.proofs.migrating.print_migrated.Goals as goal
 
-pub returns-in-Ok-clause-told : goal.returns-in-Ok-clause-told
-returns-in-Ok-clause-told g c =
-    of_ok c.print_day.result _ _ _ c.print_day.ensures.told c.print_day.ensures.crash
-    (λ back told s clean. either_day _ (state g.S.Store c.args.conn) (state g.S.Store c.in-Ok.conn) (c.in-Ok.ensures.third (clean_before _ _ _ s clean)) (told clean))
+pub returns-in-Ok-clause-emitted : goal.returns-in-Ok-clause-emitted
+returns-in-Ok-clause-emitted g c =
+    of_ok c.print_day.result _ _ _ c.print_day.ensures.emitted c.print_day.ensures.crash
+    (λ back emitted s clean. either_day _ (state g.S.Store c.args.conn) (state g.S.Store c.in-Ok.conn) (c.in-Ok.ensures.third (clean_before _ _ _ s clean)) (emitted clean))
 
 pub returns-in-Ok-clause-fault : goal.returns-in-Ok-clause-fault
 returns-in-Ok-clause-fault g c =

@@ -9,10 +9,10 @@ use Rattle.sef_replay.specs.Stops.{StopsFor}
 use Rattle.sef_replay.proofs.Stops.{day_stopped}
 use Rattle.sef_replay.proofs.printing.print_day.Goals as goal
 
-pub returns-in-Ok-print_kept-clause-told : goal.returns-in-Ok-print_kept-clause-told
-returns-in-Ok-print_kept-clause-told g c clean =
+pub returns-in-Ok-print_kept-clause-emitted : goal.returns-in-Ok-print_kept-clause-emitted
+returns-in-Ok-print_kept-clause-emitted g c clean =
     let last : HasCleanDisk (store g.S.Store c.print_kept.new.trail) = search rules in
-    day_printed _ _ _ _ _ _ _ _ c.in-Ok.ensures.found c.print_kept.ensures.crash c.in-Ok-print_kept.ensures.told last
+    day_printed _ _ _ _ _ _ _ _ c.in-Ok.ensures.found c.print_kept.ensures.crash c.in-Ok-print_kept.ensures.emitted last
 
 pub returns-in-Err-clause-cause : goal.returns-in-Err-clause-cause
 returns-in-Err-clause-cause g c clean is = c.in-Err.ensures.cause clean (is_refused c.in-Err.fault (sym c.from.ensures ∙ is))

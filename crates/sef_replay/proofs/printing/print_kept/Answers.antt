@@ -1,12 +1,12 @@
 use Rattle.sqlite.specs.State.{HasCleanDisk, State}
 use Rattle.audit_trail.specs.Trail.{store}
 use Rattle.sef_replay.specs.Stops.{RefusesDay}
-use Rattle.sef_replay.proofs.Kept.{day_told}
+use Rattle.sef_replay.proofs.Kept.{day_emitted}
 use Rattle.sef_replay.proofs.Stops.{stops_printer}
 use Rattle.sef_replay.proofs.printing.print_kept.Goals as goal
 
-pub returns-in-Ok-clause-told : goal.returns-in-Ok-clause-told
-returns-in-Ok-clause-told g c clean = day_told _ _ _ _ _ (c.in_ok-venue.ensures.ends clean) c.in-Ok.ensures.told
+pub returns-in-Ok-clause-emitted : goal.returns-in-Ok-clause-emitted
+returns-in-Ok-clause-emitted g c clean = day_emitted _ _ _ _ _ (c.in_ok-venue.ensures.ends clean) c.in-Ok.ensures.emitted
 
 pub returns-in_err-venue-clause-stopped : goal.returns-in_err-venue-clause-stopped
 returns-in_err-venue-clause-stopped g c =

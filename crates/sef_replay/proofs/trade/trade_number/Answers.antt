@@ -1,26 +1,26 @@
 use Rattle.std.proofs.Common.{◌≡◌, ℕ, decimal, Result, Err, Ok, Some, ap, refl, sym, ◌∙◌}
 use Rattle.std.proofs.lemmas.Fmt.{parse-decimal}
-use Rattle.sef_replay.proofs.Trades.{digits_told, never, same_number}
+use Rattle.sef_replay.proofs.Trades.{digits_emitted, never, same_number}
 use Rattle.sef_replay.proofs.trade.trade_number.Goals as goal
 
 pub returns-in-Err-clause-each : goal.returns-in-Err-clause-each
 returns-in-Err-clause-each c = λ number low is.
     let at = c.in-Some.ensures.cases in
-    let told : c.in-Some.digits.now ≡ decimal number = digits_told c.args.word.now c.in-Some.digits.now number at.0 at.2 at.1.0 is in
-    let read = parse-decimal 64 number c.in-Some.digits.now (Err c.in-Err.field-0) low low told c.in-Err.ensures.value.0 in
+    let emitted : c.in-Some.digits.now ≡ decimal number = digits_emitted c.args.word.now c.in-Some.digits.now number at.0 at.2 at.1.0 is in
+    let read = parse-decimal 64 number c.in-Some.digits.now (Err c.in-Err.field-0) low low emitted c.in-Err.ensures.value.0 in
     absurd (cc)
 
 pub returns-then-eq-clause-each : goal.returns-then-eq-clause-each
 returns-then-eq-clause-each c = λ number low is.
     let at = c.in-Some.ensures.cases in
-    let told : c.in-Some.digits.now ≡ decimal number = digits_told c.args.word.now c.in-Some.digits.now number at.0 at.2 at.1.0 is in
+    let emitted : c.in-Some.digits.now ≡ decimal number = digits_emitted c.args.word.now c.in-Some.digits.now number at.0 at.2 at.1.0 is in
     let read : Result ℕ ℕ = Ok c.in-Ok.number in
-    ap (λ (n : ℕ). Some n) (same_number c.in-Ok.number number read refl (parse-decimal 64 number c.in-Some.digits.now read low low told c.in-Ok.ensures.value.0))
+    ap (λ (n : ℕ). Some n) (same_number c.in-Ok.number number read refl (parse-decimal 64 number c.in-Some.digits.now read low low emitted c.in-Ok.ensures.value.0))
 
 pub returns-else-eq-clause-each : goal.returns-else-eq-clause-each
 returns-else-eq-clause-each c = λ number low is.
     let at = c.in-Some.ensures.cases in
-    let told : c.in-Some.digits.now ≡ decimal number = digits_told c.args.word.now c.in-Some.digits.now number at.0 at.2 at.1.0 is in
+    let emitted : c.in-Some.digits.now ≡ decimal number = digits_emitted c.args.word.now c.in-Some.digits.now number at.0 at.2 at.1.0 is in
     let read : Result ℕ ℕ = Ok c.in-Ok.number in
-    let same : c.in-Ok.number ≡ number = same_number c.in-Ok.number number read refl (parse-decimal 64 number c.in-Some.digits.now read low low told c.in-Ok.ensures.value.0) in
-    absurd (never c.format.result.now c.in-Some.digits.now (c.format.ensures.text ∙ ap decimal same ∙ sym told) (sym c.eq.ensures ∙ c.if-eq.false))
+    let same : c.in-Ok.number ≡ number = same_number c.in-Ok.number number read refl (parse-decimal 64 number c.in-Some.digits.now read low low emitted c.in-Ok.ensures.value.0) in
+    absurd (never c.format.result.now c.in-Some.digits.now (c.format.ensures.text ∙ ap decimal same ∙ sym emitted) (sym c.eq.ensures ∙ c.if-eq.false))

@@ -1,7 +1,7 @@
--- What is gone from `rest` was appended.
+-- What is gone from `park` was appended.
 use Rattle.std.proofs.Common.{◌≡◌, ℕ, List, ◌++◌}
 use Rattle.std.specs.Io.KnownBytes.{Appends}
 use Rattle.tcp_line.proofs.giving.give.Given as goal
 
 abbrev pub invariant-loop : goal.invariant-loop
-invariant-loop g l = (done : List ℕ) × (l.initial.rest ≡ done ++ l.rest) × Appends (g.O.Write.contents l.initial.output) (g.O.Write.contents l.output) done
+invariant-loop g l = (done : List ℕ) × (l.initial.park ≡ done ++ l.park) × Appends (g.O.Write.contents l.initial.output) (g.O.Write.contents l.output) done

@@ -1,6 +1,6 @@
 use Rattle.std.proofs.Common.{◌∙◌, sym, subst, ℕ, ◌≤◌, Option, Some, None, codes, length, arith}
 use Rattle.venue_rules.specs.declared.trail.RoomFact.{RoomFact}
-use Rattle.room_answers.specs.Senders.{sent_by}
+use Rattle.rfq_handler.specs.Senders.{sent_by}
 use Rattle.venue_core.specs.Files.{market_of}
 use Rattle.venue_core.specs.Read.{IsReadWith, read_count}
 use Rattle.venue_core.proofs.FirstQuotes.{quote-is-read}

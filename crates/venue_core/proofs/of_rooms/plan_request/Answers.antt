@@ -1,6 +1,6 @@
 use Rattle.std.proofs.Common.{ap, ◌∙◌, codes, arith}
 use Rattle.venue_rules.specs.Requests.{answer_request}
-use Rattle.room_answers.specs.Senders.{sent_by}
+use Rattle.rfq_handler.specs.Senders.{sent_by}
 use Rattle.venue_core.specs.Files.{market_of}
 use Rattle.venue_core.proofs.FirstQuotes.{request-adds-none}
 use Rattle.venue_core.proofs.of_rooms.plan_request.Goals as goal

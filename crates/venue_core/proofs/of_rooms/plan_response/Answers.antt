@@ -1,7 +1,7 @@
 use Rattle.std.proofs.Common.{◌∙◌, codes, length, arith}
-use Rattle.room_answers.specs.Senders.{sent_by}
+use Rattle.rfq_handler.specs.Senders.{sent_by}
 use Rattle.venue_core.specs.Files.{market_of}
-use Rattle.venue_core.specs.Standing.{IsStanding}
+use Rattle.venue_core.specs.VenueFacts.{IsStanding}
 use Rattle.venue_core.specs.State.{standing}
 use Rattle.venue_core.proofs.FirstQuotes.{response-adds-none}
 use Rattle.venue_core.proofs.of_rooms.plan_response.Goals as goal

@@ -1,5 +1,5 @@
 use Rattle.std.proofs.Common.{◌∙◌, codes, length, arith}
-use Rattle.room_answers.specs.Senders.{sent_by}
+use Rattle.rfq_handler.specs.Senders.{sent_by}
 use Rattle.venue_core.specs.Files.{market_of}
 use Rattle.venue_core.proofs.FirstQuotes.{withdrawal-adds-none}
 use Rattle.venue_core.proofs.of_rooms.plan_withdrawal.Goals as goal

@@ -9,4 +9,4 @@ returns-clause-whole g c =
     let all : IfSome (option_map (take (1048576 + 1)) known) (λ bytes. text ≡ c.new-text.result.items ++ bytes) =
     subst (λ (n : ℕ). IfSome (option_map (take n) known) (λ bytes. text ≡ c.new-text.result.items ++ bytes)) c.take.ensures.limit c.in-Ok.ensures.bytes in
     let read = subst (λ (before : List ℕ). IfSome (option_map (take (1048576 + 1)) known) (λ bytes. text ≡ before ++ bytes)) c.new-text.ensures.items all in
-    rw (← c.take.ensures.inner) (short_is_whole known 1048576 text read (omega (arith, c.if-len-gt-LONGEST.false, c.len.ensures, c.read_to_end.new.buf.ok.0)))
+    rw (← c.take.ensures.inner) (short_is_whole known 1048576 text read (omega (arith, c.if-len-gt-MAX_FILE_SIZE.false, c.len.ensures, c.read_to_end.new.buf.ok.0)))

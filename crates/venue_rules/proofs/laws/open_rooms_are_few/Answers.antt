@@ -1,6 +1,6 @@
 use Rattle.venue_rules.proofs.LiveQuotes.{live_quotes_few}
 use Rattle.venue_rules.proofs.OpenRoomsEach.{open_rooms_few}
-use Rattle.venue_rules.proofs.Told.{withdrawals_few}
+use Rattle.venue_rules.proofs.Emitted.{withdrawals_few}
 use Rattle.venue_rules.proofs.laws.open_rooms_are_few.Goals as goal
 
 pub returns-clause-rooms : goal.returns-clause-rooms

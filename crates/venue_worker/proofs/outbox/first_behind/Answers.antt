@@ -1,6 +1,6 @@
 use Rattle.std.proofs.Common.{◌≡◌, ℕ, true, false, length, sym, ◌∙◌, subst, arith}
-use Rattle.taken_and_owed.specs.declared.queue.Queue.{Queue}
-use Rattle.taken_and_owed.specs.Owed.{is_behind}
+use Rattle.outbound_queue.specs.declared.queue.Queue.{Queue}
+use Rattle.outbound_queue.specs.Owed.{is_behind}
 use Rattle.venue_worker.specs.Queued.{IsFirstBehind}
 use Rattle.venue_worker.proofs.Lists.{below_at, holds_at, more_hold}
 use Rattle.venue_worker.proofs.outbox.first_behind.Goals as goal

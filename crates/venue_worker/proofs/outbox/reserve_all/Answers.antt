@@ -3,8 +3,8 @@ use Rattle.std.specs.Prelude.{slice_get, Some}
 use Rattle.std.specs.VecDeque.{deque_len, deque_capacity}
 use Rattle.std.specs.declared.collections.VecDeque.{VecDeque}
 use Rattle.std.specs.Global.{Global}
-use Rattle.taken_and_owed.specs.declared.queue.Queue.{Queue}
-use Rattle.taken_and_owed.specs.declared.outgoing.Outgoing.{Outgoing}
+use Rattle.outbound_queue.specs.declared.queue.Queue.{Queue}
+use Rattle.outbound_queue.specs.declared.outgoing.Outgoing.{Outgoing}
 use Rattle.venue_worker.proofs.Lists.{below_at, holds_at, more_done}
 use Rattle.venue_worker.proofs.Batches.{same_set}
 use Rattle.venue_worker.proofs.outbox.reserve_all.Goals as goal

@@ -1,6 +1,6 @@
 use Rattle.std.proofs.Common.{◌∙◌, ap}
 use Rattle.cross_delay.specs.ByDue.{first_due}
-use Rattle.cross_delay.specs.Past.{facts_in}
+use Rattle.cross_delay.specs.GhostHistory.{facts_in}
 use Rattle.cross_delay.proofs.Leaving.{due-kept}
 use Rattle.cross_delay.proofs.held.Held.due.Goals as goal
 

@@ -1,7 +1,7 @@
 use Rattle.std.proofs.Common.{◌≡◌, ◌∙◌, ap, find, is_some, option_map, Option, Some, None, refl, Bor}
 use Rattle.venue_rules.specs.declared.facts.HeldSide.{HeldSide}
 use Rattle.venue_rules.specs.Facts.{is_name}
-use Rattle.cross_delay.specs.Past.{facts_in}
+use Rattle.cross_delay.specs.GhostHistory.{facts_in}
 use Rattle.cross_delay.proofs.Leaving.{found-kept}
 use Rattle.cross_delay.proofs.held.Held.holds.Goals as goal
 

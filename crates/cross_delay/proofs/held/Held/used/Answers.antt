@@ -1,7 +1,7 @@
 use Rattle.std.proofs.Common.{◌∙◌, ap}
 use Rattle.std.specs.List.{list_any}
-use Rattle.sorted_names.specs.Names.{is_of}
-use Rattle.cross_delay.specs.Past.{facts_in}
+use Rattle.client_ids.specs.ClientIds.{is_of}
+use Rattle.cross_delay.specs.GhostHistory.{facts_in}
 use Rattle.cross_delay.proofs.Leaving.{used-names}
 use Rattle.cross_delay.proofs.held.Held.used.Goals as goal
 

@@ -15,7 +15,7 @@ loop-rest-preserved c =
     let front = c.in_ok-field.ensures in
     rw same record {
       fields = AreFields-push (entries items) (entry field) c.loop-rest.invariant.fields front.0;
-      room = omega (arith, c.loop-rest.invariant.room, c.push.ensures.capacity);
+      headroom = omega (arith, c.loop-rest.invariant.headroom, c.push.ensures.capacity);
       text = c.loop-rest.invariant.text ∙ ap (λ (l : List ℕ). fields_text (entries items) ++ l) front.1 ∙ sym (fields_text-push (entries items) (entry field) c.in_ok-field.after.now);
     }
 

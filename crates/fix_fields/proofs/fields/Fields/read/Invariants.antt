@@ -6,7 +6,7 @@ use Rattle.fix_fields.proofs.fields.Fields.read.Given as goal
 abbrev pub invariant-loop-rest : goal.invariant-loop-rest
 invariant-loop-rest l = record {
   fields : AreFields (entries l.self-inside.items.items);
-  room : 64 ≤ l.self-inside.items.capacity;
+  headroom : 64 ≤ l.self-inside.items.capacity;
   text : l.fn.body ≡ fields_text (entries l.self-inside.items.items) ++ l.rest;
 }
 

@@ -6,6 +6,6 @@ pub returns-clause-related : goal.returns-clause-related
 returns-clause-related c =
     let same = c.has_three.ensures in
     record {
-      there_are = λ told. ThreeUnrelated-from_test c.args.self.now c.args.requester c.args.recipients.now (sym same ∙ told);
-      told_true = λ three. same ∙ test-from_ThreeUnrelated c.args.self.now c.args.requester c.args.recipients.now three;
+      there_are = λ stated. ThreeUnrelated-from_test c.args.self.now c.args.requester c.args.recipients.now (sym same ∙ stated);
+      stated_true = λ three. same ∙ test-from_ThreeUnrelated c.args.self.now c.args.requester c.args.recipients.now three;
     }

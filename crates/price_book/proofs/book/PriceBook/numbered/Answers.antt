@@ -1,6 +1,6 @@
 use Rattle.std.proofs.Common.{◌≡◌, ◌∙◌, ap, sym, List, Some}
 use Rattle.venue_rules.specs.Book.{Resting}
-use Rattle.price_book.specs.Past.{facts_in}
+use Rattle.price_book.specs.GhostHistory.{facts_in}
 use Rattle.price_book.specs.Live.{live, find_live}
 use Rattle.price_book.specs.Numbered.{numbered}
 use Rattle.price_book.specs.Steps.{IsOwnOf}
@@ -14,4 +14,4 @@ returns c = λ who r own.
     let rs : List Resting = live facts in
     let is : IsOwnOf facts who c.args.number r = rw (← c.self.view_is) at own in
     let found : find_live who is.own.id rs ≡ Some r = find_order-live facts who is.own.id ∙ is.own.found in
-    c.numbered.ensures ∙ c.self.invariant.step.listed.slots c.args.number ∙ ap (λ n. numbered n rs) (sym is.number) ∙ found-numbered 0 who is.own.id rs r c.self.invariant.step.listed.ledger found
+    c.numbered.ensures ∙ c.self.invariant.step.listed.stored_orders c.args.number ∙ ap (λ n. numbered n rs) (sym is.number) ∙ found-numbered 0 who is.own.id rs r c.self.invariant.step.listed.ledger found

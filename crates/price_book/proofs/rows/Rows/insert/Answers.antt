@@ -9,20 +9,20 @@ insert_at-requires-clause-within c =
     let within : c.args.at ≤ length (ranks c.self.inside).items = rw (← c.self.view_is) at c.requires.within in
     omega (arith, within, c.self.inside.priorities.ok, c.self.invariant, rows-length c.self.inside.priorities.items c.self.inside.left.items c.self.invariant)
 
-pub insert_at-requires-clause-room : goal.insert_at-requires-clause-room
-insert_at-requires-clause-room c =
-    let room : length (ranks c.self.inside).items < (ranks c.self.inside).capacity = rw (← c.self.view_is) at c.requires.room in
-    omega (arith, room, c.self.inside.priorities.ok, c.self.invariant, rows-length c.self.inside.priorities.items c.self.inside.left.items c.self.invariant)
+pub insert_at-requires-clause-headroom : goal.insert_at-requires-clause-headroom
+insert_at-requires-clause-headroom c =
+    let headroom : length (ranks c.self.inside).items < (ranks c.self.inside).capacity = rw (← c.self.view_is) at c.requires.headroom in
+    omega (arith, headroom, c.self.inside.priorities.ok, c.self.invariant, rows-length c.self.inside.priorities.items c.self.inside.left.items c.self.invariant)
 
 pub insert_at-requires-2-clause-within : goal.insert_at-requires-2-clause-within
 insert_at-requires-2-clause-within c =
     let within : c.args.at ≤ length (ranks c.self.inside).items = rw (← c.self.view_is) at c.requires.within in
     omega (arith, within, c.self.inside.left.ok, rows-length c.self.inside.priorities.items c.self.inside.left.items c.self.invariant)
 
-pub insert_at-requires-2-clause-room : goal.insert_at-requires-2-clause-room
-insert_at-requires-2-clause-room c =
-    let room : length (ranks c.self.inside).items < (ranks c.self.inside).capacity = rw (← c.self.view_is) at c.requires.room in
-    omega (arith, room, c.self.inside.left.ok, rows-length c.self.inside.priorities.items c.self.inside.left.items c.self.invariant)
+pub insert_at-requires-2-clause-headroom : goal.insert_at-requires-2-clause-headroom
+insert_at-requires-2-clause-headroom c =
+    let headroom : length (ranks c.self.inside).items < (ranks c.self.inside).capacity = rw (← c.self.view_is) at c.requires.headroom in
+    omega (arith, headroom, c.self.inside.left.ok, rows-length c.self.inside.priorities.items c.self.inside.left.items c.self.invariant)
 
 pub invariant_of-self : goal.invariant_of-self
 invariant_of-self c = omega (arith, c.self.invariant, c.self.inside.priorities.ok, c.self.inside.left.ok, c.insert_at.ensures.len, c.insert_at-2.ensures.len, c.insert_at.new.items.ok, c.insert_at-2.new.items.ok)

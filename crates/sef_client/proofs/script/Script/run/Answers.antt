@@ -26,4 +26,4 @@ loop-preserved g c =
     let within : c.in-Ok.more ≤ length script = rw (← c.deref.ensures.value) c.in-Ok.ensures.within in
     let one = ap length c.now-t.ensures ∙ length_push (g.C.Clock.answered c.loop.clock) c.now-t.result in
     let before = c.loop.invariant.3 in
-    (still, within, c.in-Ok-exchange.ensures.told ∙ c.loop.invariant.2, omega (arith, one, before))
+    (still, within, c.in-Ok-exchange.ensures.emitted ∙ c.loop.invariant.2, omega (arith, one, before))

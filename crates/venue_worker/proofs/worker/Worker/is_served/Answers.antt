@@ -2,7 +2,7 @@ use Rattle.std.proofs.Common.{◌≡◌, ◌∙◌, sym, ap, arith}
 use Rattle.std.specs.Prelude.{slice_get, Some}
 use Rattle.std.specs.VecDeque.{deque_len}
 use Rattle.std.proofs.lemmas.Bool.Decides.{nat_tests}
-use Rattle.taken_and_owed.specs.declared.queue.Queue.{Queue}
+use Rattle.outbound_queue.specs.declared.queue.Queue.{Queue}
 use Rattle.venue_worker.specs.Work.{Work}
 use Rattle.venue_worker.proofs.Lists.{at_read, below_at}
 use Rattle.venue_worker.proofs.Dismissing.{none_at}
@@ -10,7 +10,7 @@ use Rattle.venue_worker.proofs.worker.Worker.is_served.Goals as goal
 
 pub returns-then-is_empty-clause-served : goal.returns-then-is_empty-clause-served
 returns-then-is_empty-clause-served g c q at _ =
-    let queues = c.self.inside.desk.queues.items in
+    let queues = c.self.inside.engine.queues.items in
     let found = c.index.result.now in
     let there : slice_get queues c.args.j ≡ Some q = ap (λ (w : Work). slice_get w.ledger.queues c.args.j) c.self.view_is ∙ at in
     let here : slice_get queues c.args.j ≡ Some found = at_read queues c.args.j found (below_at queues c.args.j q there) c.index.ensures in

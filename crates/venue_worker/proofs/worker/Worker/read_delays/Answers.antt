@@ -8,5 +8,5 @@ use Rattle.venue_worker.proofs.worker.Worker.read_delays.Goals as goal
 
 pub returns : goal.returns
 returns g c = record {
-  delays = subst (λ (w : Work). HaveDelays w.ledger.market) c.self.view_is (file_delays c.self.inside.desk.venue.market (subst (λ (xs : List Instrument). is_instrument_file xs ≡ true) c.instruments.ensures c.len.ensures.rule));
+  delays = subst (λ (w : Work). HaveDelays w.ledger.market) c.self.view_is (file_delays c.self.inside.engine.venue.market (subst (λ (xs : List Instrument). is_instrument_file xs ≡ true) c.instruments.ensures c.len.ensures.rule));
 }

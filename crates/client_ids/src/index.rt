@@ -1,0 +1,176 @@
+//! Names in the order in which they came, and their places in the order of the names.
+ghost use Rattle.std.specs.Prelude.{◌≡◌, ℕ, ◌+◌, ◌≤◌, ◌<◌, ◌^◌, [], ◌∷◌, ◌++◌, length, map, slice_index, IfOk, Bool};
+ghost use Rattle.std.specs.List.{list_any, remove};
+ghost use Rattle.std.specs.Vec.{vec_capacity, vec_len};
+ghost use Rattle.client_ids.specs.ClientIds.{closed, is_of, IsFirst, IsIndex, answer_at, answer_behind};
+ghost use Rattle.client_ids.specs.Search.{IsPlace};
+
+use crate::client_id::{ClientId, hash_key};
+use crate::finding::search;
+use crate::probing::{FirstProbe, LastProbe};
+use fix_dictionary::Identifier;
+use participants::Who;
+use std::alloc::{AllocError, Global};
+use std::marker::Model;
+
+/// Names, and an index of 4 bytes a name that is sorted by name, and by place where a name stands more than once.
+#[derive(Drop)]
+pub struct IdIndex {
+    names: Vec<ClientId>,
+    index: Vec<u32>,
+}
+
+impl Model for IdIndex {
+    ghost use Rattle.client_ids.specs.ClientIds.{IsIndex};
+    ghost use Rattle.client_ids.specs.Held.{Names, held};
+
+    ghost Value = { Names };
+
+    ghost view = { held };
+
+    ghost invariant = { λ a. IsIndex a.names.items a.index.items };
+}
+
+// The first place in the index whose name is no lesser one, whether it is this one, and how many names were looked at.
+fn place(names: &[ClientId], index: &[u32], who: Who, id: &Identifier) -> (usize, bool, u64)
+    requires { IsIndex names.now index.now }
+    ensures place { IsPlace (answer_at names.now index.now who id.now) (length index.now) result.0 result.1 }
+    ensures few { (d : ℕ) → length names.now < 2 ^ d → result.2 ≤ d }
+{
+    let mut probe = FirstProbe {
+        names,
+        index,
+        hash_key: hash_key(who, id),
+        count: 0,
+    };
+    let (place, found) = search(&mut probe, who, id);
+    (place, found, probe.count)
+}
+
+// The place in the index behind the names that are no greater ones.
+fn behind(names: &[ClientId], index: &[u32], name: &ClientId) -> usize
+    requires { IsIndex names.now index.now }
+    ensures { (found : Bool) × IsPlace (answer_behind names.now index.now name.now.who name.now.id) (length index.now) result found }
+{
+    let mut probe = LastProbe {
+        names,
+        index,
+        hash_key: hash_key(name.who, &name.id),
+        count: 0,
+    };
+    let (at, _) = search(&mut probe, name.who, &name.id);
+    at
+}
+
+// Where in the index a place stands.
+fn spot(index: &[u32], place: u32) -> usize
+    requires { (i : ℕ) × (i < length index.now) × (slice_index index.now i ≡ place) }
+    ensures within { result < length index.now }
+    ensures here { slice_index index.now result ≡ place }
+{
+    for (at, found) in index.iter().enumerate() {
+        if *found == place {
+            return at;
+        }
+    }
+    0
+}
+
+// A place, once another is gone.
+fn closed(gone: u32, place: u32) -> u32
+    ensures { result ≡ closed gone place }
+{
+    if gone < place { place - 1 } else { place }
+}
+
+// The places behind one that is gone are one less.
+fn close_up(index: &mut Vec<u32>, gone: u32)
+    ensures items { index.new.items ≡ map (closed gone) index.old.items }
+    ensures len { vec_len index.new ≡ vec_len index.old }
+    ensures capacity { vec_capacity index.new ≡ vec_capacity index.old }
+{
+    for at in 0..index.len() {
+        let place = index[at];
+        index[at] = closed(gone, place);
+    }
+}
+
+impl IdIndex {
+    /// No names.
+    pub fn new(alloc: Global) -> IdIndex
+        ensures { result.names ≡ [] }
+    {
+        IdIndex {
+            names: Vec::new(alloc),
+            index: Vec::new(alloc),
+        }
+    }
+
+    /// How many names there are.
+    pub fn len(&self) -> usize
+        ensures value { result ≡ length self.now.names }
+        ensures bound { result < 2 ^ 63 }
+    {
+        self.names.len()
+    }
+
+    /// Makes room for so many names more.
+    pub fn reserve(&mut self, more: usize) -> Result<(), AllocError>
+        ensures kept { self.new.names ≡ self.old.names }
+        ensures headroom { IfOk result (λ _. more ≤ self.new.headroom) }
+        ensures grown { self.old.headroom ≤ self.new.headroom }
+    {
+        if 0xffff_ffff - self.names.len().min(0xffff_ffff) < more {
+            return Err(AllocError);
+        }
+        self.names.reserve(more)?;
+        self.index.reserve(more)?;
+        Ok(())
+    }
+
+    /// The place of the first name that is this one, and how many names were looked at: no more than the count of them has
+    /// binary digits.
+    pub fn first(&self, who: Who, id: &Identifier) -> (Option<usize>, u32)
+        ensures first { IsFirst self.now.names who id.now result.0 }
+        ensures few { (d : ℕ) → length self.now.names < 2 ^ d → result.1 ≤ d }
+    {
+        let (place, found, count) = place(&self.names, &self.index, who, id);
+        if found {
+            (Some(self.index[place] as usize), count as u32)
+        } else {
+            (None, count as u32)
+        }
+    }
+
+    /// Whether there is such a name.
+    pub fn has(&self, who: Who, id: &Identifier) -> bool
+        ensures { result ≡ list_any (is_of who id.now) self.now.names }
+    {
+        let (first, _) = self.first(who, id);
+        first.is_some()
+    }
+
+    /// One name more, for which there is room.
+    pub fn add(&mut self, name: ClientId)
+        requires { 1 ≤ self.old.headroom }
+        ensures names { self.new.names ≡ self.old.names ++ name ∷ [] }
+        ensures headroom { self.old.headroom ≤ self.new.headroom + 1 }
+    {
+        let place = self.names.len();
+        let at = behind(&self.names, &self.index, &name);
+        self.names.push_reserved(name);
+        let _inserted = self.index.insert(at, place as u32);
+    }
+
+    /// The name at a place is gone; those behind move up.
+    pub fn remove(&mut self, place: usize)
+        requires { place < length self.old.names }
+        ensures names { self.new.names ≡ remove self.old.names place }
+        ensures headroom { self.old.headroom ≤ self.new.headroom }
+    {
+        let at = spot(&self.index, place as u32);
+        let _place = self.index.remove(at);
+        close_up(&mut self.index, place as u32);
+        let _name = self.names.remove(place);
+    }
+}

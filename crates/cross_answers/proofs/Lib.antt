@@ -1,4 +1,0 @@
-pub mod Turning
-pub mod Answering
-pub mod Falling
-pub mod Making

@@ -1,9 +1,0 @@
-use Rattle.std.specs.Prelude.{List, [], ◌++◌}
-use Rattle.venue_rules.specs.declared.facts.Fact.{Fact}
-use Rattle.cross_delay.specs.declared.past.Past.{Past}
-use Rattle.cross_delay.specs.declared.past.Past.TheBlock.{Nothing, Then'}
-
--- the facts of a past, the first one first
-abbrev pub facts_in : Past → List Fact
-facts_in Nothing = []
-facts_in (Then' last b earlier) = facts_in earlier ++ last.value.items

@@ -1,0 +1,4 @@
+pub mod Turning
+pub mod Answering
+pub mod EnteringWhenDue
+pub mod Making

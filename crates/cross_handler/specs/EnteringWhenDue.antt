@@ -1,0 +1,18 @@
+use Rattle.std.specs.Prelude.{List, [], ◌∷◌}
+use Rattle.instruments.specs.declared.instruments.Instrument.{Instrument}
+use Rattle.instruments.specs.Listing.{symbol_of}
+use Rattle.venue_rules.specs.declared.facts.HeldSide.{HeldSide}
+use Rattle.venue_rules.specs.declared.refusals.OrderRefusal.{OrderRefusal}
+use Rattle.venue_rules.specs.Market.{Market}
+use Rattle.venue_rules.specs.Facts.{History}
+use Rattle.venue_rules.specs.Answer.{Answer, answers, first_of, numbered}
+use Rattle.venue_rules.specs.Crosses.{due_refusals}
+use Rattle.venue_rules.specs.Orders.{accepted, refusal_report}
+
+-- what a held side does as it enters at its due moment, or why it does not
+abbrev pub entered_when_due : Market → History → HeldSide → Answer
+entered_when_due m h k = first_of (due_refusals m h k) (accepted m h k.order k.due)
+
+-- the report that refuses it then
+abbrev pub side_turned_away : List Instrument → History → HeldSide → OrderRefusal → Answer
+side_turned_away file h k cause = answers (numbered h.reports (refusal_report (symbol_of file k.order.instrument) k.order.side k.order.id k.order.who cause ∷ []))

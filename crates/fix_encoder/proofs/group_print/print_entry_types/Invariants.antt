@@ -1,0 +1,6 @@
+use Rattle.std.proofs.Common.{◌≡◌, ◌++◌, take}
+use Rattle.fix_dictionary.specs.Text.{slots_text, each_slots, entry_type_slots}
+use Rattle.fix_encoder.proofs.group_print.print_entry_types.Given as goal
+
+abbrev pub invariant-loop-instance : goal.invariant-loop-instance
+invariant-loop-instance l = l.out.items ≡ l.fn.out.items ++ slots_text (each_slots entry_type_slots (take l.instance-index l.list))

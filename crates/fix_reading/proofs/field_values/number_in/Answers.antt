@@ -1,9 +1,0 @@
-use Rattle.std.proofs.Common.{arith}
-use Rattle.fix_reading.proofs.BoundLemmas.{number_bound}
-use Rattle.fix_reading.proofs.field_values.number_in.Goals as goal
-
-pub overflow_cast-number : goal.overflow_cast-number
-overflow_cast-number c = omega (arith, number_bound 0 999_999_999 c.args.bytes.now c.read_integer.result c.in-Ok.number c.in-Ok.is c.read_integer.ensures)
-
-pub new-requires : goal.new-requires
-new-requires c = number_bound 0 999_999_999 c.args.bytes.now c.read_integer.result c.in-Ok.number c.in-Ok.is c.read_integer.ensures

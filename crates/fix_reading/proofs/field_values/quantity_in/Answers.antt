@@ -1,5 +1,0 @@
-use Rattle.fix_reading.proofs.BoundLemmas.{quantity_bound}
-use Rattle.fix_reading.proofs.field_values.quantity_in.Goals as goal
-
-pub new-requires : goal.new-requires
-new-requires c = quantity_bound c.args.bytes.now c.read_quantity.result c.in-Ok.quantity c.in-Ok.is c.read_quantity.ensures

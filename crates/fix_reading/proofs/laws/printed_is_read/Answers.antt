@@ -1,5 +1,0 @@
-use Rattle.fix_reading.proofs.PrintedLaws.{fields_law, message_law, app_law}
-use Rattle.fix_reading.proofs.laws.printed_is_read.Goals as goal
-
-pub returns : goal.returns
-returns c = record { fields = fields_law; message = message_law; app = app_law }

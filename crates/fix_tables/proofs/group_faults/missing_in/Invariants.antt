@@ -1,7 +1,0 @@
-use Rattle.std.proofs.Common.{◌≡◌, drop}
-use Rattle.fix_tables.specs.Places.{places}
-use Rattle.fix_tables.specs.GroupFaults.{missing_in}
-use Rattle.fix_tables.proofs.group_faults.missing_in.Given as goal
-
-abbrev pub invariant-loop-row : goal.invariant-loop-row
-invariant-loop-row l = missing_in l.rows l.some (places l.placed) ≡ missing_in l.rows (drop l.row-index l.some) (places l.placed)

@@ -1,6 +1,0 @@
-use Rattle.std.proofs.Common.{◌≡◌, ◌+◌, ◌≤◌, length, drop}
-use Rattle.fix_tables.specs.Places.{places, begins}
-use Rattle.fix_tables.proofs.group_faults.number_of.Given as goal
-
-abbrev pub invariant-loop-one : goal.invariant-loop-one
-invariant-loop-one l = (l.number + length (begins l.first l.place (places (drop l.one-index l.placed))) ≡ length (begins l.first l.place (places l.placed))) × (l.number ≤ l.one-index)

@@ -1,7 +1,0 @@
-use Rattle.std.proofs.Common.{◌≡◌, ◌++◌, drop}
-use Rattle.fix_fields.specs.Views.{entries}
-use Rattle.fix_tables.specs.Places.{part, places}
-use Rattle.fix_tables.proofs.places.part.Given as goal
-
-abbrev pub invariant-loop-one : goal.invariant-loop-one
-invariant-loop-one l = entries l.fields.items ++ part l.place (places (drop l.one-index l.placed)) ≡ part l.place (places l.placed)

@@ -1,0 +1,9 @@
+pub mod ByTag
+pub mod Faults
+pub mod GroupFaults
+pub mod GroupHolding
+pub mod Holding
+pub mod Positions
+pub mod Table
+pub mod Tables
+pub mod Stated

@@ -1,0 +1,20 @@
+//! The tables of the message types: where the fields of a body stand in them, and the first fault that they show.
+#![tactic(auto)]
+
+// tables
+mod positions;
+mod table;
+
+// faults
+mod by_tag;
+mod faults;
+mod forms;
+mod group_faults;
+
+pub use faults::{DictFault, first_fault};
+pub use group_faults::located_fault;
+pub use positions::{
+    FieldPosition, LocatedField, LocatedFields, Part, PartNumbers, begins, first_begin, located,
+    part, second_begin,
+};
+pub use table::{Form, Row, header, is_grouped, is_session, resend_request_rows, rows_of, type_of};

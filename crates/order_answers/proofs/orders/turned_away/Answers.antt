@@ -1,4 +1,0 @@
-use Rattle.order_answers.proofs.orders.turned_away.Goals as goal
-
-pub returns-in-Refused-clause-answer : goal.returns-in-Refused-clause-answer
-returns-in-Refused-clause-answer c = rw c.in-Refused.is c.refused.ensures.answer

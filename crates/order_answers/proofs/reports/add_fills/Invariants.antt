@@ -1,5 +1,0 @@
-use Rattle.order_answers.proofs.Adding.{Added}
-use Rattle.order_answers.proofs.reports.add_fills.Given as goal
-
-abbrev pub invariant-loop-fill : goal.invariant-loop-fill
-invariant-loop-fill l = Added l.symbol l.entry l.fills l.initial.replies.items l.initial.report l.initial.trade l.fill-index l.replies.items l.report l.trade l.so_far

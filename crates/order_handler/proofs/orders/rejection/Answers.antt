@@ -1,0 +1,4 @@
+use Rattle.order_handler.proofs.orders.rejection.Goals as goal
+
+pub returns-in-Refused-clause-answer : goal.returns-in-Refused-clause-answer
+returns-in-Refused-clause-answer c = rw c.in-Refused.is c.refused.ensures.answer

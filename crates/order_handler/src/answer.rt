@@ -1,0 +1,205 @@
+//! What the venue answers of its orders to one input, before it does.
+ghost use Rattle.std.specs.Prelude.{◌≡◌, ◌≤◌, false, [], ◌∷◌, length, count_by};
+ghost use Rattle.venue_rules.specs.declared.replies.Reply.{Reply as ReplyValue};
+ghost use Rattle.venue_rules.specs.Facts.{trades};
+ghost use Rattle.venue_rules.specs.Run.{is_report};
+ghost use Rattle.order_handler.specs.Counting.{is_reported};
+
+use cross_delay::HoldPlan;
+use price_book::FillPlan;
+use std::alloc::Global;
+use std::marker::Model;
+use venue_rules::{Fact, Reply, ReplyBody};
+
+/// What the book gains and what the held sides do, which of the two comes first, and the replies, in order.
+pub struct OrderAnswer {
+    delay_first: bool,
+    delay: HoldPlan,
+    book: FillPlan,
+    replies: Vec<Reply>,
+    reports: u64,
+    traded: u64,
+}
+
+// Written out, so that a proof sees one call where it is dropped, and not the drop of each part.
+impl Drop for OrderAnswer {
+    fn drop(self) {
+        let OrderAnswer {
+            delay_first: _delay_first,
+            delay: _delay,
+            book: _book,
+            replies: _replies,
+            reports: _reports,
+            traded: _traded,
+        } = self;
+    }
+}
+
+impl Model for OrderAnswer {
+    ghost use Rattle.std.specs.Prelude.{◌≡◌, ◌≤◌, count_by, length};
+    ghost use Rattle.venue_rules.specs.Facts.{trades};
+    ghost use Rattle.order_handler.specs.Counting.{is_reported};
+    ghost use Rattle.order_handler.specs.Parts.{Parts};
+
+    ghost Value = { Parts };
+
+    ghost view = { λ a. record { delay_first = a.delay_first; delay = a.delay.facts; book = a.book.facts; replies = a.replies.items } };
+
+    ghost invariant = { λ a. (a.reports ≡ count_by is_reported a.replies.items) × (a.reports ≤ 402) × (a.traded ≡ length (trades a.book.facts)) × (a.traded ≤ 200) };
+}
+
+/// Whether this is an execution report (message 8).
+#[tactic(auto, unfolding(crate::specs::Counting::is_reported))]
+fn is_reported(reply: &Reply) -> bool
+    ensures { result ≡ is_reported reply.now }
+{
+    match &reply.what {
+        ReplyBody::OrderRefused(_)
+        | ReplyBody::CrossRefused(_)
+        | ReplyBody::OrderEntered(_)
+        | ReplyBody::OrderFilled(_)
+        | ReplyBody::OrderUnfilled(_)
+        | ReplyBody::OrderCancelled(_)
+        | ReplyBody::OrderReplaced(_)
+        | ReplyBody::RoomTraded(_) => true,
+        ReplyBody::ChangeRefused(_)
+        | ReplyBody::RequestRefused(_)
+        | ReplyBody::RequestSent(_)
+        | ReplyBody::QuoteStatus(_)
+        | ReplyBody::QuoteSent(_)
+        | ReplyBody::BookSnapshot(_)
+        | ReplyBody::MarketDataReject(_)
+        | ReplyBody::BusinessReject(_) => false,
+    }
+}
+
+fn count_reports(replies: &[Reply]) -> u64
+    ensures value { result ≡ count_by is_reported replies.now }
+    ensures bound { result ≤ length replies.now }
+{
+    let mut count = 0u64;
+    for reply in replies {
+        if is_reported(reply) {
+            count += 1;
+        }
+    }
+    count
+}
+
+// How many trades the fact is.
+fn traded_in(fact: &Fact) -> u64
+    ensures value { result ≡ length (trades (fact.now ∷ [])) }
+    ensures bound { result ≤ 1 }
+{
+    match fact {
+        Fact::Traded(_) => 1,
+        _ => 0,
+    }
+}
+
+#[tactic(auto, using(crate::proofs::Readings::trades_more))]
+fn count_trades(facts: &[Fact]) -> u64
+    ensures { result ≡ length (trades facts.now) }
+{
+    let mut count: u64 = 0;
+    for fact in facts {
+        count += traded_in(fact);
+    }
+    count
+}
+
+impl OrderAnswer {
+    /// These replies, at most 402 for one input, with at most 200 trades and what the book gains and what the held sides do; the held sides'
+    /// facts come first where `delay_first` is set.
+    pub fn of(
+        delay_first: bool,
+        delay: HoldPlan,
+        book: FillPlan,
+        replies: Vec<Reply>,
+    ) -> OrderAnswer
+        requires replies { length replies.items ≤ 402 }
+        requires trades { length (trades book.facts) ≤ 200 }
+        ensures { result ≡ record { delay_first = delay_first; delay = delay.facts; book = book.facts; replies = replies.items } }
+    {
+        let reports = count_reports(&replies);
+        let traded = count_trades(book.facts());
+        OrderAnswer {
+            delay_first,
+            delay,
+            book,
+            replies,
+            reports,
+            traded,
+        }
+    }
+
+    /// These replies alone, at most 402 for one input.
+    pub fn of_replies(alloc: Global, replies: Vec<Reply>) -> OrderAnswer
+        requires { length replies.items ≤ 402 }
+        ensures { result ≡ record { delay_first = false; delay = []; book = []; replies = replies.items } }
+    {
+        OrderAnswer::of(
+            false,
+            HoldPlan::nothing(alloc),
+            FillPlan::nothing(alloc),
+            replies,
+        )
+    }
+
+    /// Whether the facts of the held sides come before those of the book.
+    pub fn delay_first(&self) -> bool
+        ensures { result ≡ self.now.delay_first }
+    {
+        self.delay_first
+    }
+
+    /// The replies, in order.
+    pub fn replies(&self) -> &[Reply]
+        ensures { result.now ≡ self.now.replies }
+    {
+        &self.replies
+    }
+
+    /// How many of the replies are execution reports (message 8).
+    #[tactic(auto, unfolding(crate::specs::Counting::is_reported))]
+    pub fn reports(&self) -> u64
+        ensures value { result ≡ count_by (λ (r : ReplyValue). is_report r.what) self.now.replies }
+        ensures bound { result ≤ 402 }
+    {
+        self.reports
+    }
+
+    /// How many trades the book gains.
+    pub fn trades(&self) -> u64
+        ensures value { result ≡ length (trades self.now.book) }
+        ensures bound { result ≤ 200 }
+    {
+        self.traded
+    }
+
+    /// What the book is to apply, and what the held sides are to.
+    pub fn into_parts(self) -> (FillPlan, HoldPlan)
+        ensures book { result.0.facts ≡ self.book }
+        ensures delay { result.1.facts ≡ self.delay }
+    {
+        let OrderAnswer {
+            delay_first: _delay_first,
+            delay,
+            book,
+            replies: _replies,
+            reports: _reports,
+            traded: _traded,
+        } = self;
+        (book, delay)
+    }
+
+    /// The same answer, with what the held sides do: before the book's facts where `delay_first` is set, else after them.
+    pub fn with_delay(self, delay_first: bool, delay: HoldPlan) -> OrderAnswer
+        ensures { result ≡ record { delay_first = delay_first; delay = delay.facts; book = self.book; replies = self.replies } }
+    {
+        let mut answer = self;
+        answer.delay_first = delay_first;
+        answer.delay = delay;
+        answer
+    }
+}

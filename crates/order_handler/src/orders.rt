@@ -1,0 +1,226 @@
+//! A new order (NewOrderSingle, D): why it is refused, and what it does as it enters.
+ghost use Rattle.std.specs.Prelude.{◌≡◌, [], ◌^◌, ◌<◌, length, List, IfOk, IfErr};
+ghost use Rattle.venue_rules.specs.declared.facts.Fact.{Fact as FactValue};
+ghost use Rattle.venue_rules.specs.Facts.{History};
+ghost use Rattle.venue_rules.specs.Orders.{answer_order, is_limit, is_unsupported_life, life_of, order_asked, refused};
+ghost use Rattle.order_handler.specs.Asked.{IsSound, IsTermsOf, IsTurnedAway, rejection};
+ghost use Rattle.order_handler.specs.Made.{IsMade};
+ghost use Rattle.order_handler.specs.Market.{market, sender};
+ghost use Rattle.order_handler.specs.Parts.{answer_of};
+ghost use Rattle.order_handler.specs.Reads.{AreCounts, IsRead};
+
+use crate::answer::OrderAnswer;
+use crate::counts::Counts;
+use crate::entering::enter;
+use crate::laws::parts_are_read_alone;
+use crate::listing::{instrument_of, is_below_least, is_off_tick};
+use crate::messages::business_reject;
+use crate::used::is_used;
+use cross_delay::Held;
+use fix_dictionary::{Amount, FixChar, NewOrderSingle, Price};
+use instruments::Instruments;
+use participants::Participants;
+use price_book::{PriceBook, Refusal};
+use sef_moment::Moment;
+use std::alloc::{AllocError, Global};
+use venue_rules::{
+    BusinessRefusal, OrderFact, OrderRefusal, OrderRefused, OrderReport, Reply, ReplyBody, Taken,
+    TimeInForce, Who,
+};
+
+/// Why an order is turned away before the book is asked.
+#[derive(Clone, Copy)]
+enum Cause {
+    Refused(OrderRefusal),
+    PriceMissing,
+}
+
+/// The instrument and the price of an order.
+#[derive(Clone, Copy)]
+struct Terms {
+    instrument: u32,
+    price: Price,
+}
+
+/// OrdType (40) is 2, a limit order.
+pub fn is_limit(order_type: FixChar) -> bool
+    ensures { result ≡ is_limit order_type }
+{
+    order_type.get() == b'2'
+}
+
+/// TimeInForce (59) is there, and none of 0, 3 and 4.
+fn is_unsupported_life(time_in_force: Option<FixChar>) -> bool
+    ensures { result ≡ is_unsupported_life time_in_force }
+{
+    match time_in_force {
+        Some(c) => !(c.get() == b'0' || (c.get() == b'3' || c.get() == b'4')),
+        None => false,
+    }
+}
+
+fn life_of(time_in_force: Option<FixChar>) -> TimeInForce
+    ensures { result ≡ life_of time_in_force }
+{
+    match time_in_force {
+        Some(c) => {
+            if c.get() == b'3' {
+                TimeInForce::ImmediateOrCancel
+            } else if c.get() == b'4' {
+                TimeInForce::FillOrKill
+            } else {
+                TimeInForce::Day
+            }
+        }
+        None => TimeInForce::Day,
+    }
+}
+
+/// The terms of an order that may enter; else the first cause to turn it away before the book is asked.
+#[tactic(auto, using(crate::proofs::Turning::turnings))]
+fn order_terms(
+    participants: &Participants,
+    instruments: &Instruments,
+    book: &PriceBook,
+    held: &Held,
+    who: Who,
+    order: &NewOrderSingle,
+) -> Result<Terms, Cause>
+    ensures sound { IfOk result (λ terms. IsSound (market participants.now instruments.now) book.now.facts held.now.facts who order.now) }
+    ensures terms { IfOk result (λ terms. IsTermsOf (market participants.now instruments.now) order.now terms) }
+    ensures turned { IfErr result (λ cause. IsTurnedAway (market participants.now instruments.now) book.now.facts held.now.facts who order.now cause) }
+{
+    let Some(instrument) = instrument_of(instruments, &order.symbol) else {
+        return Err(Cause::Refused(OrderRefusal::UnknownInstrument));
+    };
+    if is_used(book, held, who, &order.order_id) {
+        return Err(Cause::Refused(OrderRefusal::DuplicateClOrdId));
+    }
+    if !is_limit(order.order_type) || is_unsupported_life(order.time_in_force) {
+        return Err(Cause::Refused(OrderRefusal::UnsupportedOrder));
+    }
+    let Some(price) = order.price else {
+        return Err(Cause::PriceMissing);
+    };
+    if is_off_tick(instruments, instrument, price) {
+        return Err(Cause::Refused(OrderRefusal::PriceOffTick));
+    }
+    if is_below_least(instruments, instrument, order.quantity) {
+        return Err(Cause::Refused(OrderRefusal::QuantityBelowLeast));
+    }
+    Ok(Terms { instrument, price })
+}
+
+/// The order that a message asks for.
+fn order_asked(
+    participants: &Participants,
+    instruments: &Instruments,
+    who: Who,
+    order: &NewOrderSingle,
+    terms: Terms,
+) -> OrderFact
+    requires { IsTermsOf (market participants.now instruments.now) order.now terms }
+    ensures { result ≡ order_asked (market participants.now instruments.now) who order.now }
+{
+    OrderFact {
+        who,
+        id: order.order_id,
+        link: order.link_id,
+        instrument: terms.instrument,
+        side: order.side,
+        quantity: order.quantity,
+        price: terms.price,
+        life: life_of(order.time_in_force),
+    }
+}
+
+/// A report that refuses an order, of which the venue knows no number.
+fn refused(
+    alloc: Global,
+    taken: &Taken,
+    order: &NewOrderSingle,
+    reports: u64,
+    cause: OrderRefusal,
+) -> Result<OrderAnswer, AllocError>
+    requires { reports < 2 ^ 62 }
+    ensures answer { IfOk result (λ a. (facts : List FactValue) → answer_of a ≡ refused (record { facts = facts; reports = reports }) (sender taken.now) order.now cause) }
+    ensures quiet { IfOk result (λ a. (a.book ≡ []) × (a.delay ≡ [])) }
+{
+    let report = OrderReport {
+        report: reports + 1,
+        order: None,
+        symbol: order.symbol,
+        side: order.side,
+        left: Amount::new(0),
+        filled: Amount::new(0),
+        id: order.order_id,
+    };
+    let what = ReplyBody::OrderRefused(OrderRefused {
+        order: report,
+        cause,
+    });
+    let to = taken.from;
+    let replies = vec![in alloc; Reply { to, what }]?;
+    Ok(OrderAnswer::of_replies(alloc, replies))
+}
+
+/// The answer to an order that is turned away.
+fn rejection(
+    alloc: Global,
+    taken: &Taken,
+    order: &NewOrderSingle,
+    reports: u64,
+    cause: Cause,
+) -> Result<OrderAnswer, AllocError>
+    requires { reports < 2 ^ 62 }
+    ensures answer { IfOk result (λ a. (facts : List FactValue) → answer_of a ≡ rejection (record { facts = facts; reports = reports }) (sender taken.now) order.now cause) }
+    ensures quiet { IfOk result (λ a. (a.book ≡ []) × (a.delay ≡ [])) }
+{
+    match cause {
+        Cause::Refused(cause) => refused(alloc, taken, order, reports, cause),
+        Cause::PriceMissing => business_reject(alloc, taken, BusinessRefusal::PriceMissing),
+    }
+}
+
+/// The answer to a new order; makes room for what it adds to the book.
+pub fn plan_order(
+    alloc: Global,
+    participants: &Participants,
+    instruments: &Instruments,
+    book: &mut PriceBook,
+    held: &Held,
+    counts: Counts,
+    taken: &Taken,
+    order: &NewOrderSingle,
+    moment: Moment,
+) -> Result<OrderAnswer, AllocError>
+    requires { AreCounts counts }
+    ensures kept { book.new.facts ≡ book.old.facts }
+    ensures planned { IfOk result (λ a. (h : History) → IsRead h book.old.facts held.now.facts counts → answer_of a ≡ answer_order (market participants.now instruments.now) h (sender taken.now) order.now moment) }
+    ensures made { IfOk result (λ a. IsMade (length instruments.now) book.new held.now a) }
+{
+    parts_are_read_alone();
+    let (who, reports) = (taken.from, counts.reports);
+    let terms = match order_terms(participants, instruments, book, held, who, order) {
+        Ok(terms) => terms,
+        Err(cause) => return rejection(alloc, taken, order, reports, cause),
+    };
+    let asked = order_asked(participants, instruments, who, order, terms);
+    match enter(
+        alloc,
+        participants,
+        instruments,
+        book,
+        counts,
+        &asked,
+        moment,
+    ) {
+        Ok(answer) => Ok(answer),
+        Err(Refusal::TooSoon(_)) => {
+            let cause = OrderRefusal::LinkedOrderTooRecent;
+            refused(alloc, taken, order, reports, cause)
+        }
+        Err(Refusal::Full) => refused(alloc, taken, order, reports, OrderRefusal::BookSideFull),
+        Err(Refusal::NoMemory) => Err(AllocError),
+    }
+}

@@ -1,8 +1,0 @@
-//! An order's number beside the mark of its name.
-
-/// The number of an order, and the mark of the name by which it is known.
-#[derive(Clone, Copy)]
-pub(crate) struct NameKey {
-    pub(crate) mark: u64,
-    pub(crate) number: u64,
-}

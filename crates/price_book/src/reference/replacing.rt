@@ -1,0 +1,56 @@
+//! An order takes the place of another in a scanned book.
+ghost use Rattle.std.specs.Prelude.{◌≡◌, ◌≤◌, ◌<◌, ◌+◌, ◌^◌, true, None, IfOk, IfErr};
+ghost use Rattle.venue_rules.specs.Book.{filled, too_soon};
+ghost use Rattle.price_book.specs.Kept.{are_whole};
+ghost use Rattle.price_book.specs.Views.{seen};
+ghost use Rattle.price_book.specs.Plans.{IsReplaceRefused, replace_plan, replacing};
+
+use crate::book::Refusal;
+use crate::entering::plan_of;
+use crate::fills::too_soon;
+use crate::leaving::removed;
+use crate::plan::FillPlan;
+use crate::reading::next_order;
+use crate::reference::fills::fills;
+use crate::resting::Resting;
+use instruments::Instruments;
+use participants::{Participants, Who};
+use sef_moment::Moment;
+use std::alloc::Global;
+use venue_rules::{Entry, Fact, OrderFact};
+
+/// The plan of a replacement, before room is made for it.
+pub(crate) fn draft_replace(
+    alloc: Global,
+    participants: &Participants,
+    instruments: &Instruments,
+    facts: &[Fact],
+    who: Who,
+    order: Resting<'_>,
+    new_order: OrderFact,
+    moment: Moment,
+) -> Result<FillPlan, Refusal>
+    requires { are_whole facts.now ≡ true }
+    ensures planned { IfOk result (λ p. (too_soon (record { participants = participants.now; instruments = instruments.now }) facts.now new_order moment ≡ None) × (p ≡ replace_plan facts.now (seen order.entry) who new_order moment)) }
+    ensures refused { IfErr result (IsReplaceRefused (record { participants = participants.now; instruments = instruments.now }) facts.now new_order moment) }
+{
+    let Ok(fills) = fills(alloc, facts, &new_order) else {
+        return Err(Refusal::NoMemory);
+    };
+    if let Some(number) = too_soon(participants, instruments, &new_order, moment, &fills) {
+        return Err(Refusal::TooSoon(number));
+    }
+    let Ok(gone) = removed(alloc, who, order.entry.number, &new_order.id) else {
+        return Err(Refusal::NoMemory);
+    };
+    let entry = Entry {
+        number: next_order(facts),
+        order: new_order,
+        filled_before: order.filled(),
+        moment,
+    };
+    let Ok(plan) = plan_of(alloc, gone, &entry, &fills) else {
+        return Err(Refusal::NoMemory);
+    };
+    Ok(plan)
+}

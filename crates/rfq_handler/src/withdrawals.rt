@@ -1,0 +1,189 @@
+//! A withdrawal of quotes (QuoteCancel, Z): each quote's maker and its requester are told.
+ghost use Rattle.std.specs.Prelude.{◌≡◌, ◌++◌, ℕ, List, [], Some, true, codes, length, flat_map, IfOk};
+ghost use Rattle.participants.specs.ParticipantFile.{ParticipantFile};
+ghost use Rattle.venue_rules.specs.declared.facts.RoomQuote.{RoomQuote as RoomQuoteValue};
+ghost use Rattle.venue_rules.specs.Facts.{History};
+ghost use Rattle.venue_rules.specs.Market.{Market};
+ghost use Rattle.venue_rules.specs.Withdrawals.{answer_withdrawal};
+ghost use Rattle.rfq_room.specs.Causes.{withdrawal_id};
+ghost use Rattle.rfq_room.specs.RoomStore.{are_listed};
+ghost use Rattle.rfq_room.specs.RoomFacts.{room_facts};
+ghost use Rattle.rfq_room.specs.Steps.{IsPlanOf};
+ghost use Rattle.rfq_room.specs.Emitted.{withdrawal_emitted};
+ghost use Rattle.rfq_handler.specs.Known.{are_known};
+ghost use Rattle.rfq_handler.specs.Senders.{market, sent_by};
+ghost use Rattle.rfq_handler.specs.Sent.{both_emitted, named_status, to_maker, to_requester};
+
+use crate::answer::RoomAnswer;
+use crate::business_reject::business_reject;
+use crate::sender::Sender;
+use fix_dictionary::{Identifier, QuoteCancel};
+use instruments::Instruments;
+use rfq_room::{Cause, RoomPlan, Rooms, WithdrawalRefusal, rooms_decide};
+use sef_moment::Moment;
+use std::alloc::{AllocError, Global};
+use venue_rules::{
+    BusinessRefusal, QuoteState, QuoteStatus, Reply, ReplyBody, Room, RoomQuote,
+    printed_identifier, symbol_of,
+};
+
+/// What is said of a quote of a room to its maker: by its own identifier of the quote, and the venue's of the room.
+pub(crate) fn to_maker(
+    room: &Room,
+    symbol: &Identifier,
+    quote: &RoomQuote,
+    state: QuoteState,
+) -> Reply
+    ensures { result ≡ to_maker room.now symbol.now quote.now state }
+{
+    let what = ReplyBody::QuoteStatus(QuoteStatus {
+        quote_id: Some(quote.id),
+        request_id: Some(printed_identifier(b'R', room.number)),
+        response_id: None,
+        symbol: Some(*symbol),
+        state,
+    });
+    Reply {
+        to: quote.maker,
+        what,
+    }
+}
+
+// And to the requester: by the venue's identifier of the quote, and its own of the request.
+fn to_requester(room: &Room, symbol: &Identifier, quote: &RoomQuote, state: QuoteState) -> Reply
+    ensures { result ≡ to_requester room.now symbol.now quote.now state }
+{
+    let what = ReplyBody::QuoteStatus(QuoteStatus {
+        quote_id: Some(printed_identifier(b'Q', quote.number)),
+        request_id: Some(room.id),
+        response_id: None,
+        symbol: Some(*symbol),
+        state,
+    });
+    Reply {
+        to: room.requester,
+        what,
+    }
+}
+
+// Tells the maker and the requester of a quote that it is withdrawn.
+#[tactic(auto, using(crate::proofs::Withdrawing::tellings))]
+fn notify_both(
+    instruments: &Instruments,
+    rooms: &Rooms,
+    quote: &RoomQuote,
+    replies: &mut Vec<Reply>,
+) -> Result<(), AllocError>
+    requires { are_listed (length instruments.now) rooms.now.facts ≡ true }
+    ensures { IfOk result (λ _. replies.new.items ≡ replies.old.items ++ both_emitted instruments.now rooms.now.facts quote.now) }
+{
+    let Some(room) = rooms.room(quote.room) else {
+        return Ok(());
+    };
+    let symbol = symbol_of(instruments, room.instrument);
+    replies.push(to_maker(room, &symbol, quote, QuoteState::Withdrawn))?;
+    replies.push(to_requester(room, &symbol, quote, QuoteState::Withdrawn))?;
+    Ok(())
+}
+
+// Tells the makers and the requesters of quotes that they are withdrawn.
+fn notify_all(
+    alloc: Global,
+    instruments: &Instruments,
+    rooms: &Rooms,
+    quotes: &[RoomQuote],
+) -> Result<Vec<Reply>, AllocError>
+    requires { are_listed (length instruments.now) rooms.now.facts ≡ true }
+    ensures { IfOk result (λ v. v.items ≡ flat_map (both_emitted instruments.now rooms.now.facts) quotes.now) }
+{
+    let mut replies = Vec::new(alloc);
+    for quote in quotes {
+        notify_both(instruments, rooms, quote, &mut replies)?;
+    }
+    Ok(replies)
+}
+
+// A report that names the quote as it was sent, if it was.
+fn status(
+    alloc: Global,
+    sender: Sender,
+    quote_id: Option<Identifier>,
+    state: QuoteState,
+) -> Result<RoomAnswer, AllocError>
+    ensures { IfOk result (λ a. a ≡ named_status sender.who quote_id state) }
+{
+    let what = ReplyBody::QuoteStatus(QuoteStatus {
+        quote_id,
+        request_id: None,
+        response_id: None,
+        symbol: None,
+        state,
+    });
+    let to = sender.who;
+    let replies = vec![in alloc; Reply { to, what }]?;
+    Ok(RoomAnswer::of(RoomPlan::nothing(alloc), replies, 0, 0))
+}
+
+// The identifier of the quote that a withdrawal of one names, where it is one (QuoteCancelType, 298, is 5).
+fn named(request: &QuoteCancel) -> Option<Identifier>
+    ensures { result ≡ withdrawal_id request.now }
+{
+    if request.cancel_type.get() == 5 {
+        request.quote_id
+    } else {
+        None
+    }
+}
+
+// A withdrawal refused.
+fn refused(
+    alloc: Global,
+    sender: Sender,
+    request: &QuoteCancel,
+    cause: WithdrawalRefusal,
+) -> Result<RoomAnswer, AllocError>
+    ensures quiet { IfOk result (λ a. a.facts ≡ []) }
+    ensures emitted { IfOk result (λ a. (m : Market) (h : History) (qs : List RoomQuoteValue) → a ≡ withdrawal_emitted m h (sent_by sender (codes "Z")) request.now qs (Some cause)) }
+{
+    match cause {
+        WithdrawalRefusal::QuoteMissing => {
+            business_reject(alloc, sender, b"Z", BusinessRefusal::QuoteMissing)
+        }
+        WithdrawalRefusal::NotFound => {
+            status(alloc, sender, named(request), QuoteState::NotFound)
+        }
+        WithdrawalRefusal::Unsupported => {
+            let quote_id = request.quote_id;
+            status(alloc, sender, quote_id, QuoteState::CancelUnsupported)
+        }
+    }
+}
+
+/// The answer to a withdrawal of quotes; makes space for what it adds to the rooms.
+pub fn plan_withdrawal(
+    alloc: Global,
+    instruments: &Instruments,
+    rooms: &mut Rooms,
+    sender: Sender,
+    request: &QuoteCancel,
+    moment: Moment,
+) -> Result<RoomAnswer, AllocError>
+    requires { are_listed (length instruments.now) rooms.old.facts ≡ true }
+    ensures kept { rooms.new.facts ≡ rooms.old.facts }
+    ensures planned { IfOk result (λ a. (participants : ParticipantFile) (h : History) → room_facts h.facts ≡ rooms.old.facts → a ≡ answer_withdrawal (market participants instruments.now) h (sent_by sender (codes "Z")) request.now moment) }
+    ensures made { IfOk result (λ a. IsPlanOf rooms.new a.facts) }
+    ensures listed { IfOk result (λ a. (count : ℕ) → are_listed count a.facts ≡ true) }
+    ensures known { IfOk result (λ a. (count : ℕ) → are_known count a.facts ≡ true) }
+{
+    rooms_decide();
+    match rooms.plan_withdraw(sender.who, request, moment) {
+        Ok(plan) => {
+            let replies = notify_all(alloc, instruments, rooms, plan.quotes())?;
+            Ok(RoomAnswer::of(plan, replies, 0, 0))
+        }
+        Err(refusal) => match refusal.cause() {
+            Some(Cause::Withdrawal(cause)) => refused(alloc, sender, request, cause),
+            _ => Err(AllocError),
+        },
+    }
+}

@@ -1,7 +1,0 @@
-use Rattle.std.proofs.Common.{◌∙◌}
-use Rattle.rfq_room.specs.Past.{facts_in}
-use Rattle.rfq_room.proofs.Marking.{traded-is}
-use Rattle.rfq_room.proofs.marks.Marks.is_closed.Goals as goal
-
-pub returns : goal.returns
-returns c = rw (← c.self.view_is) (c.is_set.ensures ∙ c.self.invariant.traded c.args.room ∙ traded-is (facts_in c.self.inside.past) c.args.room)

@@ -1,7 +1,0 @@
-use Rattle.std.proofs.Common.{◌∙◌}
-use Rattle.rfq_room.specs.Past.{facts_in}
-use Rattle.rfq_room.proofs.Marking.{requests-are}
-use Rattle.rfq_room.proofs.marks.Marks.is_request_id_used.Goals as goal
-
-pub returns : goal.returns
-returns c = rw (← c.self.view_is) (c.has.ensures ∙ c.self.invariant.requests c.args.who c.args.id.now ∙ requests-are (facts_in c.self.inside.past) c.args.who c.args.id.now)

@@ -1,5 +1,0 @@
-use Rattle.room_answers.proofs.Showing.{rests-is}
-use Rattle.room_answers.proofs.quotes.rests.Goals as goal
-
-pub returns : goal.returns
-returns c = rests-is c.args.book.now.facts c.args.instrument c.from_vec.result c.in_ok-picture.field-0.items c.in_ok-picture.ensures.shown c.from_vec.ensures

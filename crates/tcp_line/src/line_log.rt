@@ -1,0 +1,100 @@
+//! What a line said, for contracts alone, and how many faults are among it.
+ghost use Rattle.std.specs.Prelude.{◌≡◌, ◌^◌, ◌-◌, [], ◌∷◌, ◌++◌, min};
+ghost use Rattle.gateway.specs.Said.{fault_of, faults_in};
+ghost use Rattle.gateway.specs.Memory.{said_of, fault_count};
+ghost use Rattle.gateway.specs.GhostHistory.{entries};
+
+use gateway::ghost_history::GhostHistory;
+use gateway::line::Accept;
+use gateway::mem_line::LineEvent;
+use gateway::piece::Given;
+use std::marker::Model;
+
+/// What a line said. Contracts see all of it; what takes room is the last of it, and the count of faults.
+pub struct LineLog {
+    past: GhostHistory<LineEvent>,
+    faults: u64,
+    ghost counted: { faults ≡ min (fault_count (entries past)) (2 ^ 64 - 1) },
+}
+
+// Written out, so that a proof sees one call where it is dropped, and not the drop of each part.
+impl Drop for LineLog {
+    fn drop(self) {
+        let LineLog {
+            past: _past,
+            faults: _faults,
+        } = self;
+    }
+}
+
+impl Model for LineLog {
+    ghost use Rattle.std.specs.Prelude.{List};
+    ghost use Rattle.gateway.specs.Said.{Said};
+    ghost use Rattle.gateway.specs.Memory.{said_in};
+    ghost use Rattle.gateway.specs.GhostHistory.{entries};
+
+    ghost Value = { List Said };
+
+    ghost view = { λ a. said_in (entries a.past) };
+}
+
+impl LineLog {
+    /// Of a line that has said nothing.
+    pub fn new() -> LineLog
+        ensures { result ≡ [] }
+    {
+        LineLog {
+            past: GhostHistory::new(),
+            faults: 0,
+        }
+    }
+
+    /// The line said this.
+    pub fn note(&mut self, spoken: LineEvent)
+        ensures { self.new ≡ self.old ++ said_of spoken ∷ [] }
+    {
+        let faults = faults_of(&spoken);
+        self.past.add(spoken);
+        self.faults = self.faults.saturating_add(faults);
+    }
+
+    /// How many faults it told; at its greatest value the count stays.
+    pub fn faults(&self) -> u64
+        ensures { result ≡ min (faults_in self.now) (2 ^ 64 - 1) }
+    {
+        self.faults
+    }
+}
+
+// 1 for a fault.
+fn faults_of(spoken: &LineEvent) -> u64
+    ensures { result ≡ fault_of (said_of spoken.now) }
+{
+    match spoken {
+        LineEvent::Accepted { answer } => match answer {
+            Accept::Fault => 1,
+            Accept::Up => 0,
+            Accept::Quiet => 0,
+            Accept::Over => 0,
+        },
+        LineEvent::Gave { given } => match given {
+            Given::Fault => 1,
+            Given::Got { piece: _ } => 0,
+            Given::Quiet => 0,
+            Given::Ended => 0,
+        },
+        LineEvent::Took { bytes: _ } => 0,
+        LineEvent::BrokeOff { bytes: _ } => 1,
+    }
+}
+
+/// These bytes, for contracts alone.
+pub(crate) fn past_of(bytes: &[u8]) -> GhostHistory<u8>
+    ensures { entries result ≡ bytes.now }
+{
+    let mut past = GhostHistory::new();
+    for byte in bytes {
+        past.add(*byte);
+    }
+    past
+}

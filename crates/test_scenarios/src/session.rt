@@ -1,0 +1,6 @@
+//! What a session answers, and what it takes of what comes.
+
+mod emitting;
+pub mod feeding;
+mod line;
+mod running;

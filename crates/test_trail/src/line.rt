@@ -1,0 +1,58 @@
+//! The lines of a transcript.
+
+use crate::boards::run_board;
+use crate::eras::run_eras;
+use crate::keeping::run_keeping;
+use crate::older::run_older;
+use crate::scenario::Scenario;
+use crate::starting::run_starting;
+use crate::steps::run_steps;
+use crate::stops::run_stops;
+use crate::working::run_working;
+use anyhow::{Result, bail};
+
+// Plays what a line names by its first word, with the others.
+fn run_by(scenario: &mut Scenario, word: &str, rest: &str) -> Result<()> {
+    match word {
+        "trail" => run_steps(scenario, rest),
+        "eras" => run_eras(scenario, rest),
+        "stop" => run_stops(scenario, rest),
+        _ => bail!("no play: {word}"),
+    }
+}
+
+// Plays what a line names.
+fn run_named(scenario: &mut Scenario, line: &str) -> Result<()> {
+    match line {
+        "keep" => run_keeping(scenario),
+        "migrate 1" => run_older(scenario, 1),
+        "migrate 2" => run_older(scenario, 2),
+        "start" => run_starting(scenario),
+        "board" => run_board(scenario),
+        "work" => run_working(scenario),
+        _ => {
+            let (word, rest) = line.split_once(' ').unwrap_or((line, ""));
+            run_by(scenario, word, rest)
+        }
+    }
+}
+
+// Plays a line, and appends it with what is seen; a line that tells an answer is passed over.
+fn run_line(scenario: &mut Scenario, line: &str) -> Result<()> {
+    if line.starts_with("  ") {
+        return Ok(());
+    }
+    scenario.echo(line)?;
+    if line.is_empty() || line.starts_with('#') {
+        return Ok(());
+    }
+    run_named(scenario, line)
+}
+
+/// Plays all lines.
+pub fn run_lines(scenario: &mut Scenario, transcript: &str) -> Result<()> {
+    for line in transcript.lines() {
+        run_line(scenario, line)?;
+    }
+    Ok(())
+}

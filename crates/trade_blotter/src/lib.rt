@@ -1,0 +1,12 @@
+//! The lines that tell the trades of a day, each with what its room was, for who looks whether it was made lawfully.
+#![tactic(auto)]
+
+mod form;
+mod laws;
+mod line;
+mod printing;
+mod table;
+
+pub use laws::each_room_trade_is_emitted_with_its_room;
+pub use line::{append, append_deal, append_number, append_price, name_at};
+pub use printing::{PrintFault, print_table, print_trades};

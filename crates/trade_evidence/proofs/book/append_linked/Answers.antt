@@ -1,6 +1,0 @@
-use Rattle.std.proofs.Common.{◌∙◌, append-nil, append_assoc}
-use Rattle.std.proofs.lemmas.Result.{on_ok_weaker}
-use Rattle.trade_evidence.proofs.book.append_linked.Goals as goal
-
-pub returns : goal.returns
-returns c = (on_ok_weaker c.append_row.result (λ e. e ∙ simp (c.in_ok-append.ensures, c.in_ok-append_number-2.ensures, c.in_ok-append_number.ensures, c.linked_text.ensures, c.entries_linked-linked.ensures, append-nil, append_assoc)) c.append_row.ensures)

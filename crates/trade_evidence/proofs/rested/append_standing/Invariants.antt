@@ -1,6 +1,0 @@
-use Rattle.std.proofs.Common.{◌≡◌, ◌++◌, take}
-use Rattle.trade_evidence.specs.Lines.{standing_lines}
-use Rattle.trade_evidence.proofs.rested.append_standing.Given as goal
-
-abbrev pub invariant-loop-word : goal.invariant-loop-word
-invariant-loop-word l = l.text.items ≡ l.fn.text.items ++ standing_lines (take l.word-index l.words)

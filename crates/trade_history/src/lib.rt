@@ -1,0 +1,15 @@
+//! What is read back of a day: its trades, and the rooms in which there was a quote (17 CFR 37.9(a)(3)).
+//!
+//! Both are kept beside the book and the rooms, so that reading them takes no pass over the day's facts.
+#![tactic(auto)]
+
+mod ghost_history;
+mod laws;
+mod quoted;
+mod trades;
+
+pub use laws::{
+    first_quote_is_read, later_quotes_are_read, numbers_go_on, quotes_come_alone, trades_are_read,
+};
+pub use quoted::{QuotedRooms, quoted_room};
+pub use trades::Trades;

@@ -1,7 +1,0 @@
-use Rattle.std.proofs.Common.{◌≡◌, ◌++◌, take}
-use Rattle.participants.specs.Relations.{name_of}
-use Rattle.trade_lines.specs.Line.{each_listed}
-use Rattle.trade_lines.proofs.line.append_others.Given as goal
-
-abbrev pub invariant-loop-other : goal.invariant-loop-other
-invariant-loop-other l = l.line.items ≡ l.fn.line.items ++ each_listed (name_of l.participants) (take l.other-index l.others)

@@ -1,0 +1,13 @@
+pub mod Appends
+pub mod Hearing
+pub mod Shown
+pub mod Emitting
+pub mod Members
+pub mod Says
+pub mod Replies
+pub mod Days
+pub mod Holds
+pub mod Links
+pub mod Stood
+pub mod Orders
+pub mod Asking

@@ -1,0 +1,135 @@
+-- What is found of a trade in the words of its day, so that its lines are there.
+use Rattle.std.specs.Prelude.{◌≡◌, ℕ, ℤ, ◌-◌, min, List, ◌∷◌, ◌++◌, Contains, Option, None, Some, filter, find, flat_map, length, map, slice_get}
+use Rattle.fix_dictionary.specs.declared.messages.App.{App}
+use Rattle.fix_dictionary.specs.declared.messages.App.TheVariants.{OrderCancelReplaceRequest}
+use Rattle.instruments.specs.Listing.{symbol_of}
+use Rattle.sef_moment.specs.Utc.{greatest}
+use Rattle.venue_rules.specs.declared.facts.Entry.{Entry}
+use Rattle.venue_rules.specs.declared.facts.Fact.{Fact}
+use Rattle.venue_rules.specs.declared.facts.Fact.TheVariants.{Asked as RoomAsked, Entered, Traded}
+use Rattle.venue_rules.specs.declared.facts.TradeSource.TheVariants.{Book as InBook}
+use Rattle.venue_rules.specs.declared.facts.Room.{Room}
+use Rattle.venue_rules.specs.declared.facts.Trade.{Trade}
+use Rattle.venue_rules.specs.declared.trail.TradeFact.{TradeFact}
+use Rattle.venue_rules.specs.declared.trail.TrailRow.{TrailRow}
+use Rattle.venue_rules.specs.Book.{is_linked}
+use Rattle.venue_rules.specs.Facts.{trades}
+use Rattle.venue_rules.specs.Market.{Market}
+use Rattle.venue_rules.specs.Readings.{trade_fact}
+use Rattle.venue_rules.specs.Run.{Input, Message, Tick, answer_input, run}
+use Rattle.trade_reconstruction.specs.declared.entry.Entry.{Entry as OrderEntry}
+use Rattle.trade_reconstruction.specs.declared.finding.Query.TheVariants.{Request}
+use Rattle.trade_reconstruction.specs.declared.standing.Met.{Met}
+use Rattle.trade_reconstruction.specs.declared.evidence_event.Asked.{Asked}
+use Rattle.trade_reconstruction.specs.declared.evidence_event.EventKind.TheVariants as said
+use Rattle.trade_reconstruction.specs.declared.evidence_event.EvidenceEvent.{EvidenceEvent}
+use Rattle.trade_reconstruction.specs.Lines.{both_lines, entries_linked, evidence, is_asked, is_sought, link_id, request_line, room_word, standing_line, standing_lines, trade_line, trade_row}
+use Rattle.trade_reconstruction.specs.Standing.{prices_of, stood_words}
+
+-- a row, and the input that it tells, whose answer made this a fact
+pub record CameAt (m : Market) (rs : List TrailRow) (is : List Input) (row : TrailRow) (input : Input) (fact : Fact) : Type 0 where
+  pub earlier : List Input
+  pub later : List Input
+  pub taken : is ≡ earlier ++ input ∷ later
+  pub emitted : slice_get rs (length earlier) ≡ Some row
+  pub made : Contains (answer_input m (run m earlier).history input).facts fact
+
+-- the request of a trade's room is found: the trade's evidence are the line of this request, the other lines of its room, and the line of the trade at its
+-- row; it tells what was asked for when the room was opened, and by whom, at the row and the moment of the message that did; and who are told to have
+-- been asked are its recipients
+pub record HasRequest (m : Market) (rs : List TrailRow) (is : List Input) (words : List EvidenceEvent) (t : TradeFact) (room : ℕ) : Type 0 where
+  pub word : EvidenceEvent
+  pub asked : Asked
+  pub found : find (is_sought (Request room)) words ≡ Some word
+  pub says : word.said ≡ said.Asked asked
+  pub here : asked.room ≡ room
+  pub lines : evidence m words t ≡ (request_line m.participants word asked ++ flat_map (room_word m.participants words asked) words) ++ trade_line m t (trade_row words t)
+  pub opened : Room
+  pub row : TrailRow
+  pub input : Input
+  pub trigger : CameAt m rs is row input (RoomAsked opened)
+  pub number : opened.number ≡ room
+  pub at_row : word.row ≡ row.n
+  pub moment : word.moment ≡ row.moment
+  pub requester : asked.requester ≡ opened.requester
+  pub request : asked.request ≡ opened.id
+  pub symbol : asked.symbol ≡ symbol_of m.instruments opened.instrument
+  pub side : asked.side ≡ opened.side
+  pub quantity : asked.quantity ≡ opened.quantity
+  pub recipients : map (λ (w : EvidenceEvent). w.to) (filter (is_asked room) words) ≡ opened.recipients
+
+-- a trade is told at the row of the input by which it was made
+pub record HasRow (m : Market) (rs : List TrailRow) (is : List Input) (words : List EvidenceEvent) (number : ℕ) (t : TradeFact) : Type 0 where
+  pub trade : Trade
+  pub numbered : slice_get (trades (run m is).history.facts) (number - 1) ≡ Some trade
+  pub read_back : t ≡ trade_fact number trade
+  pub row : TrailRow
+  pub input : Input
+  pub made : CameAt m rs is row input (Traded trade)
+  pub at_row : trade_row words t ≡ row.n
+
+-- the price in an order's line: a held side, which enters at a tick, is told without one
+abbrev pub price_emitted : Input → Entry → Option ℤ
+price_emitted (Message taken t) e = Some e.order.price
+price_emitted (Tick t) e = None
+
+-- the moment in an order's line: a held side entered where its delay was over, which may be before the tick
+abbrev pub moment_emitted : Input → Entry → ℕ
+moment_emitted (Message taken t) e = e.moment
+moment_emitted (Tick t) e = min e.moment greatest
+
+-- the identifier of the order whose place an order takes
+abbrev pub original_of : App → Option (List ℕ)
+original_of (OrderCancelReplaceRequest d) = Some d.original_id
+original_of _ = None
+
+abbrev pub original_emitted : Input → Option (List ℕ)
+original_emitted (Message taken t) = original_of taken.item.app
+original_emitted (Tick t) = None
+
+-- what an order's lines are made of is what the order was as it entered, and the row is that at which it did; the link is the one that it carries, or
+-- that the order had whose place it takes, which is told by the identifier that the message names
+pub record EmitsOrder (m : Market) (rs : List TrailRow) (is : List Input) (e : Entry) (x : OrderEntry) : Type 0 where
+  pub row : TrailRow
+  pub input : Input
+  pub trigger : CameAt m rs is row input (Entered e)
+  pub at_row : x.row ≡ row.n
+  pub moment : x.moment ≡ moment_emitted input e
+  pub whose : x.to ≡ e.order.who
+  pub number : x.entered.order ≡ e.number
+  pub id : x.entered.id ≡ e.order.id
+  pub symbol : x.entered.symbol ≡ symbol_of m.instruments e.order.instrument
+  pub side : x.entered.side ≡ e.order.side
+  pub quantity : x.entered.quantity ≡ e.order.quantity
+  pub price : x.entered.price ≡ price_emitted input e
+  pub link : link_id x.entered.link ≡ e.order.link
+  pub original : x.entered.original ≡ original_emitted input
+
+-- an order that is met
+abbrev pub met_emitted : Market → Entry → Met
+met_emitted m e = record { resting = e.number; side = e.order.side; symbol = symbol_of m.instruments e.order.instrument; who = e.order.who }
+
+-- what is told to have rested before the order that a trade met is what rested then: of what the venue would have shown of its instrument just before that
+-- row, what stands before the order on its side, and how many these are
+pub record HasStanding (m : Market) (rs : List TrailRow) (is : List Input) (words : List EvidenceEvent) (trade : Trade) (rested : Entry) : Type 0 where
+  pub row : TrailRow
+  pub input : Input
+  pub made : CameAt m rs is row input (Traded trade)
+  pub lines : standing_lines words ≡ flat_map standing_line (stood_words row.n row.moment (met_emitted m rested) (prices_of m (run m made.earlier).history (symbol_of m.instruments rested.order.instrument)))
+
+-- both orders of a trade in the book are found: its evidence are the lines of the order that rested, of the one that entered, of both together,
+-- and of the trade; what is told of both and of the trade is told at the row at which the second entered, and whether they are linked is what the rules say
+pub record HasOrders (m : Market) (rs : List TrailRow) (is : List Input) (words : List EvidenceEvent) (number : ℕ) (t : TradeFact) : Type 0 where
+  pub trade : Trade
+  pub rested : Entry
+  pub entered : Entry
+  pub numbered : slice_get (trades (run m is).history.facts) (number - 1) ≡ Some trade
+  pub read_back : t ≡ trade_fact number trade
+  pub between : trade.place ≡ InBook rested.number entered.number
+  pub resting : OrderEntry
+  pub entering : OrderEntry
+  pub emits_rested : EmitsOrder m rs is rested resting
+  pub emits_entered : EmitsOrder m rs is entered entering
+  pub linked : entries_linked m.participants resting entering ≡ is_linked m rested.order entered.order
+  pub lines : evidence m words t ≡ both_lines m.participants words (record { resting = resting; entering = entering; row = entering.row }) ++ trade_line m t entering.row
+  pub stood : HasStanding m rs is words trade rested

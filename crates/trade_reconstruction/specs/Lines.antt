@@ -1,0 +1,391 @@
+-- The evidence for a trade, as lines: plain words with units, a fact each, which ends in the row on which it rests.
+--
+--   In a room (17 CFR 37.9(a)(2), (a)(3)): the request; each recipient, and what it is to the requester and to the others who were
+--   asked; the resting orders shown with the first response; each quote; the hit; the trade.
+--   In the book (17 CFR 37.9(b)(1)): the order that rested and the one that entered, each with when it entered and the link that it
+--   carries, what their participants are to each other, whether the two are linked, how long apart they entered; what rested before the one that rested, as the other entered; the trade.
+use Rattle.std.specs.Prelude.{ℕ, ℤ, ◌+◌, ◌-◌, min, Bool, true, false, not, ◌&&◌, ◌||◌, ◌==◌, nat_lt, List, [], ◌++◌, find, Option, Some, None, codes, decimal, bytes_eq, if◌then◌else◌}
+use Rattle.std.specs.List.{flat_map}
+use Rattle.sef_moment.specs.Utc.{greatest}
+use Rattle.sef_moment.specs.Utc.{utc_text}
+use Rattle.fix_dictionary.specs.declared.values.Side.{Side}
+use Rattle.fix_dictionary.specs.declared.values.Side.TheVariants.{Buy, Sell}
+use Rattle.fix_fields.specs.Forms.{price_text}
+use Rattle.participants.specs.ParticipantFile.{ParticipantFile}
+use Rattle.participants.specs.Relations.{name_of, related}
+use Rattle.venue_rules.specs.Book.{is_same_link}
+use Rattle.venue_rules.specs.Market.{Market}
+use Rattle.venue_rules.specs.declared.trail.TradeFact.{TradeFact}
+use Rattle.trade_blotter.specs.Line.{deal}
+use Rattle.trade_reconstruction.specs.declared.entry.Both.{Both}
+use Rattle.trade_reconstruction.specs.declared.entry.Entry.{Entry as OrderEntry}
+use Rattle.trade_reconstruction.specs.declared.finding.Query.{Query}
+use Rattle.trade_reconstruction.specs.declared.finding.Query.TheVariants.{Request, Order, Fill, OtherFill, Hit, HeldSide, Entry}
+use Rattle.trade_reconstruction.specs.declared.evidence_event.EvidenceEvent.{EvidenceEvent}
+use Rattle.trade_reconstruction.specs.declared.evidence_event.EventKind.{EventKind}
+use Rattle.trade_reconstruction.specs.declared.evidence_event.EventKind.TheVariants as said
+use Rattle.trade_reconstruction.specs.declared.evidence_event.Asked.{Asked}
+use Rattle.trade_reconstruction.specs.declared.evidence_event.SnapshotSent.{SnapshotSent}
+use Rattle.trade_reconstruction.specs.declared.evidence_event.Shown.{Shown}
+use Rattle.trade_reconstruction.specs.declared.evidence_event.Quoted.{Quoted}
+use Rattle.trade_reconstruction.specs.declared.evidence_event.Hit.{Hit as HitSaid}
+use Rattle.trade_reconstruction.specs.declared.evidence_event.Entered.{Entered}
+use Rattle.trade_reconstruction.specs.declared.evidence_event.Linked.{Linked}
+use Rattle.trade_reconstruction.specs.declared.evidence_event.RestedBefore.{RestedBefore}
+use Rattle.trade_reconstruction.specs.declared.evidence_event.RestedCount.{RestedCount}
+
+-- What a word says.
+
+abbrev pub is_asked_said : ℕ → EventKind → Bool
+is_asked_said room (said.Asked a) = a.room == room
+is_asked_said room _ = false
+
+-- somebody was asked in this room
+abbrev pub is_asked : ℕ → EvidenceEvent → Bool
+is_asked room w = is_asked_said room w.said
+
+abbrev pub enters_said : ℕ → EventKind → Bool
+enters_said order (said.Entered e) = e.order == order
+enters_said order _ = false
+
+-- this order entered
+abbrev pub enters : ℕ → EvidenceEvent → Bool
+enters order w = enters_said order w.said
+
+abbrev pub fills_said : ℕ → EventKind → Bool
+fills_said trade (said.Filled f) = f.trade == trade
+fills_said trade _ = false
+
+-- this trade filled an order
+abbrev pub fills : ℕ → EvidenceEvent → Bool
+fills trade w = fills_said trade w.said
+
+abbrev pub fills_other_said : ℕ → ℕ → EventKind → Bool
+fills_other_said trade order (said.Filled f) = f.trade == trade && not (f.order == order)
+fills_other_said trade order _ = false
+
+-- this trade filled another order than this
+abbrev pub fills_other : ℕ → ℕ → EvidenceEvent → Bool
+fills_other trade order w = fills_other_said trade order w.said
+
+abbrev pub hits_said : ℕ → EventKind → Bool
+hits_said trade (said.Hit x) = x.trade == trade
+hits_said trade _ = false
+
+-- this trade was made by a hit
+abbrev pub hits : ℕ → EvidenceEvent → Bool
+hits trade w = hits_said trade w.said
+
+abbrev pub holds_said : ℕ → List ℕ → ℕ → EventKind → Bool
+holds_said who id to (said.Held x) = to == who && bytes_eq x.id id
+holds_said who id to _ = false
+
+-- this participant's order of this identifier is held
+abbrev pub holds : ℕ → List ℕ → EvidenceEvent → Bool
+holds who id w = holds_said who id w.to w.said
+
+abbrev pub is_entry_said : ℕ → List ℕ → ℕ → EventKind → Bool
+is_entry_said who id to (said.Entered e) = to == who && bytes_eq e.id id
+is_entry_said who id to _ = false
+
+-- this participant's order of this identifier entered
+abbrev pub is_entry : ℕ → List ℕ → EvidenceEvent → Bool
+is_entry who id w = is_entry_said who id w.to w.said
+
+abbrev pub is_sought : Query → EvidenceEvent → Bool
+is_sought (Request room) w = is_asked room w
+is_sought (Order order) w = enters order w
+is_sought (Fill trade) w = fills trade w
+is_sought (OtherFill trade order) w = fills_other trade order w
+is_sought (Hit trade) w = hits trade w
+is_sought (HeldSide who id) w = holds who id w
+is_sought (Entry who id) w = is_entry who id w
+
+abbrev pub order_said : EventKind → Option ℕ
+order_said (said.Filled f) = Some f.order
+order_said _ = None
+
+abbrev pub order_in : EvidenceEvent → Option ℕ
+order_in w = order_said w.said
+
+-- the order that is filled
+abbrev pub order_of : Option EvidenceEvent → Option ℕ
+order_of None = None
+order_of (Some w) = order_in w
+
+abbrev pub link_said : EventKind → Option Linked
+link_said (said.Entered e) = e.link
+link_said _ = None
+
+abbrev pub link_in : EvidenceEvent → Option Linked
+link_in w = link_said w.said
+
+-- the link of the order that entered, with the row of the message that carried it
+abbrev pub link_of : Option EvidenceEvent → Option Linked
+link_of None = None
+link_of (Some w) = link_in w
+
+abbrev pub row_of : Option EvidenceEvent → ℕ
+row_of None = 0
+row_of (Some w) = w.row
+
+-- Parts of lines.
+
+-- the row on which a line rests, and its end
+abbrev pub row_text : ℕ → List ℕ
+row_text row = codes " row " ++ (decimal row ++ codes "\n")
+
+abbrev pub at_text : ℕ → List ℕ
+at_text t = codes " at " ++ utc_text t
+
+-- what two participants are to each other, by the participant file
+abbrev pub relation : ParticipantFile → ℕ → ℕ → List ℕ
+relation file one other = if one == other then codes " are one participant" else if related file one other then codes " are related" else codes " are not related"
+
+abbrev pub pair_line : ParticipantFile → ℕ → ℕ → ℕ → List ℕ
+pair_line file one other row = name_of file one ++ (codes " and " ++ (name_of file other ++ (relation file one other ++ row_text row)))
+
+-- In a room.
+
+abbrev pub asked_side : Option Side → List ℕ
+asked_side None = codes " for both sides of "
+asked_side (Some Buy) = codes " to buy "
+asked_side (Some Sell) = codes " to sell "
+
+abbrev pub request_line : ParticipantFile → EvidenceEvent → Asked → List ℕ
+request_line file w a = codes "request in room R" ++ (decimal a.room ++ (codes " of " ++ (name_of file a.requester ++ (asked_side a.side ++ (decimal a.quantity ++ (codes " " ++ (a.symbol ++ (at_text w.moment ++ row_text w.row))))))))
+
+-- what one who was asked in a room is to another who was, and who stands before it in the file
+abbrev pub other_line : ParticipantFile → ℕ → ℕ → ℕ → EvidenceEvent → List ℕ
+other_line file room who row other = if is_asked room other && nat_lt other.to who then pair_line file who other.to row else []
+
+abbrev pub others : ParticipantFile → List EvidenceEvent → ℕ → ℕ → ℕ → List ℕ
+others file words room who row = flat_map (other_line file room who row) words
+
+abbrev pub asked_lines : ParticipantFile → List EvidenceEvent → EvidenceEvent → Asked → List ℕ
+asked_lines file words w a = codes "asked " ++ (name_of file w.to ++ (row_text w.row ++ (pair_line file w.to a.requester w.row ++ others file words a.room w.to w.row)))
+
+abbrev pub pictured_line : EvidenceEvent → SnapshotSent → List ℕ
+pictured_line w p = codes "resting orders shown with the first response: " ++ (decimal p.count ++ row_text w.row)
+
+abbrev pub shown_side : Side → List ℕ
+shown_side Buy = codes " bid "
+shown_side Sell = codes " offer "
+
+abbrev pub shown_line : EvidenceEvent → Shown → List ℕ
+shown_line w s = codes "shown O" ++ (decimal s.order ++ (shown_side s.side ++ (decimal s.left ++ (codes " @ " ++ (price_text s.price ++ row_text w.row)))))
+
+abbrev pub price_or_none : Option ℤ → List ℕ
+price_or_none None = codes "none"
+price_or_none (Some price) = price_text price
+
+abbrev pub quote_line : EvidenceEvent → Quoted → List ℕ
+quote_line w q = codes "quote Q" ++ (decimal q.quote ++ (codes " of " ++ (q.maker ++ (codes " bid " ++ (price_or_none q.bid ++ (codes " offer " ++ (price_or_none q.offer
+    ++ (codes " until " ++ (utc_text q.end ++ (at_text w.moment ++ row_text w.row))))))))))
+
+abbrev pub hit_line : EvidenceEvent → HitSaid → List ℕ
+hit_line w x = codes "hit of quote " ++ (x.quote ++ (at_text w.moment ++ row_text w.row))
+
+-- to the requester, on its request
+abbrev pub is_to : Asked → ℕ → List ℕ → Bool
+is_to a to request = to == a.requester && bytes_eq request a.request
+
+-- what a word tells of the room of a request
+abbrev pub room_said : ParticipantFile → List EvidenceEvent → Asked → EvidenceEvent → EventKind → List ℕ
+room_said file words a w (said.Asked b) = if b.room == a.room then asked_lines file words w b else []
+room_said file words a w (said.SnapshotSent p) = if is_to a w.to p.request then pictured_line w p else []
+room_said file words a w (said.Shown s) = if is_to a w.to s.request then shown_line w s else []
+room_said file words a w (said.Quoted q) = if is_to a w.to q.request then quote_line w q else []
+room_said file words a w (said.Hit x) = if x.room == a.room && w.to == a.requester then hit_line w x else []
+room_said file words a w (said.Entered e) = []
+room_said file words a w (said.Held x) = []
+room_said file words a w (said.Filled f) = []
+room_said file words a w (said.RestedBefore x) = []
+room_said file words a w (said.RestedCount x) = []
+
+unfoldable pub room_word : ParticipantFile → List EvidenceEvent → Asked → EvidenceEvent → List ℕ
+room_word file words a w = room_said file words a w w.said
+
+abbrev pub room_found_said : ParticipantFile → List EvidenceEvent → EvidenceEvent → EventKind → List ℕ
+room_found_said file words w (said.Asked a) = request_line file w a ++ flat_map (room_word file words a) words
+room_found_said file words w _ = []
+
+abbrev pub room_found : ParticipantFile → List EvidenceEvent → EvidenceEvent → List ℕ
+room_found file words w = room_found_said file words w w.said
+
+abbrev pub room_of : ParticipantFile → List EvidenceEvent → Option EvidenceEvent → List ℕ
+room_of file words None = []
+room_of file words (Some w) = room_found file words w
+
+-- the request, and then row by row who was asked, what was shown and quoted, and the hit
+abbrev pub room_lines : ParticipantFile → List EvidenceEvent → ℕ → List ℕ
+room_lines file words room = room_of file words (find (is_sought (Request room)) words)
+
+-- In the book.
+
+abbrev pub side_text : Side → List ℕ
+side_text Buy = codes " to buy "
+side_text Sell = codes " to sell "
+
+abbrev pub price_if : Option ℤ → List ℕ
+price_if None = []
+price_if (Some price) = codes " @ " ++ price_text price
+
+abbrev pub held_until_said : EvidenceEvent → EventKind → ℕ
+held_until_said w (said.Held x) = min (w.moment + x.delay) greatest
+held_until_said w _ = w.moment
+
+-- where the delay of a held side is over
+abbrev pub held_until : EvidenceEvent → ℕ
+held_until w = held_until_said w w.said
+
+abbrev pub moment_of : ℕ → Option EvidenceEvent → ℕ
+moment_of t None = t
+moment_of t (Some hold) = held_until hold
+
+-- when an order entered: a held side where its delay was over, which may be before the tick
+abbrev pub entry_moment : List EvidenceEvent → EvidenceEvent → Entered → ℕ
+entry_moment words w e = if e.at_tick then moment_of w.moment (find (is_sought (HeldSide w.to e.id)) words) else w.moment
+
+abbrev pub entry_said : List EvidenceEvent → EvidenceEvent → EventKind → Option OrderEntry
+entry_said words w (said.Entered e) = Some (record { row = w.row; to = w.to; moment = entry_moment words w e; entered = e })
+entry_said words w _ = None
+
+abbrev pub entry_in : List EvidenceEvent → EvidenceEvent → Option OrderEntry
+entry_in words w = entry_said words w w.said
+
+-- the entry of an order: the row that tells it, whose the order is, when it entered, and what was said of it
+abbrev pub entry_of : List EvidenceEvent → Option EvidenceEvent → Option OrderEntry
+entry_of words None = None
+entry_of words (Some w) = entry_in words w
+
+abbrev pub order_line : ParticipantFile → OrderEntry → List ℕ
+order_line file x = codes "order O" ++ (decimal x.entered.order ++ (codes " of " ++ (name_of file x.to ++ (side_text x.entered.side ++ (decimal x.entered.quantity ++ (codes " " ++ (x.entered.symbol
+    ++ (price_if x.entered.price ++ (at_text x.moment ++ row_text x.row)))))))))
+
+-- what is said of an order with an identifier
+abbrev pub named_line : ℕ → List ℕ → List ℕ → ℕ → List ℕ
+named_line order said id row = codes "O" ++ (decimal order ++ (said ++ (id ++ row_text row)))
+
+-- the link of an order, where it has one: the row is that of the message that carried it, which may be one whose order's place it takes
+abbrev pub link_line : ℕ → Option Linked → List ℕ
+link_line order None = []
+link_line order (Some l) = named_line order (codes " carries the link ") l.link l.row
+
+abbrev pub original_line : ℕ → Option (List ℕ) → ℕ → List ℕ
+original_line order None row = []
+original_line order (Some id) row = named_line order (codes " takes the place of the order with the identifier ") id row
+
+abbrev pub held_said : ℕ → EvidenceEvent → EventKind → List ℕ
+held_said order w (said.Held x) = codes "O" ++ (decimal order ++ (codes " was held as the second side of a cross for " ++ (decimal x.delay ++ (codes " ms from " ++ (utc_text w.moment ++ row_text w.row)))))
+held_said order w _ = []
+
+abbrev pub held_line : ℕ → EvidenceEvent → List ℕ
+held_line order w = held_said order w w.said
+
+abbrev pub hold_of : ℕ → Option EvidenceEvent → List ℕ
+hold_of order None = []
+hold_of order (Some hold) = held_line order hold
+
+-- what enters at a tick was held before
+abbrev pub hold_lines : List EvidenceEvent → OrderEntry → List ℕ
+hold_lines words x = if x.entered.at_tick then hold_of x.entered.order (find (is_sought (HeldSide x.to x.entered.id)) words) else []
+
+unfoldable pub entry_lines : ParticipantFile → List EvidenceEvent → OrderEntry → List ℕ
+entry_lines file words x = order_line file x ++ (link_line x.entered.order x.entered.link ++ (original_line x.entered.order x.entered.original x.row ++ hold_lines words x))
+
+abbrev pub apart_line : ℕ → ℕ → ℕ → List ℕ
+apart_line earlier later row = codes "entered " ++ (decimal (later - earlier) ++ (codes " ms apart" ++ row_text row))
+
+-- two orders of one participant, of related ones, or with one link (17 CFR 37.9(b)(1))
+abbrev pub are_linked : ParticipantFile → ℕ → Option (List ℕ) → ℕ → Option (List ℕ) → Bool
+are_linked file one link other other_link = one == other || (related file one other || is_same_link link other_link)
+
+abbrev pub link_id : Option Linked → Option (List ℕ)
+link_id None = None
+link_id (Some l) = Some l.link
+
+abbrev pub linked_text : Bool → List ℕ
+linked_text true = codes " are linked"
+linked_text false = codes " are not linked"
+
+abbrev pub entries_linked : ParticipantFile → OrderEntry → OrderEntry → Bool
+entries_linked file one other = are_linked file one.to (link_id one.entered.link) other.to (link_id other.entered.link)
+
+abbrev pub linked_line : ParticipantFile → Both → List ℕ
+linked_line file b = codes "O" ++ (decimal b.resting.entered.order ++ (codes " and O" ++ (decimal b.entering.entered.order ++ (linked_text (entries_linked file b.resting b.entering) ++ row_text b.row))))
+
+abbrev pub stood_side : Side → List ℕ
+stood_side Buy = codes " with a bid of "
+stood_side Sell = codes " with an offer of "
+
+abbrev pub stood_line : EvidenceEvent → RestedBefore → List ℕ
+stood_line w x = codes "O" ++ (decimal x.order ++ (codes " rested before O" ++ (decimal x.resting ++ (stood_side x.side ++ (decimal x.left ++ (codes " @ " ++ (price_text x.price ++ row_text w.row)))))))
+
+abbrev pub counted_line : EvidenceEvent → RestedCount → List ℕ
+counted_line w x = codes "orders that rested on its side before O" ++ (decimal x.resting ++ (codes ": " ++ (decimal x.count ++ row_text w.row)))
+
+abbrev pub standing_said : EvidenceEvent → EventKind → List ℕ
+standing_said w (said.RestedBefore x) = stood_line w x
+standing_said w (said.RestedCount x) = counted_line w x
+standing_said w _ = []
+
+-- what a word tells of what rested before the order that was traded with
+abbrev pub standing_line : EvidenceEvent → List ℕ
+standing_line w = standing_said w w.said
+
+-- what rested before it, best first, and then how many
+abbrev pub standing_lines : List EvidenceEvent → List ℕ
+standing_lines words = flat_map standing_line words
+
+-- of both orders together
+unfoldable pub together_lines : ParticipantFile → List EvidenceEvent → Both → List ℕ
+together_lines file words b = pair_line file b.resting.to b.entering.to b.row ++ (linked_line file b ++ (apart_line b.resting.moment b.entering.moment b.row ++ standing_lines words))
+
+-- the order that rested and the one that entered
+abbrev pub both_lines : ParticipantFile → List EvidenceEvent → Both → List ℕ
+both_lines file words b = entry_lines file words b.resting ++ (entry_lines file words b.entering ++ together_lines file words b)
+
+abbrev pub two_orders : ParticipantFile → List EvidenceEvent → Option OrderEntry → Option OrderEntry → ℕ → List ℕ
+two_orders file words None entering row = []
+two_orders file words (Some resting) None row = []
+two_orders file words (Some resting) (Some entering) row = both_lines file words (record { resting = resting; entering = entering; row = row })
+
+unfoldable pub orders_lines : ParticipantFile → List EvidenceEvent → ℕ → ℕ → ℕ → List ℕ
+orders_lines file words resting entering row = two_orders file words (entry_of words (find (is_sought (Order resting)) words)) (entry_of words (find (is_sought (Order entering)) words)) row
+
+abbrev pub other_of : ParticipantFile → List EvidenceEvent → ℕ → Option ℕ → ℕ → List ℕ
+other_of file words entering None row = []
+other_of file words entering (Some resting) row = orders_lines file words resting entering row
+
+abbrev pub filled_of : ParticipantFile → List EvidenceEvent → ℕ → Option ℕ → ℕ → List ℕ
+filled_of file words trade None row = []
+filled_of file words trade (Some entering) row = other_of file words entering (order_of (find (is_sought (OtherFill trade entering)) words)) row
+
+-- of a fill the entering order's report comes first
+abbrev pub book_lines : ParticipantFile → List EvidenceEvent → ℕ → ℕ → List ℕ
+book_lines file words trade row = filled_of file words trade (order_of (find (is_sought (Fill trade)) words)) row
+
+-- The whole.
+
+abbrev pub row_in : List EvidenceEvent → ℕ → Option ℕ → ℕ
+row_in words trade None = row_of (find (is_sought (Fill trade)) words)
+row_in words trade (Some room) = row_of (find (is_sought (Hit trade)) words)
+
+-- the row at which a trade was made
+abbrev pub trade_row : List EvidenceEvent → TradeFact → ℕ
+trade_row words t = row_in words t.number t.room
+
+abbrev pub lines_in : ParticipantFile → List EvidenceEvent → ℕ → Option ℕ → ℕ → List ℕ
+lines_in file words trade None row = book_lines file words trade row
+lines_in file words trade (Some room) row = room_lines file words room
+
+abbrev pub place_lines : ParticipantFile → List EvidenceEvent → TradeFact → ℕ → List ℕ
+place_lines file words t row = lines_in file words t.number t.room row
+
+abbrev pub trade_line : Market → TradeFact → ℕ → List ℕ
+trade_line m t row = codes "trade T" ++ (decimal t.number ++ (codes " " ++ (deal m t ++ row_text row)))
+
+-- what a trade rests on, and then the trade
+unfoldable pub evidence : Market → List EvidenceEvent → TradeFact → List ℕ
+evidence m words t = place_lines m.participants words t (trade_row words t) ++ trade_line m t (trade_row words t)

@@ -1,0 +1,333 @@
+//! The evidence for a trade in the book.
+
+ghost use Rattle.std.specs.Prelude.{◌≡◌, ◌++◌, OnOk};
+ghost use Rattle.venue_rules.specs.Book.{is_same_link};
+ghost use Rattle.trade_reconstruction.specs.Lines.{apart_line, are_linked, book_lines, both_lines, entries_linked, entry_lines, held_line, hold_lines, link_id, link_line, linked_line, linked_text, named_line, order_line, original_line, orders_lines, price_if, side_text, together_lines};
+
+use crate::entry::{Both, Entry, entry_of, hold_of};
+use crate::evidence_event::{EventKind, EvidenceEvent, Linked};
+use crate::finding::{Query, filled_order};
+use crate::rested::append_standing;
+use crate::room::{append_at, append_moment, append_pair, append_quantity, append_row};
+use fix_dictionary::{Identifier, Price, Side};
+use participants::{Participants, Who};
+use sef_moment::Moment;
+use std::alloc::{AllocError, Global};
+use trade_blotter::{append, append_number, append_price, name_at};
+
+fn side_text(side: Side) -> &'static [u8]
+    ensures { result.now ≡ side_text side }
+{
+    match side {
+        Side::Buy => b" to buy ",
+        Side::Sell => b" to sell ",
+    }
+}
+
+fn append_price_if(
+    alloc: Global,
+    text: &mut Vec<u8>,
+    price: Option<Price>,
+) -> Result<(), AllocError>
+    ensures { OnOk result (text.new.items ≡ text.old.items ++ price_if price) }
+{
+    match price {
+        Some(price) => {
+            append(text, &[b" @ "])?;
+            append_price(alloc, text, price)
+        }
+        None => Ok(()),
+    }
+}
+
+fn append_order(
+    alloc: Global,
+    text: &mut Vec<u8>,
+    participants: &Participants,
+    entry: &Entry,
+) -> Result<(), AllocError>
+    ensures { OnOk result (text.new.items ≡ text.old.items ++ order_line participants.now entry.now) }
+{
+    let entered = &entry.entered;
+    let name = name_at(participants, entry.to);
+    append_number(text, b"order O", entered.order)?;
+    append(text, &[b" of ", name])?;
+    let side = side_text(entered.side);
+    append_quantity(text, side, entered.quantity.get(), &entered.symbol)?;
+    append_price_if(alloc, text, entered.price)?;
+    append_at(text, entry.moment, entry.row)
+}
+
+/// Appends what is said of an order with an identifier.
+fn append_named(
+    text: &mut Vec<u8>,
+    order: u64,
+    said: &[u8],
+    id: &Identifier,
+    row: u64,
+) -> Result<(), AllocError>
+    ensures { OnOk result (text.new.items ≡ text.old.items ++ named_line order said.now id.now row) }
+{
+    append_number(text, b"O", order)?;
+    append(text, &[said, id.as_slice()])?;
+    append_row(text, row)
+}
+
+/// Appends the link of an order, if it has one, at the row of the message that carried it.
+fn append_link(text: &mut Vec<u8>, order: u64, link: &Option<Linked>) -> Result<(), AllocError>
+    ensures { OnOk result (text.new.items ≡ text.old.items ++ link_line order link.now) }
+{
+    match link {
+        Some(linked) => append_named(text, order, b" carries the link ", &linked.link, linked.row),
+        None => Ok(()),
+    }
+}
+
+/// Appends whose place an order takes, if it takes one.
+fn append_original(
+    text: &mut Vec<u8>,
+    order: u64,
+    original: &Option<Identifier>,
+    row: u64,
+) -> Result<(), AllocError>
+    ensures { OnOk result (text.new.items ≡ text.old.items ++ original_line order original.now row) }
+{
+    match original {
+        Some(id) => append_named(
+            text,
+            order,
+            b" takes the place of the order with the identifier ",
+            id,
+            row,
+        ),
+        None => Ok(()),
+    }
+}
+
+/// Appends that an order was held, and from when on and how long.
+fn append_held(text: &mut Vec<u8>, order: u64, word: &EvidenceEvent) -> Result<(), AllocError>
+    ensures { OnOk result (text.new.items ≡ text.old.items ++ held_line order word.now) }
+{
+    match &word.said {
+        EventKind::Held(held) => {
+            append_number(text, b"O", order)?;
+            append_number(
+                text,
+                b" was held as the second side of a cross for ",
+                held.delay,
+            )?;
+            append_moment(text, b" ms from ", word.moment)?;
+            append_row(text, word.row)
+        }
+        _ => Ok(()),
+    }
+}
+
+/// Appends that an order was held before it entered, if it entered at a tick.
+fn append_hold(text: &mut Vec<u8>, words: &[EvidenceEvent], entry: &Entry) -> Result<(), AllocError>
+    ensures { OnOk result (text.new.items ≡ text.old.items ++ hold_lines words.now entry.now) }
+{
+    if !entry.entered.at_tick {
+        return Ok(());
+    }
+    match hold_of(words, entry.to, &entry.entered) {
+        Some(hold) => append_held(text, entry.entered.order, hold),
+        None => Ok(()),
+    }
+}
+
+/// Appends the lines of an order's entry.
+#[tactic(auto, unfolding(crate::specs::Lines::entry_lines))]
+fn append_entry(
+    alloc: Global,
+    text: &mut Vec<u8>,
+    participants: &Participants,
+    words: &[EvidenceEvent],
+    entry: &Entry,
+) -> Result<(), AllocError>
+    ensures { OnOk result (text.new.items ≡ text.old.items ++ entry_lines participants.now words.now entry.now) }
+{
+    let order = entry.entered.order;
+    append_order(alloc, text, participants, entry)?;
+    append_link(text, order, &entry.entered.link)?;
+    append_original(text, order, &entry.entered.original, entry.row)?;
+    append_hold(text, words, entry)
+}
+
+/// Appends how long apart two orders entered.
+fn append_apart(
+    text: &mut Vec<u8>,
+    earlier: Moment,
+    later: Moment,
+    row: u64,
+) -> Result<(), AllocError>
+    ensures { OnOk result (text.new.items ≡ text.old.items ++ apart_line earlier later row) }
+{
+    let apart = later.ms().saturating_sub(earlier.ms());
+    append_number(text, b"entered ", apart)?;
+    append(text, &[b" ms apart"])?;
+    append_row(text, row)
+}
+
+fn is_same_link(one: &Option<Identifier>, other: &Option<Identifier>) -> bool
+    ensures { result ≡ is_same_link one.now other.now }
+{
+    match one {
+        Some(one) => match other {
+            Some(other) => one.is(other),
+            None => false,
+        },
+        None => false,
+    }
+}
+
+/// Whether two orders are linked: one participant's, or related ones', or by a link that both carry.
+fn are_linked(
+    participants: &Participants,
+    one: Who,
+    link: &Option<Identifier>,
+    other: Who,
+    other_link: &Option<Identifier>,
+) -> bool
+    ensures { result ≡ are_linked participants.now one link.now other other_link.now }
+{
+    one.place() == other.place()
+        || (participants.related(one, other) || is_same_link(link, other_link))
+}
+
+/// The identifier of a link.
+fn link_id(link: &Option<Linked>) -> Option<Identifier>
+    ensures { result ≡ link_id link.now }
+{
+    match link {
+        Some(linked) => Some(linked.link),
+        None => None,
+    }
+}
+
+fn entries_linked(participants: &Participants, one: &Entry, other: &Entry) -> bool
+    ensures { result ≡ entries_linked participants.now one.now other.now }
+{
+    are_linked(
+        participants,
+        one.to,
+        &link_id(&one.entered.link),
+        other.to,
+        &link_id(&other.entered.link),
+    )
+}
+
+fn linked_text(linked: bool) -> &'static [u8]
+    ensures { result.now ≡ linked_text linked }
+{
+    if linked {
+        b" are linked"
+    } else {
+        b" are not linked"
+    }
+}
+
+/// Appends whether two orders are linked.
+fn append_linked(
+    text: &mut Vec<u8>,
+    participants: &Participants,
+    both: &Both,
+) -> Result<(), AllocError>
+    ensures { OnOk result (text.new.items ≡ text.old.items ++ linked_line participants.now both.now) }
+{
+    let linked = entries_linked(participants, &both.resting, &both.entering);
+    append_number(text, b"O", both.resting.entered.order)?;
+    append_number(text, b" and O", both.entering.entered.order)?;
+    append(text, &[linked_text(linked)])?;
+    append_row(text, both.row)
+}
+
+/// Appends the lines of both orders together, and of what rested before the resting one.
+#[tactic(auto, unfolding(crate::specs::Lines::together_lines))]
+fn append_together(
+    alloc: Global,
+    text: &mut Vec<u8>,
+    participants: &Participants,
+    words: &[EvidenceEvent],
+    both: &Both,
+) -> Result<(), AllocError>
+    ensures { OnOk result (text.new.items ≡ text.old.items ++ together_lines participants.now words.now both.now) }
+{
+    append_pair(
+        text,
+        participants,
+        both.resting.to,
+        both.entering.to,
+        both.row,
+    )?;
+    append_linked(text, participants, both)?;
+    append_apart(text, both.resting.moment, both.entering.moment, both.row)?;
+    append_standing(alloc, text, words)
+}
+
+/// Appends the lines of both orders, the resting one first, and of both together.
+fn append_both(
+    alloc: Global,
+    text: &mut Vec<u8>,
+    participants: &Participants,
+    words: &[EvidenceEvent],
+    both: &Both,
+) -> Result<(), AllocError>
+    ensures { OnOk result (text.new.items ≡ text.old.items ++ both_lines participants.now words.now both.now) }
+{
+    append_entry(alloc, text, participants, words, &both.resting)?;
+    append_entry(alloc, text, participants, words, &both.entering)?;
+    append_together(alloc, text, participants, words, both)
+}
+
+/// Appends the lines of two orders.
+#[tactic(auto, unfolding(crate::specs::Lines::orders_lines))]
+fn append_orders(
+    alloc: Global,
+    text: &mut Vec<u8>,
+    participants: &Participants,
+    words: &[EvidenceEvent],
+    resting: u64,
+    entering: u64,
+    row: u64,
+) -> Result<(), AllocError>
+    ensures { OnOk result (text.new.items ≡ text.old.items ++ orders_lines participants.now words.now resting entering row) }
+{
+    match entry_of(words, resting) {
+        None => Ok(()),
+        Some(resting) => match entry_of(words, entering) {
+            None => Ok(()),
+            Some(entering) => {
+                let both = Both {
+                    resting,
+                    entering,
+                    row,
+                };
+                append_both(alloc, text, participants, words, &both)
+            }
+        },
+    }
+}
+
+/// Appends the lines of a trade in the book: the order that rested, the one that entered, whose they are, whether they are linked, how
+/// long apart they entered, and what rested before the one that rested.
+pub(crate) fn append_book(
+    alloc: Global,
+    text: &mut Vec<u8>,
+    participants: &Participants,
+    words: &[EvidenceEvent],
+    trade: u64,
+    row: u64,
+) -> Result<(), AllocError>
+    ensures { OnOk result (text.new.items ≡ text.old.items ++ book_lines participants.now words.now trade row) }
+{
+    match filled_order(words, &Query::Fill(trade)) {
+        None => Ok(()),
+        Some(entering) => match filled_order(words, &Query::OtherFill(trade, entering)) {
+            None => Ok(()),
+            Some(resting) => {
+                append_orders(alloc, text, participants, words, resting, entering, row)
+            }
+        },
+    }
+}

@@ -1,0 +1,370 @@
+//! What the replies to a message say of requests, quotes, orders and trades.
+
+ghost use Rattle.std.specs.Prelude.{◌≡◌, ◌++◌, ◌∷◌, [], map, OnOk};
+ghost use Rattle.trade_reconstruction.specs.EventKinds.{asked_in, entered_in, filled_in, held_by, held_in, held_of, hit_in, is_tick, link_in, picture_in, pictured_in, price_in, prices_words, said_by, said_in, shown_word, words_in, words_of};
+
+use crate::evidence_event::{
+    Asked, Entered, EventKind, EvidenceEvent, Filled, Held, Hit, Linked, Quoted, RestedBefore,
+    RestedCount, Shown, SnapshotSent,
+};
+use crate::trigger::{Crossed, Trigger};
+use fix_dictionary::{Amount, Identifier, Price, Quantity, Side};
+use participants::Who;
+use sef_moment::Moment;
+use std::alloc::AllocError;
+use venue_rules::{
+    BookSnapshot, FilledReport, OrderReport, Reply, ReplyBody, RequestSent, RoomReport,
+    SnapshotEntry,
+};
+
+/// The price that a message gives its orders.
+fn price_in(trigger: &Trigger) -> Option<Price>
+    ensures { result ≡ price_in trigger.now }
+{
+    match trigger {
+        Trigger::Order(order) => order.price,
+        Trigger::Cross(cross) => cross.price,
+        Trigger::Request(_) => None,
+        Trigger::Quote => None,
+        Trigger::Response(_) => None,
+        Trigger::Tick => None,
+        Trigger::Other => None,
+    }
+}
+
+/// The link of an order.
+fn link_in(trigger: &Trigger) -> Option<Linked>
+    ensures { result ≡ link_in trigger.now }
+{
+    match trigger {
+        Trigger::Order(order) => order.link,
+        Trigger::Cross(_) => None,
+        Trigger::Request(_) => None,
+        Trigger::Quote => None,
+        Trigger::Response(_) => None,
+        Trigger::Tick => None,
+        Trigger::Other => None,
+    }
+}
+
+fn asked_in(trigger: &Trigger, sent: &RequestSent) -> Option<EventKind>
+    ensures { result ≡ asked_in trigger.now sent.now }
+{
+    match trigger {
+        Trigger::Request(request) => Some(EventKind::Asked(Asked {
+            requester: request.requester,
+            request: request.request,
+            room: sent.room,
+            symbol: sent.symbol,
+            side: sent.side,
+            quantity: sent.quantity,
+        })),
+        _ => None,
+    }
+}
+
+fn pictured_in(trigger: &Trigger, prices: &BookSnapshot) -> Option<EventKind>
+    ensures { result ≡ pictured_in trigger.now prices.now }
+{
+    match trigger {
+        Trigger::Quote => Some(EventKind::SnapshotSent(SnapshotSent {
+            request: prices.request_id,
+            count: prices.entries.as_slice().len() as u64,
+        })),
+        _ => None,
+    }
+}
+
+fn hit_in(trigger: &Trigger, report: &RoomReport) -> Option<EventKind>
+    ensures { result ≡ hit_in trigger.now report.now }
+{
+    match trigger {
+        Trigger::Response(quote) => Some(EventKind::Hit(Hit {
+            room: report.room,
+            trade: report.trade,
+            quote: *quote,
+        })),
+        _ => None,
+    }
+}
+
+fn filled_in(report: &FilledReport) -> Option<EventKind>
+    ensures { result ≡ filled_in report.now }
+{
+    match report.order.order {
+        Some(order) => Some(EventKind::Filled(Filled {
+            order,
+            trade: report.trade,
+        })),
+        None => None,
+    }
+}
+
+fn is_tick(trigger: &Trigger) -> bool
+    ensures { result ≡ is_tick trigger.now }
+{
+    matches!(trigger, Trigger::Tick)
+}
+
+/// The order of a report as it enters, with the identifier of the one whose place it takes.
+fn entered_in(
+    trigger: &Trigger,
+    original: Option<Identifier>,
+    report: &OrderReport,
+) -> Option<EventKind>
+    ensures { result ≡ entered_in trigger.now original report.now }
+{
+    match report.order {
+        Some(order) => Some(EventKind::Entered(Entered {
+            order,
+            id: report.id,
+            symbol: report.symbol,
+            side: report.side,
+            quantity: report.left,
+            price: price_in(trigger),
+            link: link_in(trigger),
+            original,
+            at_tick: is_tick(trigger),
+        })),
+        None => None,
+    }
+}
+
+/// What a reply says, if it is of what a trade rests on.
+fn said_in(trigger: &Trigger, what: &ReplyBody) -> Option<EventKind>
+    ensures { result ≡ said_in trigger.now what.now }
+{
+    match what {
+        ReplyBody::RequestSent(sent) => asked_in(trigger, sent),
+        ReplyBody::BookSnapshot(prices) => pictured_in(trigger, prices),
+        ReplyBody::QuoteSent(quote) => Some(EventKind::Quoted(Quoted {
+            request: quote.request_id,
+            quote: quote.quote,
+            maker: quote.maker,
+            bid: quote.bid,
+            offer: quote.offer,
+            end: quote.end,
+        })),
+        ReplyBody::OrderEntered(report) => entered_in(trigger, None, report),
+        ReplyBody::OrderReplaced(report) => {
+            entered_in(trigger, Some(report.original_id), &report.order)
+        }
+        ReplyBody::OrderFilled(report) => filled_in(report),
+        ReplyBody::RoomTraded(report) => hit_in(trigger, report),
+        ReplyBody::OrderRefused(_) => None,
+        ReplyBody::CrossRefused(_) => None,
+        ReplyBody::OrderUnfilled(_) => None,
+        ReplyBody::OrderCancelled(_) => None,
+        ReplyBody::ChangeRefused(_) => None,
+        ReplyBody::RequestRefused(_) => None,
+        ReplyBody::QuoteStatus(_) => None,
+        ReplyBody::MarketDataReject(_) => None,
+        ReplyBody::BusinessReject(_) => None,
+    }
+}
+
+/// The other side of a cross, one of which has entered.
+fn held_of(cross: &Crossed, report: &OrderReport) -> EventKind
+    ensures { result ≡ held_of cross.now report.now }
+{
+    let id = if report.id.is(&cross.first) {
+        cross.second
+    } else {
+        cross.first
+    };
+    EventKind::Held(Held {
+        id,
+        delay: cross.delay,
+    })
+}
+
+fn held_by(trigger: &Trigger, report: &OrderReport) -> Option<EventKind>
+    ensures { result ≡ held_by trigger.now report.now }
+{
+    match trigger {
+        Trigger::Cross(cross) => Some(held_of(cross, report)),
+        _ => None,
+    }
+}
+
+/// The side that is held, if a reply says that the other entered.
+fn held_in(trigger: &Trigger, what: &ReplyBody) -> Option<EventKind>
+    ensures { result ≡ held_in trigger.now what.now }
+{
+    match what {
+        ReplyBody::OrderEntered(report) => held_by(trigger, report),
+        _ => None,
+    }
+}
+
+/// Appends a word.
+pub(crate) fn push_word(
+    words: &mut Vec<EvidenceEvent>,
+    word: EvidenceEvent,
+) -> Result<(), AllocError>
+    ensures { OnOk result (words.new.items ≡ words.old.items ++ word ∷ []) }
+{
+    // What a word may hold, named here as the proof of the push needs each type.
+    let _asked: Option<Asked> = None;
+    let _pictured: Option<SnapshotSent> = None;
+    let _shown: Option<Shown> = None;
+    let _quoted: Option<Quoted> = None;
+    let _hit: Option<Hit> = None;
+    let _entered: Option<Entered> = None;
+    let _linked: Option<Linked> = None;
+    let _held: Option<Held> = None;
+    let _filled: Option<Filled> = None;
+    let _stood: Option<RestedBefore> = None;
+    let _counted: Option<RestedCount> = None;
+    let _said: Option<EventKind> = None;
+    let _name: Option<Identifier> = None;
+    let _price: Option<Price> = None;
+    let _side: Option<Side> = None;
+    let _quantity: Option<Quantity> = None;
+    let _amount: Option<Amount> = None;
+    let _moment: Option<Moment> = None;
+    let _who: Option<Who> = None;
+    match words.push(word) {
+        Ok(()) => Ok(()),
+        Err(_) => Err(AllocError),
+    }
+}
+
+/// Appends what is said, if it is.
+fn push_said(
+    words: &mut Vec<EvidenceEvent>,
+    row: u64,
+    moment: Moment,
+    to: Who,
+    said: Option<EventKind>,
+) -> Result<(), AllocError>
+    ensures { OnOk result (words.new.items ≡ words.old.items ++ said_by row moment to said) }
+{
+    match said {
+        Some(said) => {
+            let word = EvidenceEvent {
+                row,
+                moment,
+                to,
+                said,
+            };
+            push_word(words, word)
+        }
+        None => Ok(()),
+    }
+}
+
+/// That a requester is shown a resting order.
+fn shown_word(
+    row: u64,
+    moment: Moment,
+    to: Who,
+    request: &Identifier,
+    entry: &SnapshotEntry,
+) -> EvidenceEvent
+    ensures { result ≡ shown_word row moment to request.now entry.now }
+{
+    EvidenceEvent {
+        row,
+        moment,
+        to,
+        said: EventKind::Shown(Shown {
+            request: *request,
+            side: entry.side,
+            price: entry.price,
+            left: entry.left,
+            order: entry.order,
+        }),
+    }
+}
+
+/// Appends the resting orders of a picture.
+fn push_shown(
+    words: &mut Vec<EvidenceEvent>,
+    row: u64,
+    moment: Moment,
+    to: Who,
+    request: &Identifier,
+    entries: &[SnapshotEntry],
+) -> Result<(), AllocError>
+    ensures { OnOk result (words.new.items ≡ words.old.items ++ map (shown_word row moment to request.now) entries.now) }
+{
+    for entry in entries {
+        push_word(words, shown_word(row, moment, to, request, entry))?;
+    }
+    Ok(())
+}
+
+/// Appends the resting orders of a picture that comes with a response.
+fn push_prices(
+    words: &mut Vec<EvidenceEvent>,
+    row: u64,
+    moment: Moment,
+    trigger: &Trigger,
+    to: Who,
+    prices: &BookSnapshot,
+) -> Result<(), AllocError>
+    ensures { OnOk result (words.new.items ≡ words.old.items ++ prices_words row moment to trigger.now prices.now) }
+{
+    match trigger {
+        Trigger::Quote => push_shown(
+            words,
+            row,
+            moment,
+            to,
+            &prices.request_id,
+            prices.entries.as_slice(),
+        ),
+        _ => Ok(()),
+    }
+}
+
+/// Appends the resting orders that a requester was shown, if a reply shows them with the first response.
+fn push_picture(
+    words: &mut Vec<EvidenceEvent>,
+    row: u64,
+    moment: Moment,
+    trigger: &Trigger,
+    reply: &Reply,
+) -> Result<(), AllocError>
+    ensures { OnOk result (words.new.items ≡ words.old.items ++ picture_in row moment trigger.now reply.now) }
+{
+    match &reply.what {
+        ReplyBody::BookSnapshot(prices) => push_prices(
+            words, row, moment, trigger, reply.to, prices,
+        ),
+        _ => Ok(()),
+    }
+}
+
+/// Appends what a reply says.
+#[tactic(auto, unfolding(crate::specs::EventKinds::words_in))]
+fn push_reply(
+    words: &mut Vec<EvidenceEvent>,
+    row: u64,
+    moment: Moment,
+    trigger: &Trigger,
+    reply: &Reply,
+) -> Result<(), AllocError>
+    ensures { OnOk result (words.new.items ≡ words.old.items ++ words_in row moment trigger.now reply.now) }
+{
+    push_said(words, row, moment, reply.to, said_in(trigger, &reply.what))?;
+    push_said(words, row, moment, reply.to, held_in(trigger, &reply.what))?;
+    push_picture(words, row, moment, trigger, reply)
+}
+
+/// Appends what the replies to a message say, or those at a tick.
+pub fn push_replies(
+    words: &mut Vec<EvidenceEvent>,
+    row: u64,
+    moment: Moment,
+    trigger: &Trigger,
+    replies: &[Reply],
+) -> Result<(), AllocError>
+    ensures { OnOk result (words.new.items ≡ words.old.items ++ words_of row moment trigger.now replies.now) }
+{
+    for reply in replies {
+        push_reply(words, row, moment, trigger, reply)?;
+    }
+    Ok(())
+}

@@ -1,0 +1,196 @@
+//! The evidence for a trade, written as lines.
+
+ghost use Rattle.std.specs.Prelude.{◌≡◌, ◌++◌, ◌≤◌, All, length, IfErr, OnOk, IfOk, option_map};
+ghost use Rattle.std.specs.Io.KnownBytes.{Appends, Keeps};
+ghost use Rattle.venue_rules.specs.Facts.{History, no_history};
+ghost use Rattle.venue_core.specs.Plan.{most_items};
+ghost use Rattle.venue_core.specs.Replay.{IsItem};
+ghost use Rattle.venue_core.specs.VenueFacts.{IsHistory};
+ghost use Rattle.trade_reconstruction.specs.Lines.{evidence, place_lines, trade_line, trade_row};
+ghost use Rattle.trade_reconstruction.specs.Emitted.{HasNoTrade, IsEvidence, EmitsTrade, UnlessWriting, numbered_in, trade_numbered};
+ghost use Rattle.trade_reconstruction.specs.declared.evidence.EvidenceFault.TheVariants.{Memory, NoTrade, Output};
+
+use crate::book::append_book;
+use crate::evidence_event::EvidenceEvent;
+use crate::finding::{Query, row_of};
+use crate::gathering::gather;
+use crate::laws::{
+    each_book_trade_has_its_orders, each_room_trade_has_its_request, each_trade_has_its_row,
+};
+use crate::room::{append_room, append_row};
+use instruments::Instruments;
+use participants::Participants;
+use std::alloc::{AllocError, Global};
+use std::io::Write;
+use thiserror::Error;
+use trade_blotter::{append, append_deal, append_number};
+use venue_core::{Venue, rows_emit_their_inputs};
+use venue_rules::{TradeFact, TrailRow};
+
+/// Why the evidence was not written.
+#[derive(Clone, Copy, Debug, PartialEq, Eq, Error)]
+pub enum EvidenceFault {
+    /// Memory was refused.
+    #[error("memory")]
+    Memory,
+    /// A write failed.
+    #[error("output")]
+    Output,
+    /// There is no trade with this number.
+    #[error("no such trade")]
+    NoTrade,
+}
+
+impl From<AllocError> for EvidenceFault {
+    ghost from_gives = { λ _ fault. fault ≡ Memory };
+
+    fn from(_: AllocError) -> EvidenceFault {
+        EvidenceFault::Memory
+    }
+}
+
+/// The row at which a trade was made.
+fn trade_row(words: &[EvidenceEvent], trade: &TradeFact) -> u64
+    ensures { result ≡ trade_row words.now trade.now }
+{
+    match trade.room {
+        None => row_of(words, &Query::Fill(trade.number)),
+        Some(_) => row_of(words, &Query::Hit(trade.number)),
+    }
+}
+
+/// Appends the line of the trade itself.
+fn append_trade(
+    alloc: Global,
+    text: &mut Vec<u8>,
+    participants: &Participants,
+    instruments: &Instruments,
+    trade: &TradeFact,
+    row: u64,
+) -> Result<(), AllocError>
+    ensures { OnOk result (text.new.items ≡ text.old.items ++ trade_line (record { participants = participants.now; instruments = instruments.now }) trade.now row) }
+{
+    append_number(text, b"trade T", trade.number)?;
+    append(text, &[b" "])?;
+    append_deal(alloc, text, participants, instruments, trade)?;
+    append_row(text, row)
+}
+
+/// Appends the lines of what a trade rests on.
+fn append_place(
+    alloc: Global,
+    text: &mut Vec<u8>,
+    participants: &Participants,
+    words: &[EvidenceEvent],
+    trade: &TradeFact,
+    row: u64,
+) -> Result<(), AllocError>
+    ensures { OnOk result (text.new.items ≡ text.old.items ++ place_lines participants.now words.now trade.now row) }
+{
+    match trade.room {
+        None => append_book(alloc, text, participants, words, trade.number, row),
+        Some(room) => append_room(alloc, text, participants, words, room),
+    }
+}
+
+/// The lines of the evidence for a trade.
+#[tactic(auto, unfolding(crate::specs::Lines::evidence))]
+fn evidence_of(
+    alloc: Global,
+    participants: &Participants,
+    instruments: &Instruments,
+    words: &[EvidenceEvent],
+    trade: &TradeFact,
+) -> Result<Vec<u8>, AllocError>
+    ensures { IfOk result (λ text. text.items ≡ evidence (record { participants = participants.now; instruments = instruments.now }) words.now trade.now) }
+{
+    let row = trade_row(words, trade);
+    let mut text = Vec::new(alloc);
+    append_place(alloc, &mut text, participants, words, trade, row)?;
+    append_trade(alloc, &mut text, participants, instruments, trade, row)?;
+    Ok(text)
+}
+
+/// The trade with this number, from 1.
+fn numbered(trades: &[TradeFact], number: u64) -> Option<&TradeFact>
+    ensures { option_map (λ t. t.now) result ≡ numbered_in trades.now number }
+{
+    if number == 0 {
+        return None;
+    }
+    trades.get((number - 1) as usize)
+}
+
+/// The trade of the day with this number.
+fn trade_numbered(venue: &Venue, number: u64) -> Option<&TradeFact>
+    ensures { (h : History) → IsHistory venue.now h → option_map (λ t. t.now) result ≡ trade_numbered h number }
+{
+    numbered(venue.trades(), number)
+}
+
+/// The evidence for the trade with this number, as a venue on which nothing has happened takes what the rows of a trail tell.
+fn evidence_in(
+    alloc: Global,
+    venue: &mut Venue,
+    rows: &[TrailRow],
+    number: u64,
+) -> Result<Vec<u8>, EvidenceFault>
+    requires kept { All IsItem rows.now }
+    requires few { length rows.now ≤ most_items }
+    requires fresh { IsHistory venue.old no_history }
+    requires first { venue.old.items ≡ 0 }
+    ensures emitted { IfOk result (λ text. IsEvidence venue.old.market rows.now number text.items) }
+    ensures refused { IfErr result (λ fault. fault ≡ NoTrade → HasNoTrade venue.old.market rows.now number) }
+{
+    rows_emit_their_inputs();
+    each_room_trade_has_its_request();
+    each_book_trade_has_its_orders();
+    each_trade_has_its_row();
+    let words = gather(alloc, venue, rows, number)?;
+    let Some(trade) = trade_numbered(venue, number) else {
+        return Err(EvidenceFault::NoTrade);
+    };
+    Ok(evidence_of(
+        alloc,
+        venue.participants(),
+        venue.instruments(),
+        &words,
+        trade,
+    )?)
+}
+
+fn write_text<W: Write>(text: &[u8], writer: &mut W) -> Result<(), EvidenceFault>
+    ensures written { OnOk result (Appends (W.contents writer.old) (W.contents writer.new) text.now) }
+    ensures output { IfErr result (λ fault. fault ≡ Output) }
+{
+    match writer.write_all(text) {
+        Ok(()) => Ok(()),
+        Err(_) => Err(EvidenceFault::Output),
+    }
+}
+
+/// Writes the evidence for the trade with this number of the day that rows of a trail tell, on a venue of these participants and
+/// instruments: what the venue said of what the trade rests on, a line for each fact, which ends in the row at which it was said.
+/// `NoTrade` where there were not so many trades.
+pub fn print_evidence<W: Write>(
+    alloc: Global,
+    participants: Participants,
+    instruments: Instruments,
+    rows: &[TrailRow],
+    number: u64,
+    writer: &mut W,
+) -> Result<(), EvidenceFault>
+    requires kept { All IsItem rows.now }
+    requires few { length rows.now ≤ most_items }
+    ensures emitted { OnOk result (EmitsTrade (record { participants = participants; instruments = instruments }) rows.now number (W.contents writer.old) (W.contents writer.new)) }
+    ensures refused { IfErr result (λ fault. fault ≡ NoTrade → HasNoTrade (record { participants = participants; instruments = instruments }) rows.now number) }
+    ensures unwritten { IfErr result (λ fault. UnlessWriting fault (Keeps (W.contents writer.old) (W.contents writer.new))) }
+{
+    let mut venue = Venue::open(alloc, participants, instruments)?;
+    let emitted = evidence_in(alloc, &mut venue, rows, number);
+    drop(venue);
+    match emitted {
+        Ok(text) => write_text(&text, writer),
+        Err(fault) => Err(fault),
+    }
+}

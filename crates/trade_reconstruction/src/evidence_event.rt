@@ -1,0 +1,135 @@
+//! What was said on the venue of requests, quotes, orders and trades, each with the row at which it was said.
+
+use fix_dictionary::{Amount, Identifier, Price, Quantity, Side};
+use participants::Who;
+use sef_moment::Moment;
+
+/// A recipient was asked for a quote.
+#[derive(Clone, Copy)]
+pub struct Asked {
+    pub requester: Who,
+    /// the requester's own identifier of the request (131)
+    pub request: Identifier,
+    pub room: u64,
+    pub symbol: Identifier,
+    pub side: Option<Side>,
+    pub quantity: Quantity,
+}
+
+/// A requester was shown so many resting orders with the first response.
+#[derive(Clone, Copy)]
+pub struct SnapshotSent {
+    pub request: Identifier,
+    pub count: u64,
+}
+
+/// One of these orders.
+#[derive(Clone, Copy)]
+pub struct Shown {
+    pub request: Identifier,
+    pub side: Side,
+    pub price: Price,
+    pub left: Amount,
+    pub order: u64,
+}
+
+/// A requester was sent a quote.
+#[derive(Clone, Copy)]
+pub struct Quoted {
+    pub request: Identifier,
+    pub quote: u64,
+    pub maker: Identifier,
+    pub bid: Option<Price>,
+    pub offer: Option<Price>,
+    pub end: Moment,
+}
+
+/// A quote was hit, which made a trade in a room.
+#[derive(Clone, Copy)]
+pub struct Hit {
+    pub room: u64,
+    pub trade: u64,
+    /// the quote, as the requester names it (117)
+    pub quote: Identifier,
+}
+
+/// A link (583), and the row of the message that carried it.
+#[derive(Clone, Copy)]
+pub struct Linked {
+    pub link: Identifier,
+    pub row: u64,
+}
+
+/// An order entered the book.
+#[derive(Clone, Copy)]
+pub struct Entered {
+    pub order: u64,
+    pub id: Identifier,
+    pub symbol: Identifier,
+    pub side: Side,
+    pub quantity: Amount,
+    /// none where the order was a held side, which enters at a tick
+    pub price: Option<Price>,
+    /// the link that it carries, or that the order had whose place it takes
+    pub link: Option<Linked>,
+    /// the identifier (41) of the order whose place it takes
+    pub original: Option<Identifier>,
+    pub at_tick: bool,
+}
+
+/// The second side of a cross is held for so many milliseconds.
+#[derive(Clone, Copy)]
+pub struct Held {
+    pub id: Identifier,
+    pub delay: u64,
+}
+
+/// An order was filled by a trade in the book.
+#[derive(Clone, Copy)]
+pub struct Filled {
+    pub order: u64,
+    pub trade: u64,
+}
+
+/// An order rested before one that was then traded with, on its side of the book.
+#[derive(Clone, Copy)]
+pub struct RestedBefore {
+    /// the order that was traded with
+    pub resting: u64,
+    pub side: Side,
+    pub price: Price,
+    pub left: Amount,
+    pub order: u64,
+}
+
+/// So many orders rested before one that was then traded with.
+#[derive(Clone, Copy)]
+pub struct RestedCount {
+    /// the order that was traded with
+    pub resting: u64,
+    pub count: u64,
+}
+
+/// What was said.
+#[derive(Clone, Copy)]
+pub enum EventKind {
+    Asked(Asked),
+    SnapshotSent(SnapshotSent),
+    Shown(Shown),
+    Quoted(Quoted),
+    Hit(Hit),
+    Entered(Entered),
+    Held(Held),
+    Filled(Filled),
+    RestedBefore(RestedBefore),
+    RestedCount(RestedCount),
+}
+
+/// What was said to a participant, and at which row.
+#[derive(Clone, Copy)]
+pub struct EvidenceEvent {
+    pub row: u64,
+    pub moment: Moment,
+    pub to: Who,
+    pub said: EventKind,
+}

@@ -1,0 +1,164 @@
+//! The first word that says something.
+
+ghost use Rattle.std.specs.Prelude.{◌≡◌, find, option_map};
+ghost use Rattle.trade_reconstruction.specs.Lines.{enters, fills, fills_other, hits, holds, is_asked, is_entry, is_sought, link_in, link_of, order_in, order_of, row_of};
+
+use crate::evidence_event::{EventKind, EvidenceEvent, Linked};
+use fix_dictionary::Identifier;
+use participants::Who;
+
+/// What a word is to say.
+#[derive(Clone, Copy)]
+pub enum Query {
+    /// that somebody was asked in this room
+    Request(u64),
+    /// that this order entered
+    Order(u64),
+    /// that this trade filled an order
+    Fill(u64),
+    /// that this trade filled another order than this
+    OtherFill(u64, u64),
+    /// that this trade was made by a hit
+    Hit(u64),
+    /// that this participant's order of this identifier (11) is held
+    HeldSide(Who, Identifier),
+    /// that this participant's order of this identifier (11) entered
+    Entry(Who, Identifier),
+}
+
+pub(crate) fn is_asked(word: &EvidenceEvent, room: u64) -> bool
+    ensures { result ≡ is_asked room word.now }
+{
+    match &word.said {
+        EventKind::Asked(asked) => asked.room == room,
+        _ => false,
+    }
+}
+
+fn enters(word: &EvidenceEvent, order: u64) -> bool
+    ensures { result ≡ enters order word.now }
+{
+    match &word.said {
+        EventKind::Entered(entered) => entered.order == order,
+        _ => false,
+    }
+}
+
+fn fills(word: &EvidenceEvent, trade: u64) -> bool
+    ensures { result ≡ fills trade word.now }
+{
+    match &word.said {
+        EventKind::Filled(filled) => filled.trade == trade,
+        _ => false,
+    }
+}
+
+fn fills_other(word: &EvidenceEvent, trade: u64, order: u64) -> bool
+    ensures { result ≡ fills_other trade order word.now }
+{
+    match &word.said {
+        EventKind::Filled(filled) => filled.trade == trade && filled.order != order,
+        _ => false,
+    }
+}
+
+fn hits(word: &EvidenceEvent, trade: u64) -> bool
+    ensures { result ≡ hits trade word.now }
+{
+    match &word.said {
+        EventKind::Hit(hit) => hit.trade == trade,
+        _ => false,
+    }
+}
+
+fn holds(word: &EvidenceEvent, who: Who, id: &Identifier) -> bool
+    ensures { result ≡ holds who id.now word.now }
+{
+    match &word.said {
+        EventKind::Held(held) => word.to.place() == who.place() && held.id.is(id),
+        _ => false,
+    }
+}
+
+fn is_entry(word: &EvidenceEvent, who: Who, id: &Identifier) -> bool
+    ensures { result ≡ is_entry who id.now word.now }
+{
+    match &word.said {
+        EventKind::Entered(entered) => word.to.place() == who.place() && entered.id.is(id),
+        _ => false,
+    }
+}
+
+fn is_sought(sought: &Query, word: &EvidenceEvent) -> bool
+    ensures { result ≡ is_sought sought.now word.now }
+{
+    match sought {
+        Query::Request(room) => is_asked(word, *room),
+        Query::Order(order) => enters(word, *order),
+        Query::Fill(trade) => fills(word, *trade),
+        Query::OtherFill(trade, order) => fills_other(word, *trade, *order),
+        Query::Hit(trade) => hits(word, *trade),
+        Query::HeldSide(who, id) => holds(word, *who, id),
+        Query::Entry(who, id) => is_entry(word, *who, id),
+    }
+}
+
+/// The first of these words that says what is sought.
+pub fn find_word<'a>(words: &'a [EvidenceEvent], sought: &Query) -> Option<&'a EvidenceEvent>
+    ensures { option_map (λ w. w.now) result ≡ find (is_sought sought.now) words.now }
+{
+    for word in words {
+        if is_sought(sought, word) {
+            return Some(word);
+        }
+    }
+    None
+}
+
+fn order_in(word: &EvidenceEvent) -> Option<u64>
+    ensures { result ≡ order_in word.now }
+{
+    match &word.said {
+        EventKind::Filled(filled) => Some(filled.order),
+        _ => None,
+    }
+}
+
+/// The order that is filled, if a fill is found.
+pub fn filled_order(words: &[EvidenceEvent], sought: &Query) -> Option<u64>
+    ensures { result ≡ order_of (find (is_sought sought.now) words.now) }
+{
+    match find_word(words, sought) {
+        Some(word) => order_in(word),
+        None => None,
+    }
+}
+
+/// The row of the first word that says what is sought, if one does.
+pub fn row_of(words: &[EvidenceEvent], sought: &Query) -> u64
+    ensures { result ≡ row_of (find (is_sought sought.now) words.now) }
+{
+    match find_word(words, sought) {
+        Some(word) => word.row,
+        None => 0,
+    }
+}
+
+fn link_in(word: &EvidenceEvent) -> Option<Linked>
+    ensures { result ≡ link_in word.now }
+{
+    match &word.said {
+        EventKind::Entered(entered) => entered.link,
+        _ => None,
+    }
+}
+
+/// The link of the order that entered, if one is found.
+pub fn link_of(words: &[EvidenceEvent], sought: &Query) -> Option<Linked>
+    ensures { result ≡ link_of (find (is_sought sought.now) words.now) }
+{
+    match find_word(words, sought) {
+        Some(word) => link_in(word),
+        None => None,
+    }
+}

@@ -1,0 +1,20 @@
+//! The evidence for one trade of a day, read back from the rows of its trail: what was asked, shown, quoted and entered, each with its row.
+#![tactic(auto)]
+
+mod book;
+mod entry;
+mod event_kind;
+mod evidence;
+mod evidence_event;
+mod finding;
+mod gathering;
+mod laws;
+mod rested;
+mod room;
+mod standing;
+mod trigger;
+
+pub use evidence::{EvidenceFault, print_evidence};
+pub use laws::{
+    each_book_trade_has_its_orders, each_room_trade_has_its_request, each_trade_has_its_row,
+};

@@ -1,0 +1,363 @@
+//! The evidence for a trade in a room.
+
+ghost use Rattle.std.specs.Prelude.{◌≡◌, ◌++◌, OnOk, codes, decimal};
+ghost use Rattle.std.specs.List.{flat_map};
+ghost use Rattle.sef_moment.specs.Utc.{utc_text};
+ghost use Rattle.trade_reconstruction.specs.Lines.{asked_lines, asked_side, at_text, hit_line, is_to, others, other_line, pair_line, pictured_line, price_or_none, quote_line, relation, request_line, room_found, room_lines, room_word, row_text, shown_line, shown_side};
+
+use crate::evidence_event::{Asked, EventKind, EvidenceEvent, Hit, Quoted, Shown, SnapshotSent};
+use crate::finding::{Query, find_word, is_asked};
+use fix_dictionary::{Identifier, Price, Side};
+use participants::{Participants, Who};
+use sef_moment::{Moment, print_utc};
+use std::alloc::{AllocError, Global};
+use trade_blotter::{append, append_number, append_price, name_at};
+
+/// Appends the row on which a line rests, and ends the line.
+pub(crate) fn append_row(text: &mut Vec<u8>, row: u64) -> Result<(), AllocError>
+    ensures { OnOk result (text.new.items ≡ text.old.items ++ row_text row) }
+{
+    append_number(text, b" row ", row)?;
+    append(text, &[b"\n"])
+}
+
+/// Appends a moment after a text.
+pub(crate) fn append_moment(
+    text: &mut Vec<u8>,
+    before: &[u8],
+    moment: Moment,
+) -> Result<(), AllocError>
+    ensures { OnOk result (text.new.items ≡ text.old.items ++ (before.now ++ utc_text moment)) }
+{
+    let emitted = print_utc(moment);
+    append(text, &[before, &emitted])
+}
+
+/// Appends when something was said, and the row on which a line rests, and ends the line.
+pub(crate) fn append_at(text: &mut Vec<u8>, moment: Moment, row: u64) -> Result<(), AllocError>
+    ensures { OnOk result (text.new.items ≡ text.old.items ++ (at_text moment ++ row_text row)) }
+{
+    append_moment(text, b" at ", moment)?;
+    append_row(text, row)
+}
+
+/// Appends after a text how much of what.
+pub(crate) fn append_quantity(
+    text: &mut Vec<u8>,
+    before: &[u8],
+    quantity: u64,
+    symbol: &Identifier,
+) -> Result<(), AllocError>
+    ensures { OnOk result (text.new.items ≡ text.old.items ++ (before.now ++ (decimal quantity ++ (codes " " ++ symbol.now)))) }
+{
+    append_number(text, before, quantity)?;
+    append(text, &[b" ", symbol.as_slice()])
+}
+
+/// What two participants are to each other.
+fn relation(participants: &Participants, one: Who, other: Who) -> &'static [u8]
+    ensures { result.now ≡ relation participants.now one other }
+{
+    if one.place() == other.place() {
+        b" are one participant"
+    } else if participants.related(one, other) {
+        b" are related"
+    } else {
+        b" are not related"
+    }
+}
+
+/// Appends what two participants are to each other.
+pub(crate) fn append_pair(
+    text: &mut Vec<u8>,
+    participants: &Participants,
+    one: Who,
+    other: Who,
+    row: u64,
+) -> Result<(), AllocError>
+    ensures { OnOk result (text.new.items ≡ text.old.items ++ pair_line participants.now one other row) }
+{
+    let name = name_at(participants, one);
+    let other_name = name_at(participants, other);
+    append(text, &[name, b" and ", other_name])?;
+    append(text, &[relation(participants, one, other)])?;
+    append_row(text, row)
+}
+
+fn asked_side(side: Option<Side>) -> &'static [u8]
+    ensures { result.now ≡ asked_side side }
+{
+    match side {
+        None => b" for both sides of ",
+        Some(Side::Buy) => b" to buy ",
+        Some(Side::Sell) => b" to sell ",
+    }
+}
+
+fn append_request(
+    text: &mut Vec<u8>,
+    participants: &Participants,
+    word: &EvidenceEvent,
+    asked: &Asked,
+) -> Result<(), AllocError>
+    ensures { OnOk result (text.new.items ≡ text.old.items ++ request_line participants.now word.now asked.now) }
+{
+    let requester = name_at(participants, asked.requester);
+    append_number(text, b"request in room R", asked.room)?;
+    append(text, &[b" of ", requester])?;
+    let side = asked_side(asked.side);
+    append_quantity(text, side, asked.quantity.get(), &asked.symbol)?;
+    append_at(text, word.moment, word.row)
+}
+
+/// Appends what a participant who was asked in a room is to one who was asked there too and stands before it in the file.
+fn append_other(
+    text: &mut Vec<u8>,
+    participants: &Participants,
+    room: u64,
+    who: Who,
+    row: u64,
+    other: &EvidenceEvent,
+) -> Result<(), AllocError>
+    ensures { OnOk result (text.new.items ≡ text.old.items ++ other_line participants.now room who row other.now) }
+{
+    if is_asked(other, room) && other.to.place() < who.place() {
+        append_pair(text, participants, who, other.to, row)
+    } else {
+        Ok(())
+    }
+}
+
+fn append_others(
+    text: &mut Vec<u8>,
+    participants: &Participants,
+    words: &[EvidenceEvent],
+    room: u64,
+    who: Who,
+    row: u64,
+) -> Result<(), AllocError>
+    ensures { OnOk result (text.new.items ≡ text.old.items ++ others participants.now words.now room who row) }
+{
+    for word in words {
+        append_other(text, participants, room, who, row, word)?;
+    }
+    Ok(())
+}
+
+/// Appends that a participant was asked, and what it is to the requester and to those who were asked too.
+fn append_asked(
+    text: &mut Vec<u8>,
+    participants: &Participants,
+    words: &[EvidenceEvent],
+    word: &EvidenceEvent,
+    asked: &Asked,
+) -> Result<(), AllocError>
+    ensures { OnOk result (text.new.items ≡ text.old.items ++ asked_lines participants.now words.now word.now asked.now) }
+{
+    append(text, &[b"asked ", name_at(participants, word.to)])?;
+    append_row(text, word.row)?;
+    append_pair(text, participants, word.to, asked.requester, word.row)?;
+    append_others(text, participants, words, asked.room, word.to, word.row)
+}
+
+fn append_pictured(
+    text: &mut Vec<u8>,
+    word: &EvidenceEvent,
+    pictured: &SnapshotSent,
+) -> Result<(), AllocError>
+    ensures { OnOk result (text.new.items ≡ text.old.items ++ pictured_line word.now pictured.now) }
+{
+    append_number(
+        text,
+        b"resting orders shown with the first response: ",
+        pictured.count,
+    )?;
+    append_row(text, word.row)
+}
+
+fn shown_side(side: Side) -> &'static [u8]
+    ensures { result.now ≡ shown_side side }
+{
+    match side {
+        Side::Buy => b" bid ",
+        Side::Sell => b" offer ",
+    }
+}
+
+fn append_shown(
+    alloc: Global,
+    text: &mut Vec<u8>,
+    word: &EvidenceEvent,
+    shown: &Shown,
+) -> Result<(), AllocError>
+    ensures { OnOk result (text.new.items ≡ text.old.items ++ shown_line word.now shown.now) }
+{
+    append_number(text, b"shown O", shown.order)?;
+    append_number(text, shown_side(shown.side), shown.left.get())?;
+    append(text, &[b" @ "])?;
+    append_price(alloc, text, shown.price)?;
+    append_row(text, word.row)
+}
+
+fn append_price_or_none(
+    alloc: Global,
+    text: &mut Vec<u8>,
+    price: Option<Price>,
+) -> Result<(), AllocError>
+    ensures { OnOk result (text.new.items ≡ text.old.items ++ price_or_none price) }
+{
+    match price {
+        Some(price) => append_price(alloc, text, price),
+        None => append(text, &[b"none"]),
+    }
+}
+
+fn append_prices(
+    alloc: Global,
+    text: &mut Vec<u8>,
+    bid: Option<Price>,
+    offer: Option<Price>,
+) -> Result<(), AllocError>
+    ensures { OnOk result (text.new.items ≡ text.old.items ++ (codes " bid " ++ (price_or_none bid ++ (codes " offer " ++ price_or_none offer)))) }
+{
+    append(text, &[b" bid "])?;
+    append_price_or_none(alloc, text, bid)?;
+    append(text, &[b" offer "])?;
+    append_price_or_none(alloc, text, offer)
+}
+
+fn append_quote(
+    alloc: Global,
+    text: &mut Vec<u8>,
+    word: &EvidenceEvent,
+    quoted: &Quoted,
+) -> Result<(), AllocError>
+    ensures { OnOk result (text.new.items ≡ text.old.items ++ quote_line word.now quoted.now) }
+{
+    append_number(text, b"quote Q", quoted.quote)?;
+    append(text, &[b" of ", quoted.maker.as_slice()])?;
+    append_prices(alloc, text, quoted.bid, quoted.offer)?;
+    append_moment(text, b" until ", quoted.end)?;
+    append_at(text, word.moment, word.row)
+}
+
+fn append_hit(text: &mut Vec<u8>, word: &EvidenceEvent, hit: &Hit) -> Result<(), AllocError>
+    ensures { OnOk result (text.new.items ≡ text.old.items ++ hit_line word.now hit.now) }
+{
+    append(text, &[b"hit of quote ", hit.quote.as_slice()])?;
+    append_moment(text, b" at ", word.moment)?;
+    append_row(text, word.row)
+}
+
+/// Whether a word is to the requester, on its request.
+fn is_to(asked: &Asked, to: Who, request: &Identifier) -> bool
+    ensures { result ≡ is_to asked.now to request.now }
+{
+    to.place() == asked.requester.place() && request.is(&asked.request)
+}
+
+/// Appends the lines of a word, if it is of this request.
+#[tactic(auto, unfolding(crate::specs::Lines::room_word))]
+fn append_word(
+    alloc: Global,
+    text: &mut Vec<u8>,
+    participants: &Participants,
+    words: &[EvidenceEvent],
+    asked: &Asked,
+    word: &EvidenceEvent,
+) -> Result<(), AllocError>
+    ensures { OnOk result (text.new.items ≡ text.old.items ++ room_word participants.now words.now asked.now word.now) }
+{
+    match &word.said {
+        EventKind::Asked(other) => {
+            if other.room == asked.room {
+                append_asked(text, participants, words, word, other)
+            } else {
+                Ok(())
+            }
+        }
+        EventKind::SnapshotSent(pictured) => {
+            if is_to(asked, word.to, &pictured.request) {
+                append_pictured(text, word, pictured)
+            } else {
+                Ok(())
+            }
+        }
+        EventKind::Shown(shown) => {
+            if is_to(asked, word.to, &shown.request) {
+                append_shown(alloc, text, word, shown)
+            } else {
+                Ok(())
+            }
+        }
+        EventKind::Quoted(quoted) => {
+            if is_to(asked, word.to, &quoted.request) {
+                append_quote(alloc, text, word, quoted)
+            } else {
+                Ok(())
+            }
+        }
+        EventKind::Hit(hit) => {
+            if hit.room == asked.room && word.to.place() == asked.requester.place() {
+                append_hit(text, word, hit)
+            } else {
+                Ok(())
+            }
+        }
+        EventKind::Entered(_) => Ok(()),
+        EventKind::Held(_) => Ok(()),
+        EventKind::Filled(_) => Ok(()),
+        EventKind::RestedBefore(_) => Ok(()),
+        EventKind::RestedCount(_) => Ok(()),
+    }
+}
+
+fn append_words(
+    alloc: Global,
+    text: &mut Vec<u8>,
+    participants: &Participants,
+    words: &[EvidenceEvent],
+    asked: &Asked,
+) -> Result<(), AllocError>
+    ensures { OnOk result (text.new.items ≡ text.old.items ++ flat_map (room_word participants.now words.now asked.now) words.now) }
+{
+    for word in words {
+        append_word(alloc, text, participants, words, asked, word)?;
+    }
+    Ok(())
+}
+
+/// Appends the lines of a room, from the first word that somebody was asked in it.
+fn append_found(
+    alloc: Global,
+    text: &mut Vec<u8>,
+    participants: &Participants,
+    words: &[EvidenceEvent],
+    word: &EvidenceEvent,
+) -> Result<(), AllocError>
+    ensures { OnOk result (text.new.items ≡ text.old.items ++ room_found participants.now words.now word.now) }
+{
+    match &word.said {
+        EventKind::Asked(asked) => {
+            append_request(text, participants, word, asked)?;
+            append_words(alloc, text, participants, words, asked)
+        }
+        _ => Ok(()),
+    }
+}
+
+/// Appends the lines of a room: the request, who was asked, what was shown and quoted, and the hit.
+pub(crate) fn append_room(
+    alloc: Global,
+    text: &mut Vec<u8>,
+    participants: &Participants,
+    words: &[EvidenceEvent],
+    room: u64,
+) -> Result<(), AllocError>
+    ensures { OnOk result (text.new.items ≡ text.old.items ++ room_lines participants.now words.now room) }
+{
+    match find_word(words, &Query::Request(room)) {
+        Some(word) => append_found(alloc, text, participants, words, word),
+        None => Ok(()),
+    }
+}

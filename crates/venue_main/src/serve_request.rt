@@ -1,0 +1,76 @@
+//! What is to be served.
+
+ghost use Rattle.std.specs.Prelude.{◌≡◌, IfOk, IfSome};
+ghost use Rattle.venue_main.specs.Check.{AreRead};
+
+use crate::failure::Failure;
+use crate::files::Texts;
+use crate::market::Market;
+use crate::service::Service;
+use crate::trail_file::open_trail;
+use audit_trail::{FileText, Files};
+use sqlite::{Connection, File, FileStore};
+
+/// A market that is to be served.
+#[derive(Drop)]
+pub struct ServeRequest {
+    pub market: Market,
+    pub service: Service,
+    pub kept: Option<StoredTrail>,
+}
+
+/// Where the rows of a venue are to be kept, and the files that are kept beside them.
+#[derive(Drop)]
+pub struct StoredTrail {
+    pub conn: Connection<FileStore<File>>,
+    pub files: Files,
+}
+
+/// The market that two files describe, and, where its rows are to be kept at a path, the database there with these files.
+pub fn asked_for(
+    rt: &HostRuntime,
+    texts: Texts,
+    service: Service,
+    trail: Option<String>,
+) -> Result<ServeRequest, Failure>
+    ensures read { IfOk result (λ asked. AreRead texts.participants.items texts.instruments.items asked.market.participants asked.market.instruments) }
+    ensures files { IfOk result (λ asked. IfSome asked.kept (λ kept. kept.files ≡ record { participants = texts.participants.items; instruments = texts.instruments.items })) }
+    ensures service { IfOk result (λ asked. asked.service ≡ service) }
+{
+    let market = Market::read(rt.alloc(), &texts.participants, &texts.instruments)?;
+    match kept_for(rt, texts, trail) {
+        Ok(kept) => Ok(ServeRequest {
+            market,
+            service,
+            kept,
+        }),
+        Err(failure) => {
+            drop(market);
+            Err(failure)
+        }
+    }
+}
+
+fn kept_for(
+    rt: &HostRuntime,
+    texts: Texts,
+    trail: Option<String>,
+) -> Result<Option<StoredTrail>, Failure>
+    ensures { IfOk result (λ found. IfSome found (λ kept. kept.files ≡ record { participants = texts.participants.items; instruments = texts.instruments.items })) }
+{
+    match trail {
+        Some(path) => Ok(Some(kept_at(rt, &path, texts)?)),
+        None => Ok(None),
+    }
+}
+
+fn kept_at(rt: &HostRuntime, path: &str, texts: Texts) -> Result<StoredTrail, Failure>
+    ensures { IfOk result (λ kept. kept.files ≡ record { participants = texts.participants.items; instruments = texts.instruments.items }) }
+{
+    let conn = open_trail(rt, path)?;
+    let files = Files {
+        participants: FileText::from_vec(texts.participants),
+        instruments: FileText::from_vec(texts.instruments),
+    };
+    Ok(StoredTrail { conn, files })
+}

@@ -1,0 +1,26 @@
+use Rattle.std.proofs.Common.{◌≡◌, length, ap, arith}
+use Rattle.venue_worker.specs.Work.{Work}
+use Rattle.venue_worker.proofs.Dismissing.{same_then, sees_same, sees_all, all_seen_then, served_more, served_all, looked_more}
+use Rattle.venue_worker.proofs.worker.Worker.drain_all.Goals as goal
+
+pub loop-j-preserved : goal.loop-j-preserved
+loop-j-preserved g c =
+    let old = c.args.self.now in
+    let mid = c.loop-j.self in
+    let new = c.drain-moved.new.self in
+    let i = c.loop-j.invariant in
+    let sees = c.drain-moved.ensures.sees in
+    record {
+      only = same_then old mid new i.only (sees_same c.loop-j.j mid new sees);
+      seen_off = all_seen_then old mid new i.only i.seen_off (sees_all c.loop-j.j mid new sees);
+      served = served_more c.loop-j.j old mid new i.looked i.served sees;
+      looked = looked_more c.loop-j.j old mid new i.looked sees;
+    }
+
+pub returns-clause-served : goal.returns-clause-served
+returns-clause-served g c =
+    let all : length c.self.inside.hands.items ≡ length c.args.self.now.hands = ap (λ (w : Work). length w.hands) c.self.view_is in
+    let ok = c.self.inside.hands.ok.0 in
+    let far = c.loop-j-test.false in
+    let count = c.len-count.ensures in
+    served_all c.loop-j.j c.args.self.now c.loop-j.self (omega (arith, all, ok, far, count)) c.loop-j.invariant.served

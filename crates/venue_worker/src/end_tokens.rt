@@ -1,0 +1,44 @@
+//! The marks that sessions hand as they end.
+
+ghost use Rattle.std.specs.Prelude.{◌≡◌, ℕ, ◌+◌, ◌≤◌, true, None, length, if◌then◌else◌};
+ghost use Rattle.intake_seats.specs.Ends.{AreTakes, IsSameTaker};
+ghost use Rattle.venue_worker.specs.Phases.{AreTokensTaken};
+
+use intake_seats::{Board, TakeSeat};
+
+// A session's mark counts as taken; `false` where a look in this call found none.
+fn take_end_token(take: &mut TakeSeat<()>, board: &Board<()>) -> bool
+    requires own { take.old.board ≡ board.now }
+    requires free { take.old.in_hand ≡ None }
+    ensures end { IsSameTaker take.old take.new × (take.new.in_hand ≡ None) }
+    ensures taken { length take.new.taken ≡ length take.old.taken + (if result then 1 else 0) }
+{
+    if take.take(board).is_none() {
+        return false;
+    }
+    take.clear(board);
+    true
+}
+
+// The marks of the sessions that ended next, in order. How many have ended.
+pub(crate) fn take_end_tokens(
+    takes: &mut Vec<TakeSeat<()>>,
+    board: &Board<()>,
+    ended: usize,
+) -> usize
+    requires own { AreTakes board.now takes.old.items }
+    requires within { ended ≤ length takes.old.items }
+    requires tokens_taken { AreTokensTaken ended takes.old.items }
+    ensures own { AreTakes board.now takes.new.items }
+    ensures count { length takes.new.items ≡ length takes.old.items }
+    ensures within { result ≤ length takes.new.items }
+    ensures tokens_taken { AreTokensTaken result takes.new.items }
+{
+    let count = takes.len();
+    for k in ended..count {
+        if !take_end_token(&mut takes[k], board) {
+            return k;
+        }
+    }
+    count
+}

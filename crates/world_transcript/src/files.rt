@@ -1,6 +1,0 @@
-//! Files of participants and of instruments.
-
-mod asking;
-mod line;
-mod telling;
-pub mod texts;
