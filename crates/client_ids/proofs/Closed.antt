@@ -12,7 +12,7 @@ use Rattle.client_ids.specs.ClientIds.{name_cmp, no_name, name_at, place_cmp, Is
 use Rattle.std.proofs.lemmas.Cmp.{tied_itself}
 use Rattle.client_ids.proofs.Ordered.{name_total, then-less, nat-less, less-nat}
 
--- a name less
+-- removal of a name
 
 get_or-mapped : (f : ℕ → ℕ) (xs : List ℕ) (i : ℕ) → i < length xs → get_or (map f xs) i 0 ≡ f (get_or xs i 0)
 get_or-mapped f [] i h = absurd (omega (arith, h))
@@ -33,7 +33,7 @@ closed-above g k h = by (nat_lt g k) refl
     by true e = refl
     by false e = absurd (grind (arith, nat_tests))
 
--- another place than the one that is gone
+-- another place than the removed one
 data Side (g k : ℕ) : Type 0 where
   Low : k < g → closed g k ≡ k → Side g k
   High : g < k → closed g k ≡ k - 1 → Side g k
@@ -95,7 +95,7 @@ apart names index i j is h l same = elim (then-less (name_cmp (name_at names (ge
 other-place : (names : List ClientId) (index : List ℕ) (i j : ℕ) → IsIndex names index → (i < j) ⊎ (j < i) → i < length index → j < length index → get_or index i 0 ≡ get_or index j 0 → ⊥
 other-place names index i j is which h l same = elim which [ inl less ↦ apart names index i j is less l same | inr more ↦ apart names index j i is more h (sym same) ]
 
--- where a place of the shorter index comes from
+-- the origin of a place of the shorter index
 record From (index : List ℕ) (at i : ℕ) : Type 0 where
   place : ℕ
   below : place < length index
@@ -150,7 +150,7 @@ module _ (names : List ClientId) (index : List ℕ) (at g : ℕ) (is : IsIndex n
       let up : e.place < f.place = elim e.which [ inl v ↦ elim f.which [ inl w ↦ omega (arith, h, v.1, w.1) | inr w ↦ omega (arith, v.0, w.0) ] | inr v ↦ elim f.which [ inl w ↦ omega (arith, h, v.0, v.1, w.0, w.1) | inr w ↦ omega (arith, h, v.1, w.1) ] ] in
       ap (λ k. place_cmp (remove names g) k (get_or (map (closed g) (remove index at)) j 0)) (read-there i n e) ∙ ap (λ k. place_cmp (remove names g) (closed g (get_or index e.place 0)) k) (read-there j m f) ∙ place_cmp-kept names g (get_or index e.place 0) (get_or index f.place 0) gone-below (kept i e) (kept j f) (is.rising e.place f.place up f.below)
 
-  -- the place that a place of the fewer names had
+  -- the earlier place of a remaining name
   covers-one : (k i : ℕ) → (k ≡ g → ⊥) → i < length index → get_or index i 0 ≡ k → (j : ℕ) × (j < length (map (closed g) (remove index at))) × (get_or (map (closed g) (remove index at)) j 0 ≡ closed g k)
   covers-one k i other h found = elim (cases_lt i at) [
     | inl less ↦

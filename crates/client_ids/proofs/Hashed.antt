@@ -11,7 +11,7 @@ use Rattle.client_ids.specs.ClientIds.{is_of}
 use Rattle.client_ids.specs.Short.{is_short, HasNone}
 use Rattle.client_ids.proofs.Ordered.{one-name}
 
--- what holds of an Ok
+-- facts about an Ok
 
 pub given-ok : {X E : Type 0} (P : Type 0) (r : Result X E) → is_ok r ≡ true → OnOk r P → P
 given-ok P (Ok x) ok h = h
@@ -21,7 +21,7 @@ or_assoc : (a b c : Bool) → ((a || b) || c) ≡ (a || (b || c))
 or_assoc true b c = refl
 or_assoc false b c = refl
 
--- a name more
+-- insertion of a name
 
 abbrev pub alike : ClientId → ClientId → Bool
 alike = eq_of_both (on (λ (n : ClientId). n.who) nat_eq) (on (λ (n : ClientId). n.id) (pointwise nat_eq))
@@ -42,7 +42,7 @@ one-more name old new h who id =
     let q : ClientId = record { who = who; id = id } in
     h q ∙ ap (λ b. cond b true (list_any (alike q) old)) (alike-laws.symm name q) ∙ cond-or (alike q name) (list_any (alike q) old)
 
--- of two lists, the first or the second has one more
+-- of two lists, the first or the second gains an element
 
 pub one-more_first : (name : ClientId) (old new others : List ClientId) → Gains name old new → Gains name (old ++ others) (new ++ others)
 one-more_first name old new others h who id =
@@ -63,7 +63,7 @@ one-more_second name others old new h who id =
     swapped true false c = refl
     swapped false b c = refl
 
--- names without those of a kind, and one more that is not of it
+-- names without those of a kind, plus one that is not of it
 pub still-none : (short : Bool) (name : ClientId) (old new : List ClientId) → is_short name.who name.id ≡ not short → HasNone short old → Gains name old new → HasNone short new
 still-none short name old new other none more who id e = more who id ∙ ap (λ b. is_of who id name || b) (none who id e) ∙ by (is_of who id name) refl
   where

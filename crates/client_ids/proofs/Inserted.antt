@@ -12,7 +12,7 @@ use Rattle.client_ids.specs.Search.{IsPlace}
 use Rattle.client_ids.specs.ClientIds.{name_cmp, no_name, name_at, place_cmp, IsIndex, answer_behind, lowered}
 use Rattle.client_ids.proofs.Ordered.{name_total, less-nat}
 
--- a name more behind those that are no greater
+-- insertion of a name after those that are not greater
 
 -- the earlier names, and the new one
 name-before : (names : List ClientId) (n : ClientId) (k : ℕ) → k < length names → name_at (names ++ n ∷ []) k ≡ name_at names k
@@ -42,7 +42,7 @@ new-place_cmp names n b h high =
     let less : name_cmp n (name_at names b) ≡ Less = name_total.antisymm n (name_at names b) ∙ higher (name_cmp (name_at names b) n) high in
     ap (λ x. ordering_then (name_cmp x (name_at (names ++ n ∷ []) b)) (nat_cmp (length names) b)) (name-new names n) ∙ ap (λ y. ordering_then (name_cmp n y) (nat_cmp (length names) b)) (name-before names n b h) ∙ ap (λ o. ordering_then o (nat_cmp (length names) b)) less
 
--- where a place of the longer index comes from
+-- the origin of a place of the longer index
 data Spot (index : List ℕ) (at new i : ℕ) : Type 0 where
   Before : i < at → get_or (insert index at new) i 0 ≡ get_or index i 0 → Spot index at new i
   Here : i ≡ at → get_or (insert index at new) i 0 ≡ new → Spot index at new i

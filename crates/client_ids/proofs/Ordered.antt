@@ -44,7 +44,7 @@ rise-less a b q h = ranks-index (name_cmp a q) (name_cmp b q) (record {
 rise-equal : (a b q : ClientId) → name_cmp a b ≡ Equal → ordering_index (name_cmp a q) ≤ ordering_index (name_cmp b q)
 rise-equal a b q h = let same = ap ordering_index (name_total.congr a b q h) in omega (arith, same)
 
--- what the order of two places says of their names
+-- the order of two places gives the order of their names
 
 pub record Then (o p : Ordering) : Type 0 where
   pub which : (o ≡ Less) ⊎ ((o ≡ Equal) × (p ≡ Less))
@@ -100,7 +100,7 @@ spelled-of who id n = by_who (nat_lt n.who who) (n.who == who) (who == n.who) n.
     by_who false false true w v a b e f g h = absurd (grind (arith, nat_tests))
     by_who false false false w v a b e f g h = refl
 
--- what is told of a name by its participant and bytes is told of each that is the same
+-- a function of a name's participant and bytes is the same for each equal name
 pub one-name : {X : Type 0} (f : ℕ → List ℕ → X) (who : ℕ) (id : List ℕ) (n : ClientId) → is_of who id n ≡ true → f n.who n.id ≡ f who id
 one-name f who id n h = let parts = both (who == n.who) (bytes_eq id n.id) h in ap (λ w. f w n.id) (sym (same who n.who parts.0)) ∙ ap (f who) (sym ((bytes_eq-Decides id n.id).0 parts.1))
   where
@@ -135,7 +135,7 @@ one-index Less h = absurd (omega (arith, h))
 one-index Equal h = refl
 one-index Greater h = absurd (omega (arith, h))
 
--- a name behind one that is equal to another, and not equal to it
+-- a name after an equal one, and not equal to it
 
 reversed-less : (o p : Ordering) → o ≡ ordering_reverse p → p ≡ Less → ordering_index o ≡ 2
 reversed-less o Less h e = ap ordering_index h
@@ -148,7 +148,7 @@ not_behind names who id a b same h l equal = elim (then-less (name_cmp (name_at 
   | inr e ↦ omega (arith, nat-less a b e.1, l)
 ]
 
--- what stands at the place that a search found is the first of its name
+-- the place that a search found has the first occurrence of its name
 
 first-least : (names : List ClientId) (index : List ℕ) (who : ℕ) (id : List ℕ) (place : ℕ) → IsIndex names index → place < length index → name_order (name_at names (get_or index place 0)) who id ≡ Equal → ((k : ℕ) → k < place → ordering_index (answer_at names index who id k) ≡ 0)
     → (j : ℕ) → j < get_or index place 0 → is_of who id (name_at names j) ≡ false

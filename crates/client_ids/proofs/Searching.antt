@@ -4,13 +4,13 @@ use Rattle.std.specs.declared.cmp.Ordering.TheVariants.{Less, Equal, Greater}
 use Rattle.std.specs.Ordering.{is_lt, is_eq, ordering_index}
 use Rattle.client_ids.specs.Search.{AreRising, IsPlace, IsFew}
 
--- how many comparisons are left, and what they may still have to divide
+-- comparisons left, and the range left to halve
 pub record Left (n d before now size : ℕ) : Type 0 where
   pub left : ℕ
   pub all : now + left ≡ before + d
   pub fits : size < 2 ^ left
 
--- what a search knows as it looks between low and high
+-- the state of a search between low and high
 pub record Looking (answer : ℕ → Ordering) (n low high : ℕ) (found : Bool) (before now : ℕ) : Type 0 where
   pub order : low ≤ high
   pub within : high ≤ n
@@ -31,7 +31,7 @@ looking-first answer n before = record {
   few = λ d h. record { left = d; all = refl; fits = omega (arith, h) };
 }
 
--- half of it takes one comparison less
+-- half of the range takes one comparison less
 double : (l : ℕ) → 2 ^ (suc l) ≡ 2 ^ l + 2 ^ l
 double l = omega arith
 
@@ -103,7 +103,7 @@ looked-place answer n low high found before now l done =
 pub looked-few : (answer : ℕ → Ordering) (n low high : ℕ) (found : Bool) (before now : ℕ) → Looking answer n low high found before now → IsFew n before now
 looked-few answer n low high found before now l d h = let f = l.few d h in omega (arith, f.all)
 
--- there is room for one comparison more
+-- another comparison fits the bound
 pub looked-headroom : (answer : ℕ → Ordering) (n low high : ℕ) (found : Bool) (before now : ℕ) → Looking answer n low high found before now → low < high → n < 2 ^ 64 → before + 64 < 2 ^ 64 → now + 1 < 2 ^ 64
 looked-headroom answer n low high found before now l some fits headroom = let f = l.few 64 fits in counted f.left now before (high - low) f.all f.fits (omega (arith, some)) headroom
   where

@@ -3,7 +3,7 @@ use Rattle.std.specs.Vec.{vec_capacity, vec_len}
 use Rattle.client_ids.specs.declared.client_id.ClientId.{ClientId}
 use Rattle.client_ids.specs.declared.index.IdIndex.TheInside.{Inside}
 
--- names in the order in which they came, and room for so many more
+-- names in order of arrival, and spare capacity
 pub record Names : Type 0 where
   pub names : List ClientId
   pub headroom : ℕ

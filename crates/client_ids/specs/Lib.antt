@@ -1,12 +1,12 @@
--- what a search answers
+-- results of a search
 pub mod Search
--- names, and their order
+-- names and their order
 pub mod ClientIds
--- what an index of names is seen as
+-- the model of an index of names
 pub mod Held
--- which names are kept in fewer bytes
+-- names that take fewer bytes
 pub mod Short
--- what used names are seen as
+-- the model of used names
 pub mod Used
--- how the bytes of a name are fed to a hasher
+-- the bytes of a name as fed to a hasher
 pub mod Pieces

@@ -1,7 +1,7 @@
 use Rattle.std.specs.Prelude.{ℕ, List, [], ◌∷◌}
 use Rattle.std.specs.Hash.{HashWrites}
 
--- the bytes by four, and what is left of them
+-- the bytes in fours, and the rest
 abbrev pub pieces : List ℕ → HashWrites
 pieces [] = [] ∷ []
 pieces (a ∷ []) = (a ∷ []) ∷ []

@@ -4,11 +4,11 @@ use Rattle.client_ids.specs.declared.client_id.ClientId.{ClientId}
 use Rattle.client_ids.specs.declared.used.UsedIds.TheInside.{Inside}
 use Rattle.client_ids.specs.Short.{HasNone}
 
--- so many names may be added in all
+-- the most names that may be added
 abbrev pub most : ℕ
 most = 2 ^ 63 - 1
 
--- names that were used, each once and in no order; how many were added; and room for so many more
+-- used names, each once and unordered; the number added; and spare capacity
 pub record Known : Type 0 where
   pub names : List ClientId
   pub count : ℕ
@@ -17,7 +17,7 @@ pub record Known : Type 0 where
 abbrev pub known : Inside → Known
 known a = record { names = keys a.short ++ keys a.others; count = a.count; headroom = min (min (spare a.short) (spare a.others)) (most - a.count) }
 
--- a short name is kept among the short ones alone, and each other among the others
+-- short names are in the short set alone, other names in the other set
 pub record AreUsed (a : Inside) : Type 0 where
   pub few : a.count ≤ most
   pub short : HasNone false (keys a.short)

@@ -1,4 +1,4 @@
-//! A participant's identifier, and how it compares with another.
+//! A participant's identifier, and the order of such names.
 ghost use Rattle.std.specs.Prelude.{◌≡◌, ◌++◌, ◌&&◌, nat_eq, bytes_eq};
 ghost use Rattle.std.specs.Hash as fed;
 ghost use Rattle.std.specs.List.{fold};
@@ -15,8 +15,8 @@ use std::cmp::Ordering;
 use std::hash::{Hash, Hasher};
 
 #[tactic(auto, using(crate::proofs::Pieces::pieces_more, crate::proofs::Pieces::pieces_last))]
-// Feeds bytes by four: a hash that takes them one by one takes three times as long, and one that takes more at once can be made
-// nothing by who picks them.
+// Four bytes at a time: byte by byte takes three times as long, and with larger pieces whoever picks the bytes could
+// cancel the hash.
 pub(crate) fn feed<H: Hasher>(bytes: &[u8], state: &mut H)
     ensures { state.new ≡ fold H.write state.old (pieces bytes.now) }
 {
@@ -28,7 +28,7 @@ pub(crate) fn feed<H: Hasher>(bytes: &[u8], state: &mut H)
     state.write(rest);
 }
 
-/// An identifier, and the participant that used it.
+/// A name: an identifier and the participant that used it.
 #[derive(Clone, Copy)]
 pub struct ClientId {
     pub who: Who,
@@ -60,7 +60,7 @@ impl Hash for ClientId {
     }
 }
 
-// The bytes as digits behind a number; what passes 2^64 falls off.
+// The bytes as digits that continue a number, modulo 2^64.
 fn digits_behind(start: u64, bytes: &[u8]) -> u64
     ensures { result ≡ digits_behind start bytes.now }
 {
@@ -71,15 +71,15 @@ fn digits_behind(start: u64, bytes: &[u8]) -> u64
     hash_key
 }
 
-/// A number in which almost any two names differ. Names are in the order of their marks, so that one seldom has to be looked up to be
-/// compared; which number it is is a choice, on which no promise rests.
+/// Hash key of a name. Names are sorted by it, so that a comparison seldom looks a name up. No promise depends on its
+/// value.
 pub fn hash_key(who: Who, id: &Identifier) -> u64
     ensures { result ≡ hash_key_of who id.now }
 {
     digits_behind(u64::from(who.place()), id.as_slice())
 }
 
-/// How a name compares with a participant's identifier of this mark: by mark, then by participant, then by the bytes.
+/// Order of a name and a participant's identifier with this hash key: by hash key, then participant, then bytes.
 pub(crate) fn compare_id(name: &ClientId, key_of_it: u64, who: Who, id: &Identifier) -> Ordering
     ensures { result ≡ hash_key_order name.now key_of_it who id.now }
 {

@@ -1,4 +1,4 @@
-//! A search in places that are in order, and how many of them it looks at.
+//! Binary search, with a count of comparisons.
 ghost use Rattle.std.specs.Prelude.{◌≡◌, ℕ, ◌+◌, ◌≤◌, ◌<◌, ◌^◌, List};
 ghost use Rattle.std.specs.declared.cmp.Ordering.{Ordering as Order};
 ghost use Rattle.std.specs.Ordering.{is_lt, is_eq};
@@ -8,7 +8,7 @@ use fix_dictionary::Identifier;
 use participants::Who;
 use std::cmp::Ordering;
 
-/// Places that can be compared with a participant's identifier, and the count of these comparisons.
+/// Sorted places that compare with a participant's identifier and count the comparisons.
 pub trait Probe {
     ghost size: { Self → ℕ };
 
@@ -16,11 +16,10 @@ pub trait Probe {
 
     ghost count: { Self → ℕ };
 
-    /// How many places there are.
     fn len(&self) -> usize
         ensures { result ≡ size self.now };
 
-    /// How what stands at a place compares with a participant's identifier; counts one more.
+    /// Compares the place with a participant's identifier, and adds 1 to the count.
     fn compare(&mut self, k: usize, who: Who, id: &Identifier) -> Ordering
         requires within { k < size self.old }
         requires headroom { count self.old + 1 < 2 ^ 64 }
@@ -42,8 +41,8 @@ fn is_equal(order: Ordering) -> bool
     matches!(order, Ordering::Equal)
 }
 
-/// The first place whose answer is not Less, and whether it is Equal. It looks at no more places than the count of them has
-/// binary digits.
+/// The first place whose answer is not Less, and whether it is Equal. Makes at most as many comparisons as the length
+/// has binary digits.
 pub fn search<P: Probe>(probe: &mut P, who: Who, id: &Identifier) -> (usize, bool)
     requires headroom { P.count probe.old + 64 < 2 ^ 64 }
     requires rising { AreRising (P.answer probe.old who id.now) (P.size probe.old) }

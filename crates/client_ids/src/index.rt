@@ -1,4 +1,4 @@
-//! Names in the order in which they came, and their places in the order of the names.
+//! Names in order of arrival, with an index sorted by name.
 ghost use Rattle.std.specs.Prelude.{◌≡◌, ℕ, ◌+◌, ◌≤◌, ◌<◌, ◌^◌, [], ◌∷◌, ◌++◌, length, map, slice_index, IfOk, Bool};
 ghost use Rattle.std.specs.List.{list_any, remove};
 ghost use Rattle.std.specs.Vec.{vec_capacity, vec_len};
@@ -13,7 +13,7 @@ use participants::Who;
 use std::alloc::{AllocError, Global};
 use std::marker::Model;
 
-/// Names, and an index of 4 bytes a name that is sorted by name, and by place where a name stands more than once.
+/// Names, and an index of 4 bytes a name, sorted by name and then by place.
 #[derive(Drop)]
 pub struct IdIndex {
     names: Vec<ClientId>,
@@ -31,7 +31,7 @@ impl Model for IdIndex {
     ghost invariant = { λ a. IsIndex a.names.items a.index.items };
 }
 
-// The first place in the index whose name is no lesser one, whether it is this one, and how many names were looked at.
+// The first place in the index with a name that is not less, whether it is equal, and the number of names looked at.
 fn place(names: &[ClientId], index: &[u32], who: Who, id: &Identifier) -> (usize, bool, u64)
     requires { IsIndex names.now index.now }
     ensures place { IsPlace (answer_at names.now index.now who id.now) (length index.now) result.0 result.1 }
@@ -47,7 +47,7 @@ fn place(names: &[ClientId], index: &[u32], who: Who, id: &Identifier) -> (usize
     (place, found, probe.count)
 }
 
-// The place in the index behind the names that are no greater ones.
+// The place in the index after the names that are not greater.
 fn behind(names: &[ClientId], index: &[u32], name: &ClientId) -> usize
     requires { IsIndex names.now index.now }
     ensures { (found : Bool) × IsPlace (answer_behind names.now index.now name.now.who name.now.id) (length index.now) result found }
@@ -62,7 +62,7 @@ fn behind(names: &[ClientId], index: &[u32], name: &ClientId) -> usize
     at
 }
 
-// Where in the index a place stands.
+// The index position of a place.
 fn spot(index: &[u32], place: u32) -> usize
     requires { (i : ℕ) × (i < length index.now) × (slice_index index.now i ≡ place) }
     ensures within { result < length index.now }
@@ -76,14 +76,14 @@ fn spot(index: &[u32], place: u32) -> usize
     0
 }
 
-// A place, once another is gone.
+// A place, after the removal of another.
 fn closed(gone: u32, place: u32) -> u32
     ensures { result ≡ closed gone place }
 {
     if gone < place { place - 1 } else { place }
 }
 
-// The places behind one that is gone are one less.
+// Decrements the places after a removed one.
 fn close_up(index: &mut Vec<u32>, gone: u32)
     ensures items { index.new.items ≡ map (closed gone) index.old.items }
     ensures len { vec_len index.new ≡ vec_len index.old }
@@ -96,7 +96,6 @@ fn close_up(index: &mut Vec<u32>, gone: u32)
 }
 
 impl IdIndex {
-    /// No names.
     pub fn new(alloc: Global) -> IdIndex
         ensures { result.names ≡ [] }
     {
@@ -106,7 +105,6 @@ impl IdIndex {
         }
     }
 
-    /// How many names there are.
     pub fn len(&self) -> usize
         ensures value { result ≡ length self.now.names }
         ensures bound { result < 2 ^ 63 }
@@ -114,7 +112,7 @@ impl IdIndex {
         self.names.len()
     }
 
-    /// Makes room for so many names more.
+    /// Reserves capacity for this many further names.
     pub fn reserve(&mut self, more: usize) -> Result<(), AllocError>
         ensures kept { self.new.names ≡ self.old.names }
         ensures headroom { IfOk result (λ _. more ≤ self.new.headroom) }
@@ -128,8 +126,8 @@ impl IdIndex {
         Ok(())
     }
 
-    /// The place of the first name that is this one, and how many names were looked at: no more than the count of them has
-    /// binary digits.
+    /// The place of the first occurrence of this name, and the number of names looked at: at most as many as the length
+    /// has binary digits.
     pub fn first(&self, who: Who, id: &Identifier) -> (Option<usize>, u32)
         ensures first { IsFirst self.now.names who id.now result.0 }
         ensures few { (d : ℕ) → length self.now.names < 2 ^ d → result.1 ≤ d }
@@ -142,7 +140,6 @@ impl IdIndex {
         }
     }
 
-    /// Whether there is such a name.
     pub fn has(&self, who: Who, id: &Identifier) -> bool
         ensures { result ≡ list_any (is_of who id.now) self.now.names }
     {
@@ -150,7 +147,7 @@ impl IdIndex {
         first.is_some()
     }
 
-    /// One name more, for which there is room.
+    /// Appends a name, within reserved capacity.
     pub fn add(&mut self, name: ClientId)
         requires { 1 ≤ self.old.headroom }
         ensures names { self.new.names ≡ self.old.names ++ name ∷ [] }
@@ -162,7 +159,7 @@ impl IdIndex {
         let _inserted = self.index.insert(at, place as u32);
     }
 
-    /// The name at a place is gone; those behind move up.
+    /// Removes the name at a place; later places decrease by 1.
     pub fn remove(&mut self, place: usize)
         requires { place < length self.old.names }
         ensures names { self.new.names ≡ remove self.old.names place }

@@ -1,4 +1,4 @@
-//! Identifiers of participants, in order, and the search among them; and those that were used.
+//! Participants' identifiers: a sorted index with binary search, and a hash set of used ones.
 #![tactic(auto)]
 
 mod client_id;

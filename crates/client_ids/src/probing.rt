@@ -1,4 +1,4 @@
-//! The places of an index as a search looks at them.
+//! Places of an index, as a search compares them.
 ghost use Rattle.std.specs.Prelude.{◌≡◌, ℕ, ◌<◌, List, length, slice_index};
 ghost use Rattle.client_ids.specs.ClientIds.{IsWithin, keyed_at, keyed_behind, lowered};
 
@@ -9,7 +9,7 @@ use participants::Who;
 use std::cmp::Ordering;
 
 #[derive(Drop)]
-/// An index, to find the first place of a name of this mark.
+/// Probe of an index for the first place of a name with this hash key.
 pub(crate) struct FirstProbe<'a> {
     pub(crate) names: &'a [ClientId],
     pub(crate) index: &'a [u32],
@@ -37,7 +37,7 @@ impl<'a> Probe for FirstProbe<'a> {
 }
 
 #[derive(Drop)]
-/// An index, to find the place behind a name of this mark.
+/// Probe of an index for the place after a name with this hash key.
 pub(crate) struct LastProbe<'a> {
     pub(crate) names: &'a [ClientId],
     pub(crate) index: &'a [u32],

@@ -14,16 +14,16 @@ use participants::Who;
 use std::hash::{Hash, Hasher};
 use std::marker::Model;
 
-// The most bytes of a short identifier: those of a UUID's text.
+// Length of a UUID's text.
 const MAX_SHORT_LEN: usize = 36;
 
-// The last place of a participant whose identifiers may be short.
+// Last place of a participant whose identifiers may be short.
 const MAX_WHO: u32 = 65_535;
 
-/// A short identifier, and the participant that used it: 40 bytes, where a `ClientId` has 72.
+/// A short identifier and the participant that used it: 40 bytes, where a `ClientId` has 72.
 #[derive(Drop)]
 pub(crate) struct ShortId {
-    // The bytes, and behind them what is never read.
+    // The bytes, then padding that is never read.
     padded: [u8; 36],
     len: u8,
     place: u16,
@@ -40,7 +40,7 @@ impl Model for ShortId {
     ghost invariant = { λ s. s.len ≤ 36 };
 }
 
-/// Whether an identifier is short: of at most 36 bytes, of a participant whose place is below 65,536.
+/// At most 36 bytes, of a participant whose place is below 65,536.
 pub(crate) fn is_short(who: Who, id: &Identifier) -> bool
     ensures { result ≡ is_short who id.now }
 {
@@ -48,7 +48,6 @@ pub(crate) fn is_short(who: Who, id: &Identifier) -> bool
 }
 
 impl ShortId {
-    /// A short identifier of a participant.
     pub(crate) fn new(who: Who, id: &Identifier) -> ShortId
         requires { IsTrue (is_short who id.now) }
         ensures { result ≡ record { who = who; id = id.now } }

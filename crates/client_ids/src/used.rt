@@ -1,4 +1,4 @@
-//! Identifiers that were used, of which it is asked alone whether one is there.
+//! Used identifiers, for membership tests alone.
 ghost use Rattle.std.specs.Prelude.{◌≡◌, ℕ, ◌+◌, ◌≤◌, ◌<◌, ◌^◌, ◌||◌, [], false, List, IfOk};
 ghost use Rattle.std.specs.List.{list_any};
 ghost use Rattle.client_ids.specs.ClientIds.{is_of};
@@ -13,11 +13,11 @@ use std::collections::HashSet;
 use std::hash::{BuildHasherDefault, FoldHasher};
 use std::marker::Model;
 
-// No more names are added.
+// Most names that a set takes.
 const MAX_IDS: u64 = 0x7fff_ffff_ffff_ffff;
 
-/// Names that were used: whether one was is found by its hash, whatever the count of them. A short one (an identifier of at most 36 bytes,
-/// of a participant whose place is below 65,536) takes 48 bytes and the set's index, each other 80.
+/// Hash set of used names, with constant-time lookup. A short name (an identifier of at most 36 bytes, of a participant
+/// whose place is below 65,536) takes 48 bytes plus the set's index; any other takes 80.
 #[derive(Drop)]
 pub struct UsedIds {
     short: HashSet<ShortId, BuildHasherDefault<FoldHasher>, Global>,
@@ -36,7 +36,6 @@ impl Model for UsedIds {
 }
 
 impl UsedIds {
-    /// No names.
     pub fn new(alloc: Global) -> UsedIds
         ensures names { result.names ≡ [] }
         ensures count { result.count ≡ 0 }
@@ -48,7 +47,7 @@ impl UsedIds {
         }
     }
 
-    /// How many names were added.
+    /// Number of names added.
     pub fn count(&self) -> u64
         ensures value { result ≡ self.now.count }
         ensures bound { result < 2 ^ 63 }
@@ -56,7 +55,7 @@ impl UsedIds {
         self.count
     }
 
-    /// Makes room for so many names more.
+    /// Reserves capacity for this many further names.
     pub fn reserve(&mut self, more: usize) -> Result<(), AllocError>
         ensures names { (who : ℕ) (id : List ℕ) → list_any (is_of who id) self.new.names ≡ list_any (is_of who id) self.old.names }
         ensures count { self.new.count ≡ self.old.count }
@@ -70,7 +69,6 @@ impl UsedIds {
         self.others.reserve(more)
     }
 
-    /// Whether there is such a name.
     pub fn has(&self, who: Who, id: &Identifier) -> bool
         ensures { result ≡ list_any (is_of who id.now) self.now.names }
     {
@@ -81,7 +79,7 @@ impl UsedIds {
         }
     }
 
-    /// One name more, for which there is room.
+    /// Adds a name, within reserved capacity.
     pub fn add(&mut self, name: ClientId)
         requires { 1 ≤ self.old.headroom }
         ensures names { (who : ℕ) (id : List ℕ) → list_any (is_of who id) self.new.names ≡ (is_of who id name || list_any (is_of who id) self.old.names) }

@@ -6,7 +6,7 @@ use Rattle.toml.specs.declared.value.Value.{Value}
 use Rattle.config_format.specs.Names.{is_name}
 use Rattle.config_format.specs.Document.{entries_in, is_no_list, is_no_name, is_without_entry, text_in, values}
 
--- A list of a document and its values, and what is there at a key.
+-- A list of a document and its values, and the value at a key.
 
 pub values-items_of : (ds : List Data) → values (items_of ds) ≡ ds
 values-items_of [] = refl
@@ -70,7 +70,7 @@ without-items_of (d ∷ ds) = sym (ne_eqb (suc (length ds)) 0 (λ e. absurd (ome
 pub is_without_entry-array : (o : Option Data) (vs : List Value) → Some (items_view vs) ≡ option_and_then as_array o → is_without_entry o ≡ (length (map view vs) == 0)
 is_without_entry-array o vs h = ap is_without_entry (is_array o (items_view vs) (sym h)) ∙ without-items_of (map view vs)
 
--- what is there and is no value that is no name, is a name
+-- a stated value that is not a bad name is a name
 pub name-there : (o : Option Data) → is_none o ≡ false → is_no_name o ≡ false → is_name (text_in o) ≡ true
 name-there None h k = absurd (true≢false h)
 name-there (Some (string s)) h k = not-false (is_name s) k
@@ -81,12 +81,12 @@ name-there (Some (datetime d)) h k = absurd (true≢false k)
 name-there (Some (array ds)) h k = absurd (true≢false k)
 name-there (Some (table ms)) h k = absurd (true≢false k)
 
--- of a table that does not lack the key
+-- of a table that has the key
 pub key-there : (t : Option Members) (o : Option Data) → is_none t ≡ false → (is_some t && is_none o) ≡ false → is_none o ≡ false
 key-there None o h k = absurd (true≢false h)
 key-there (Some t) o h k = k
 
--- a list that is there and has an entry
+-- a stated list with an entry
 pub some-entries : (o : Option Data) → is_none o ≡ false → is_without_entry o ≡ false → is_no_list o ≡ false → nat_le 1 (length (entries_in o)) ≡ true
 some-entries None h k n = absurd (true≢false h)
 some-entries (Some (array no_items)) h k n = absurd (true≢false k)

@@ -8,21 +8,21 @@ use Rattle.toml.specs.View.{view}
 use Rattle.toml.specs.declared.value.Value.{Value}
 use Rattle.config_format.specs.Rows.{are_distinct_by}
 
--- Lists that are walked through.
+-- Searches through lists.
 
 list_any-map : {X Y : Type 0} (p : Y → Bool) (f : X → Y) (xs : List X) → list_any p (map f xs) ≡ list_any (λ x. p (f x)) xs
 list_any-map p f [] = refl
 list_any-map p f (x ∷ xs) = ap (λ b. p (f x) || b) (list_any-map p f xs)
 
--- a test of the values of a list, over what they stand for
+-- a test of the values of a list, over their models
 pub any-seen : (p : Data → Bool) (vs : List Value) (ds : List Data) → map view vs ≡ ds → list_any (λ v. p (view v)) vs ≡ list_any p ds
 any-seen p vs ds h = sym (list_any-map p view vs) ∙ ap (list_any p) h
 
--- one more of a list that is mapped
+-- another element of a mapped list
 pub map-more : {X Y : Type 0} (f : X → Y) (xs : List X) (i : ℕ) (x : X) → x ≡ get_or xs i x → i < length xs → map f (take (i + 1) xs) ≡ map f (take i xs) ++ (f x ∷ [])
 map-more f xs i x at within = ap (map f) (take_more xs i x within) ∙ (map-append f (take i xs) (get_or xs i x ∷ []) ∙ ap (λ y. map f (take i xs) ++ (f y ∷ [])) (sym at))
 
--- one more value is pushed behind those of the first so many
+-- another value pushed after the first ones
 pub pushed-more : {X Y : Type 0} (f : X → Y) (xs : List X) (i : ℕ) (x : X) (so_far new : List Y) (y : Y) → so_far ≡ map f (take i xs) → new ≡ so_far ++ (y ∷ []) → y ≡ f x → x ≡ get_or xs i x → i < length xs → new ≡ map f (take (i + 1) xs)
 pushed-more f xs i x so_far new y before more is at within = more ∙ ap (λ l. l ++ (y ∷ [])) before ∙ ap (λ z. map f (take i xs) ++ (z ∷ [])) is ∙ sym (map-more f xs i x at within)
 
@@ -37,11 +37,11 @@ all-at p xs i x all at within = by (p x) refl
 rest : {X : Type 0} (xs : List X) (i : ℕ) (x : X) → x ≡ get_or xs i x → i < length xs → drop i xs ≡ x ∷ drop (i + 1) xs
 rest xs i x at within = drop_more xs i x within ∙ ap (λ y. y ∷ drop (i + 1) xs) (sym at)
 
--- a member that stands again later
+-- a member that occurs again later
 pub distinct-found : {X : Type 0} (same : X → X → Bool) (xs : List X) (i : ℕ) (x : X) → x ≡ get_or xs i x → i < length xs → list_any (same x) (drop (i + 1) xs) ≡ true → are_distinct_by same (drop i xs) ≡ false
 distinct-found same xs i x at within again = ap (are_distinct_by same) (rest xs i x at within) ∙ ap (λ b. not b && are_distinct_by same (drop (i + 1) xs)) again
 
--- one that does not
+-- a member that does not
 pub distinct-passed : {X : Type 0} (same : X → X → Bool) (xs : List X) (i : ℕ) (x : X) → x ≡ get_or xs i x → i < length xs → list_any (same x) (drop (i + 1) xs) ≡ false → are_distinct_by same (drop i xs) ≡ are_distinct_by same (drop (i + 1) xs)
 distinct-passed same xs i x at within once = ap (are_distinct_by same) (rest xs i x at within) ∙ ap (λ b. not b && are_distinct_by same (drop (i + 1) xs)) once
 

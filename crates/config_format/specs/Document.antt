@@ -7,12 +7,12 @@ abbrev pub values : Items → List Data
 values no_items = []
 values (item d ds) = d ∷ values ds
 
--- the entries of a list; none where there is no list
+-- the entries of a list, or none where there is no list
 abbrev pub entries_in : Option Data → List Data
 entries_in (Some (array ds)) = values ds
 entries_in _ = []
 
--- a text; an empty one where there is none
+-- a text, or an empty one where there is none
 abbrev pub text_in : Option Data → List ℕ
 text_in (Some (string s)) = s
 text_in _ = []
@@ -24,18 +24,18 @@ text_at key entry = text_in (get key entry)
 abbrev pub lacks : List ℕ → Data → Bool
 lacks key entry = is_some (as_table entry) && is_none (get key entry)
 
--- a list that has no entry
+-- a list without an entry
 abbrev pub is_without_entry : Option Data → Bool
 is_without_entry (Some (array no_items)) = true
 is_without_entry _ = false
 
--- a value is stated that is no list
+-- a value is stated that is not a list
 abbrev pub is_no_list : Option Data → Bool
 is_no_list None = false
 is_no_list (Some (array ds)) = false
 is_no_list (Some d) = true
 
--- a value is stated that is no name
+-- a value is stated that is not a name
 abbrev pub is_no_name : Option Data → Bool
 is_no_name None = false
 is_no_name (Some (string s)) = not (is_name s)

@@ -1,6 +1,6 @@
--- what a name or a symbol may be
+-- the form of names and symbols
 pub mod Names
--- what a TOML document has at its keys
+-- the values of a TOML document at its keys
 pub mod Document
--- rows of which none stands twice
+-- distinct rows
 pub mod Rows

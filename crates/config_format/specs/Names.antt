@@ -1,7 +1,7 @@
 use Rattle.std.specs.Prelude.{ℕ, Bool, not, ◌&&◌, ◌==◌, nat_le, List, length}
 use Rattle.std.specs.List.{list_all}
 
--- a byte that a name may have: from 33 to 126, the comma excluded
+-- a byte of a name: from 33 to 126, the comma excluded
 abbrev pub is_name_byte : ℕ → Bool
 is_name_byte b = nat_le 33 b && (nat_le b 126 && not (b == 44))
 

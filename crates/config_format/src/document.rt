@@ -1,4 +1,4 @@
-//! What a TOML document has at its keys.
+//! The values of a TOML document at its keys.
 
 ghost use Rattle.std.specs.Prelude.{◌≡◌, is_none, map, option_map, option_and_then};
 ghost use Rattle.std.specs.List.{list_any};
@@ -26,7 +26,7 @@ pub fn is_absent(file: &Value, key: &str) -> bool
     file.get(key).is_none()
 }
 
-/// The entries of a list; none where there is no list.
+/// The entries of a list, or none where there is no list.
 pub fn entries<'a>(file: &'a Value, key: &str) -> &'a [Value]
     ensures { map view result.now ≡ entries_in (get key.now (view file.now)) }
 {
@@ -36,7 +36,7 @@ pub fn entries<'a>(file: &'a Value, key: &str) -> &'a [Value]
     list.as_slice()
 }
 
-/// The text at a key; an empty one where there is none.
+/// The text at a key, or an empty one where there is none.
 pub fn text_at<'a>(entry: &'a Value, key: &str) -> &'a [u8]
     ensures { result.now ≡ text_at key.now (view entry.now) }
 {
@@ -66,7 +66,7 @@ pub fn list_lacks(file: &Value, list: &str, key: &str) -> bool
     any_lacks(entries(file, list), key)
 }
 
-/// Whether a list is stated that has no entry.
+/// Whether a list is stated without an entry.
 pub fn is_without_entry(file: &Value, key: &str) -> bool
     ensures { result ≡ is_without_entry (get key.now (view file.now)) }
 {
@@ -76,7 +76,7 @@ pub fn is_without_entry(file: &Value, key: &str) -> bool
     list.as_slice().is_empty()
 }
 
-/// Whether a value is stated that is no list.
+/// Whether a value is stated that is not a list.
 pub fn is_no_list(file: &Value, key: &str) -> bool
     ensures { result ≡ is_no_list (get key.now (view file.now)) }
 {
@@ -86,7 +86,7 @@ pub fn is_no_list(file: &Value, key: &str) -> bool
     }
 }
 
-/// Whether a value is stated that is no name: no text, or one of another form.
+/// Whether a value is stated that is not a name: not a text, or one of another form.
 pub fn is_no_name(entry: &Value, key: &str) -> bool
     ensures { result ≡ is_no_name (get key.now (view entry.now)) }
 {

@@ -1,4 +1,4 @@
-//! What the files of a venue have in common: names, and what a TOML document has at its keys.
+//! The common parts of a venue's files: names, and the values of a TOML document at its keys.
 #![tactic(auto)]
 
 mod document;

@@ -7,7 +7,8 @@ ghost use Rattle.config_format.specs.Names.{has_length_of_name, is_name, is_name
 use std::alloc::{AllocError, Global};
 use std::marker::Model;
 
-/// The name of a participant or of the venue, or the symbol of an instrument: 1 to 64 bytes from 33 to 126, the comma excluded.
+/// The name of a participant or of the venue, or the symbol of an instrument: 1 to 64 bytes from 33 to 126, the comma
+/// excluded.
 #[derive(Drop)]
 pub struct Name {
     bytes: Vec<u8>,
@@ -25,7 +26,7 @@ impl Model for Name {
 }
 
 impl Name {
-    /// The name of these bytes, which have its form.
+    /// The name of these bytes, which must have its form.
     pub fn from_slice(alloc: Global, bytes: &[u8]) -> Result<Name, AllocError>
         requires { is_name bytes.now ≡ true }
         ensures { IfOk result (λ name. name ≡ bytes.now) }
@@ -34,7 +35,6 @@ impl Name {
         Ok(Name { bytes })
     }
 
-    /// Its bytes.
     pub fn as_slice(&self) -> &[u8]
         ensures value { result.now ≡ self.now }
         ensures form { is_name result.now ≡ true }
@@ -42,7 +42,6 @@ impl Name {
         &self.bytes
     }
 
-    /// Whether it has these bytes.
     pub fn is(&self, bytes: &[u8]) -> bool
         ensures { result ≡ bytes_eq bytes.now self.now }
     {
@@ -68,7 +67,6 @@ fn has_name_bytes(bytes: &[u8]) -> bool
     bytes.iter().all(|b| is_name_byte(*b))
 }
 
-/// Whether bytes have the form of a name.
 pub(crate) fn is_name(bytes: &[u8]) -> bool
     ensures { result ≡ is_name bytes.now }
 {

@@ -22,7 +22,7 @@ both true true h k = refl
 both true false h k = k
 both false c h k = h
 
--- what all sides pass, the earliest passes and the one that is found
+-- a property of all sides holds for the earliest and for the one found
 
 pick : (c : Bool) (q : HeldSide → Bool) (h j k : HeldSide) → q h ≡ true → q j ≡ true → (if c then Some j else Some h) ≡ Some k → q k ≡ true
 pick true q h j k qh qj e = let same : j ≡ k = cc in ap q (sym same) ∙ qj
@@ -44,7 +44,7 @@ find-passes : (q n : HeldSide → Bool) (hs : List HeldSide) (k : HeldSide) → 
 find-passes q n [] k all e = cc
 find-passes q n (h ∷ hs) k all e = let p : (q h ≡ true) × (list_all q hs ≡ true) = parts (q h) (list_all q hs) all in found_one (n h) q h k (find n hs) p.0 (find-passes q n hs k p.1) e
 
--- what all sides pass, those that are left of them pass, and those pass the test that left them
+-- a property of all sides holds for those filtered, and so does the filter
 
 kept : (b : Bool) (q : HeldSide → Bool) (h : HeldSide) (hs : List HeldSide) → q h ≡ true → list_all q hs ≡ true → list_all q (cond b (h ∷ hs) hs) ≡ true
 kept true q h hs qh qs = both (q h) (list_all q hs) qh qs
@@ -62,7 +62,7 @@ filter-own : (q : HeldSide → Bool) (hs : List HeldSide) → list_all q (filter
 filter-own q [] = refl
 filter-own q (h ∷ hs) = kept_own (q h) q h (filter q hs) refl (filter-own q hs)
 
--- what all facts pass, the sides that they hold pass
+-- a property of all facts holds for the sides that they hold
 
 sides-all : (p : Fact → Bool) (fs : List Fact) → list_all p fs ≡ true → list_all (λ h. p (Held h)) (held_sides fs) ≡ true
 sides-all p [] all = refl

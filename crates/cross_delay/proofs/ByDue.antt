@@ -8,7 +8,7 @@ use Rattle.venue_rules.specs.declared.facts.HeldSide.{HeldSide}
 use Rattle.venue_rules.specs.Delay.{earlier, earliest, releases}
 use Rattle.cross_delay.specs.ByDue.{AreRising, by_due, first_due, put_first, put_last, step}
 
--- Sides by the moment at which they fall due.
+-- Sides by due moment.
 
 is_less : (a b : ℕ) → nat_lt a b ≡ true → a < b
 is_less a b h = grind (arith, nat_tests)
@@ -61,7 +61,7 @@ first-by_due t (h ∷ hs) = first-put t h (by_due hs) ∙ by (nat_le h.due t) (f
     by true e = ap (earlier h) e
     by false e = e
 
--- one more that comes last
+-- the last to arrive
 
 commute-end : (x h : HeldSide) (b : Bool) → nat_lt h.due x.due ≡ b → put_first x (h ∷ []) ≡ put_last h (x ∷ [])
 commute-end x h true e = rw (turned x.due h.due, e) refl
@@ -84,7 +84,7 @@ pub by_due-more : (hs : List HeldSide) (h : HeldSide) → by_due (hs ++ h ∷ []
 by_due-more [] h = refl
 by_due-more (x ∷ hs) h = ap (put_first x) (by_due-more hs h) ∙ commute x h (by_due hs)
 
--- they rise
+-- due moments rise
 
 rises-low : (low high : ℕ) (ks : List HeldSide) → low ≤ high → AreRising high ks → AreRising low ks
 rises-low low high [] h r = tt
@@ -118,7 +118,7 @@ rises-filter p low (k ∷ ks) r = by (p k) (rises-filter p k.due ks r.1)
     by true ih = (r.0, ih)
     by false ih = rises-low low k.due (filter p ks) r.0 ih
 
--- a fact more
+-- a further fact
 pub rises-step : (hs : List HeldSide) (f : Fact) → AreRising 0 hs → AreRising 0 (step hs f)
 rises-step hs (Held h) r = rises-last 0 h hs (omega arith) r
 rises-step hs (Unheld u) r = rises-filter (λ h. not (releases h (Unheld u))) 0 hs r
@@ -142,7 +142,7 @@ rises-far low (k ∷ ks) r zero (suc j) d h m = rises-least k.due ks j d r.1 (om
 rises-far low (k ∷ ks) r (suc i) zero d h m = absurd (omega (arith, h))
 rises-far low (k ∷ ks) r (suc i) (suc j) d h m = rises-far k.due ks r.1 i j d (omega (arith, h)) (omega (arith, m))
 
--- the place of one that comes last
+-- the place of the last to arrive
 
 pub put-last-is : (h : HeldSide) (ks : List HeldSide) (i : ℕ) → i ≤ length ks → IsPartitionPoint (λ (k : HeldSide). nat_le k.due h.due ≡ true) (λ (k : HeldSide). nat_le k.due h.due ≡ false) ks i → insert ks i h ≡ put_last h ks
 put-last-is h [] i l at = let none : i ≡ 0 = omega (arith, l) in ap (λ n. insert [] n h) none
@@ -151,7 +151,7 @@ put-last-is h (k ∷ ks) (suc i) l at =
     let soon : nat_le k.due h.due ≡ true = at.0 0 k (omega arith) (omega arith) in
     rw soon (ap (λ ls. k ∷ ls) (put-last-is h ks i (omega (arith, l)) ((λ n d a b. at.0 (suc n) d (omega arith) (omega (arith, b))), (λ n d a b. at.1 (suc n) d (omega (arith, a)) (omega (arith, b))))))
 
--- some of them
+-- a filter of them
 
 first-place : (p : HeldSide → Bool) (x : HeldSide) (ks : List HeldSide) → AreRising x.due ks → put_first x (filter p ks) ≡ x ∷ filter p ks
 first-place p x [] r = refl

@@ -10,7 +10,7 @@ use Rattle.venue_rules.specs.Delay.{due, earliest, find_held, held, releases}
 use Rattle.cross_delay.specs.DelayFacts.{delay_facts}
 use Rattle.cross_delay.specs.Views.{stands}
 
--- What the rules of the delay read off all facts of a venue is what they read off the facts of its delay.
+-- The delay's rules read the same off all facts of a venue as off the facts of its delay.
 
 sides-delay : (fs : List Fact) → held_sides (delay_facts fs) ≡ held_sides fs
 sides-delay [] = refl
@@ -57,7 +57,7 @@ crossed-delay fs who id = ap (list_any (λ h. is_name who id h.order.who h.cross
 
 -- identifiers of orders
 
--- one fact more in front: of the first kind, of the second, of a kind that uses none
+-- a further fact in front: of the first kind, of the second, of a kind that uses none
 
 in_first : (a x y z : Bool) → x ≡ (y || z) → (a || x) ≡ ((a || y) || z)
 in_first true x y z h = refl

@@ -17,7 +17,7 @@ use Rattle.cross_delay.specs.Plans.{drop_plan}
 use Rattle.cross_delay.specs.Steps.{Step, Nothing, Holds, Drops, IsAllowed, IsPlanOf, facts_of}
 use Rattle.cross_delay.specs.Views.{stands}
 
--- What stays true of held sides, step by step.
+-- The invariant of held sides, step by step.
 
 both : (b c : Bool) → b ≡ true → c ≡ true → (b && c) ≡ true
 both true true h k = refl
@@ -39,7 +39,7 @@ pub filter-less : (p q : HeldSide → Bool) (xs : List HeldSide) → ((x : HeldS
 filter-less p q [] h = omega arith
 filter-less p q (x ∷ xs) h = fewer (p x) (q x) x (filter p xs) (filter q xs) (h x) (filter-less p q xs h)
 
--- and fewer where one is left out
+-- and fewer where an element is left out
 
 left_out : (a b c : Bool) (x : HeldSide) (n : HeldSide → Bool) (xs ys : List HeldSide) → n x ≡ c → (a ≡ true → b ≡ true) → (c ≡ true → a ≡ false) → length xs ≤ length ys → (IsSome (find n ys) → length xs < length ys) → IsSome (find n (cond b (x ∷ ys) ys)) → length (cond a (x ∷ xs) xs) < length (cond b (x ∷ ys) ys)
 left_out a true true x n xs ys e h k l m f = let P : Bool → Type 0 = λ b. length (cond b (x ∷ xs) xs) < suc (length ys) in subst P (sym (k refl)) (omega arith)
@@ -87,7 +87,7 @@ step-few fs Nothing h k = omega arith
 step-few fs (Holds x) h k = let l : length (held fs) < held_capacity = below (length (held fs)) h.0 in omega arith
 step-few fs (Drops who id cancel) h k = omega arith
 
--- what was planned from here keeps what stays true
+-- a planned step keeps the invariant
 pub plan-kept : (delay : Contents) (added : List Fact) → IsDelay delay.facts → IsPlanOf delay added → IsDelay (delay.facts ++ added)
 plan-kept delay added kept plan = record {
   own = list_all-append is_delay_fact delay.facts added ∙ both (are_own delay.facts) (are_own added) kept.own (ap are_own plan.made ∙ step-own plan.step);
@@ -102,7 +102,7 @@ planned facts delay step added same h e headroom = record {
   headroom = headroom;
 }
 
--- fewer sides are held once one is dropped
+-- dropping a side lowers the count
 
 and_parts : (b c : Bool) → (b && c) ≡ true → (b ≡ true) × (c ≡ true)
 and_parts true true h = (refl, refl)

@@ -22,7 +22,7 @@ use Rattle.cross_delay.specs.Views.{stands}
 use Rattle.cross_delay.proofs.ByDue.{by_due-more, filter-by_due, find-by_due, first-by_due, length-by_due}
 use Rattle.cross_delay.proofs.Keeping.{filter-less}
 
--- What the facts leave: the sides that are held, and the identifiers that were used.
+-- What is kept of the facts: held sides and used identifiers.
 
 or_false : (b : Bool) → (b || false) ≡ b
 or_false true = refl
@@ -80,7 +80,7 @@ orders-added fs gs = filter_map-append order_name fs gs
 pub crosses-added : (fs gs : List Fact) → cross_names (fs ++ gs) ≡ cross_names fs ++ cross_names gs
 crosses-added fs gs = filter_map-append cross_name fs gs
 
--- what is read off the sides that are held
+-- readings of the held sides
 
 filter-twice : (p q r : HeldSide → Bool) → ((h : HeldSide) → r h ≡ (q h && p h)) → (hs : List HeldSide) → filter r hs ≡ filter p (filter q hs)
 filter-twice p q r same [] = refl
@@ -105,7 +105,7 @@ found-kept fs who id known =
     let twice = filter-twice n s (λ h. s h && n h) (λ h. refl) (held_sides fs) in
     find-by_due n (held fs) (omega (arith, ap length twice, filter-less (λ h. s h && n h) n (held_sides fs) (λ h. second (s h) (n h)), known.apart who id))
 
--- a side more is held
+-- a further side is held
 
 alike : (p q : HeldSide → Bool) (hs : List HeldSide) → ((h : HeldSide) → p h ≡ q h) → filter p hs ≡ filter q hs
 alike p q [] same = refl
@@ -124,7 +124,7 @@ held-held fs h new =
     ∙ filter-append (stands fs) (held_sides fs) (h ∷ [])
     ∙ ap (λ b. held fs ++ cond (not b) (h ∷ []) []) new
 
--- the sides of a name are held no longer
+-- the hold of the sides with a name ends
 
 held-dropped : (fs : List Fact) (u : Release) → held (fs ++ Unheld u ∷ []) ≡ filter (λ h. not (releases h (Unheld u))) (held fs)
 held-dropped fs u =
@@ -179,7 +179,7 @@ found-used fs who id h = sides-used fs who id (find-any (λ k. is_name who id k.
 used-on : (fs gs : List Fact) (who : ℕ) (id : List ℕ) → is_order_id_used fs who id ≡ true → is_order_id_used (fs ++ gs) who id ≡ true
 used-on fs gs who id h = list_any-append (uses_order_id who id) fs gs ∙ left_true (is_order_id_used fs who id) (is_order_id_used gs who id) h
 
--- what stays true of the identifiers, step by step
+-- the invariant of the identifiers, step by step
 
 none-named : (n : HeldSide → Bool) (hs : List HeldSide) → (list_any n hs ≡ true → ⊥) → length (filter n hs) ≡ 0
 none-named n [] h = refl
@@ -244,7 +244,7 @@ sides-step fs (Drops who id cancel) known allowed =
     let u : Release = record { who = who; id = id; cancel = cancel } in
     ap by_due (held-dropped fs u) ∙ filter-by_due (λ h. not (releases h (Unheld u))) (held fs)
 
--- what was planned from here
+-- a planned step
 
 pub known-kept : (delay : Contents) (added : List Fact) → IsKnown delay.facts → IsPlanOf delay added → IsKnown (delay.facts ++ added)
 known-kept delay added known plan = rw plan.made (known-step delay.facts plan.step known plan.allowed)
@@ -252,7 +252,7 @@ known-kept delay added known plan = rw plan.made (known-step delay.facts plan.st
 pub sides-kept : (delay : Contents) (added : List Fact) → IsKnown delay.facts → IsPlanOf delay added → by_due (held (delay.facts ++ added)) ≡ steps (by_due (held delay.facts)) added
 sides-kept delay added known plan = rw plan.made (sides-step delay.facts plan.step known plan.allowed)
 
--- whether no more sides may be held
+-- whether the held sides are at capacity
 
 pub full-kept : (fs : List Fact) (sides : List HeldSide) → sides ≡ by_due (held fs) → nat_le held_capacity (length sides) ≡ is_full fs
 full-kept fs sides same = ap (nat_le held_capacity) (ap length same ∙ length-by_due (held fs))

@@ -8,7 +8,7 @@ use Rattle.client_ids.specs.declared.client_id.ClientId.{ClientId}
 use Rattle.cross_delay.specs.ByDue.{step, steps}
 use Rattle.cross_delay.specs.Used.{cross_name, cross_names, order_name, order_names}
 
--- One fact more of those that are added.
+-- A further added fact.
 
 drop-read : (fs : List Fact) (i : ℕ) (f : Fact) → i < length fs → f ≡ get_or fs i f → drop i fs ≡ f ∷ drop (i + 1) fs
 drop-read fs i f h e = drop_more fs i f h ∙ ap (λ g. g ∷ drop (i + 1) fs) (sym e)
@@ -16,7 +16,7 @@ drop-read fs i f h e = drop_more fs i f h ∙ ap (λ g. g ∷ drop (i + 1) fs) (
 take-read : (fs : List Fact) (i : ℕ) (f : Fact) → i < length fs → f ≡ get_or fs i f → take (i + 1) fs ≡ take i fs ++ f ∷ []
 take-read fs i f h e = take_more fs i f h ∙ ap (λ g. take i fs ++ g ∷ []) (sym e)
 
--- what it does to the sides
+-- its effect on the sides
 
 pub steps-more : (hs : List HeldSide) (fs : List Fact) (i : ℕ) (f : Fact) → i < length fs → f ≡ get_or fs i f → steps hs (drop i fs) ≡ steps (step hs f) (drop (i + 1) fs)
 steps-more hs fs i f h e = ap (steps hs) (drop-read fs i f h e)

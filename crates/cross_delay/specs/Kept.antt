@@ -4,11 +4,11 @@ use Rattle.venue_rules.specs.declared.facts.Fact.{Fact}
 use Rattle.venue_rules.specs.Delay.{held, held_capacity}
 use Rattle.cross_delay.specs.DelayFacts.{is_delay_fact}
 
--- these are facts of the delay alone
+-- facts of the delay alone
 abbrev pub are_own : List Fact → Bool
 are_own facts = list_all is_delay_fact facts
 
--- what stays true of the facts of the delay
+-- the invariant of the delay's facts
 pub record IsDelay (facts : List Fact) : Type 0 where
   pub own : are_own facts ≡ true
   pub few : length (held facts) ≤ held_capacity

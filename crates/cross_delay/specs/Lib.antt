@@ -1,16 +1,16 @@
--- which facts of a venue are its held sides'
+-- the facts of a venue's held sides
 pub mod DelayFacts
--- what is read off a fact
+-- readings of a fact
 pub mod Views
--- what a request adds
+-- the additions of a request
 pub mod Plan
 pub mod Plans
--- what is held, and what stays true of it
+-- the contents and their invariant
 pub mod Contents
 pub mod Kept
--- what may happen to held sides in one step
+-- the steps of held sides
 pub mod Steps
--- what is kept of the facts: the sides that are held, and the identifiers that were used
+-- what is kept of the facts: held sides and used identifiers
 pub mod GhostHistory
 pub mod ByDue
 pub mod Used

@@ -7,7 +7,7 @@ use Rattle.cross_delay.specs.declared.held.Refusal.{Refusal}
 use Rattle.cross_delay.specs.declared.held.Refusal.TheVariants.{Full, NoMemory}
 use Rattle.cross_delay.specs.Plan.{Plan}
 
--- no more sides may be held
+-- the held sides are at capacity
 abbrev pub is_full : List Fact → Bool
 is_full facts = nat_le held_capacity (length (held facts))
 
@@ -15,15 +15,15 @@ is_full facts = nat_le held_capacity (length (held facts))
 abbrev pub no_plan : Plan
 no_plan = record { facts = [] }
 
--- the plan of a side that is held
+-- the plan to hold a side
 abbrev pub hold_plan : HeldSide → Plan
 hold_plan h = record { facts = Held h ∷ [] }
 
--- the plan of a side that is held no longer: a cancel of this identifier took it away, or, with none, its moment came
+-- the plan to end a hold: by a cancel with this identifier, or, with none, because the side came due
 abbrev pub drop_plan : ℕ → List ℕ → Option (List ℕ) → Plan
 drop_plan who id cancel = record { facts = Unheld (record { who = who; id = id; cancel = cancel }) ∷ [] }
 
--- why a side is not held
+-- causes that refuse to hold a side
 abbrev pub IsHoldRefused : List Fact → Refusal → Type 0
 IsHoldRefused facts Full = is_full facts ≡ true
 IsHoldRefused facts NoMemory = Unit {0}

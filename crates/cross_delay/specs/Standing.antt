@@ -12,7 +12,7 @@ use Rattle.cross_delay.specs.Kept.{IsDelay}
 use Rattle.cross_delay.specs.GhostHistory.{facts_in}
 use Rattle.cross_delay.specs.Used.{cross_names, order_names}
 
--- a side that is held no longer had an identifier that was used, and no two sides have one identifier
+-- a side no longer held had a used identifier, and no two sides have one identifier
 pub record IsKnown (facts : List Fact) : Type 0 where
   pub released : (h : HeldSide) → list_any (releases h) facts ≡ true → is_order_id_used facts h.order.who h.order.id ≡ true
   pub apart : (who : ℕ) (id : List ℕ) → length (filter (λ h. is_name who id h.order.who h.order.id) (held_sides facts)) ≤ 1
@@ -20,7 +20,7 @@ pub record IsKnown (facts : List Fact) : Type 0 where
 abbrev pub contents : Inside → Contents
 contents h = record { facts = facts_in h.past; spare = record { headroom = h.headroom } }
 
--- what is kept is what the facts leave: the sides that are held, the first to fall due first, and the identifiers that were used
+-- what is kept of the facts: the held sides, the first to fall due first, and the used identifiers
 pub record IsStanding (h : Inside) : Type 0 where
   pub delay : IsDelay (facts_in h.past)
   pub known : IsKnown (facts_in h.past)

@@ -3,7 +3,7 @@ use Rattle.venue_rules.specs.declared.facts.Fact.{Fact}
 use Rattle.venue_rules.specs.declared.facts.Fact.TheVariants.{Held, Unheld}
 use Rattle.client_ids.specs.declared.client_id.ClientId.{ClientId}
 
--- the identifier of an order that a fact of the delay uses: of a held side, or of the cancel of one
+-- the order identifier that a fact of the delay uses: of a held side, or of the cancel of one
 abbrev pub order_name : Fact → Option ClientId
 order_name (Held h) = Some (record { who = h.order.who; id = h.order.id })
 order_name (Unheld u) = option_map (λ id. record { who = u.who; id = id }) u.cancel

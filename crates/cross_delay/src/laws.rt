@@ -1,4 +1,4 @@
-//! Laws of the definitions that the crates above use.
+//! Laws of the definitions, for the crates above.
 ghost use Rattle.std.specs.Prelude.{◌≡◌, ◌<◌, ◌≤◌, ℕ, Bool, true, ◌||◌, [], ◌∷◌, ◌++◌, List, Option, Some, IsSome, filter, length};
 ghost use Rattle.std.specs.List.{list_all};
 ghost use Rattle.venue_rules.specs.declared.facts.Entry.{Entry};
@@ -11,9 +11,9 @@ ghost use Rattle.venue_rules.specs.Delay.{due, find_held, held};
 ghost use Rattle.cross_delay.specs.DelayFacts.{delay_facts};
 ghost use Rattle.cross_delay.specs.Plans.{drop_plan};
 
-/// What the rules of the delay read off all facts of a venue is what they read off the facts of its delay. The identifiers
-/// of orders that a venue has used are those of its delay, and those of any facts that have all that entered or was
-/// removed. Fewer sides are held once one is dropped.
+/// The delay's rules read the same off all facts of a venue as off the facts of its delay. A venue's used order
+/// identifiers are those of its delay plus those of any facts with all entries and removals. Dropping a side lowers the
+/// count of held sides.
 pub fn delay_is_read_alone()
     ensures held { (fs : List FactValue) → held (delay_facts fs) ≡ held fs }
     ensures due { (fs : List FactValue) (t : ℕ) → due (delay_facts fs) t ≡ due fs t }
@@ -23,8 +23,8 @@ pub fn delay_is_read_alone()
     ensures falls { (fs : List FactValue) (who : ℕ) (id : List ℕ) (cancel : Option (List ℕ)) → IsSome (find_held fs who id) → length (held (fs ++ (drop_plan who id cancel).facts)) < length (held fs) }
 {}
 
-/// The side that is due at a moment falls due no later, and is held under its name. What holds of all facts of a delay holds of the side
-/// that is due, and of the one that is found by its name.
+/// A side due at a moment falls due no later, and is held under its name. A property of all facts of a delay holds for
+/// the side that is due, and for the one found by its name.
 pub fn due_side_is_held()
     ensures passed { (fs : List FactValue) (t : ℕ) (k : Side) → due fs t ≡ Some k → k.due ≤ t }
     ensures named { (fs : List FactValue) (t : ℕ) (k : Side) → due fs t ≡ Some k → IsSome (find_held fs k.order.who k.order.id) }

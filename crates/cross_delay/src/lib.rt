@@ -1,7 +1,7 @@
-//! The held sides of crosses: the second side of a cross enters the book only after the delay (17 CFR 37.9(b)(1)).
+//! Held sides of crosses: the second side of a cross enters the book after the delay (17 CFR 37.9(b)(1)).
 //!
-//! The sides that are held and the identifiers that were used are kept; contracts see the facts of the day, and the definitions of
-//! `venue_rules` that read everything off them.
+//! It keeps the held sides and the used identifiers. Contracts see the facts of the day, and the definitions of
+//! `venue_rules` read off them.
 #![tactic(auto)]
 
 mod ghost_history;

@@ -1,4 +1,4 @@
-//! What a request adds to the held sides, before it does.
+//! Plans: the additions of a request to the held sides.
 ghost use Rattle.std.specs.Prelude.{◌≡◌};
 ghost use Rattle.cross_delay.specs.Plans.{no_plan};
 
@@ -11,7 +11,7 @@ pub struct HoldPlan {
     facts: Vec<Fact>,
 }
 
-// Written out, so that a proof sees one call where it is dropped, and not the drop of each part.
+// Written-out drop (docs/ARCHITECTURE.md).
 impl Drop for HoldPlan {
     fn drop(self) {
         let HoldPlan { facts: _facts } = self;
@@ -42,7 +42,6 @@ impl HoldPlan {
         }
     }
 
-    /// The facts that are added.
     pub fn facts(&self) -> &[Fact]
         ensures { result.now ≡ self.now.facts }
     {

@@ -1,4 +1,4 @@
-//! The sides that are held, by the moment at which they fall due, then in the order in which they came.
+//! Held sides, by due moment, then by arrival.
 ghost use Rattle.std.specs.Prelude.{◌≡◌, ◌≤◌, ◌+◌, ◌<◌, length, filter, find, not, option_map};
 ghost use Rattle.std.specs.Vec.{vec_capacity, vec_len};
 ghost use Rattle.venue_rules.specs.declared.facts.Fact.TheVariants.{Unheld};
@@ -11,7 +11,7 @@ use participants::Who;
 use sef_moment::Moment;
 use venue_rules::{Fact, HeldSide, Release, is_name};
 
-/// The first of them, if it is due at a moment.
+/// The first side, if due at a moment.
 pub(crate) fn first_due(sides: &[HeldSide], moment: Moment) -> Option<&HeldSide>
     ensures { option_map (λ h. h.now) result ≡ first_due moment sides.now }
 {
@@ -23,7 +23,7 @@ pub(crate) fn first_due(sides: &[HeldSide], moment: Moment) -> Option<&HeldSide>
     }
 }
 
-/// The first of them that is a participant's and of this identifier.
+/// The first side with this participant and identifier.
 pub(crate) fn find_side<'a>(
     sides: &'a [HeldSide],
     who: Who,
@@ -36,7 +36,7 @@ pub(crate) fn find_side<'a>(
         .find(|side| is_name(who, id, side.order.who, &side.order.id))
 }
 
-// One side more, behind those that fall due no later.
+// Inserts a side behind those that fall due no later.
 fn hold(sides: &mut Vec<HeldSide>, side: &HeldSide)
     requires rising { AreRising 0 sides.old.items }
     requires headroom { vec_len sides.old < vec_capacity sides.old }
@@ -49,7 +49,7 @@ fn hold(sides: &mut Vec<HeldSide>, side: &HeldSide)
     let _inserted = sides.insert(at, *side);
 }
 
-// The sides of this name are held no longer.
+// Removes the sides with this name.
 fn drop_named(sides: &mut Vec<HeldSide>, release: &Release)
     ensures sides { sides.new.items ≡ filter (λ h. not (releases h (Unheld release.now))) sides.old.items }
     ensures len { vec_len sides.new ≤ vec_len sides.old }
@@ -59,7 +59,7 @@ fn drop_named(sides: &mut Vec<HeldSide>, release: &Release)
     sides.retain(|side| !is_name(side.order.who, &side.order.id, who, id));
 }
 
-// One fact more.
+// The effect of a fact.
 fn add_fact(sides: &mut Vec<HeldSide>, fact: &Fact)
     requires rising { AreRising 0 sides.old.items }
     requires headroom { vec_len sides.old < vec_capacity sides.old }
@@ -74,7 +74,7 @@ fn add_fact(sides: &mut Vec<HeldSide>, fact: &Fact)
     }
 }
 
-/// What facts more leave of them, for which there is room.
+/// The effect of facts, within reserved capacity.
 pub(crate) fn add_facts(sides: &mut Vec<HeldSide>, facts: &[Fact])
     requires rising { AreRising 0 sides.old.items }
     requires headroom { vec_len sides.old + length facts.now ≤ vec_capacity sides.old }

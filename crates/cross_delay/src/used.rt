@@ -6,7 +6,7 @@ ghost use Rattle.cross_delay.specs.Used.{cross_name, cross_names, order_name, or
 use client_ids::{ClientId, IdIndex};
 use venue_rules::{Fact, Release};
 
-// The identifier of an order that a fact of the delay uses: of a held side, or of the cancel of one.
+// The order identifier that a fact of the delay uses: of a held side, or of the cancel of one.
 fn order_name(fact: &Fact) -> Option<ClientId>
     ensures { result ≡ order_name fact.now }
 {
@@ -20,7 +20,7 @@ fn order_name(fact: &Fact) -> Option<ClientId>
     }
 }
 
-// The identifier of the cancel by which a side is held no longer.
+// The identifier of the cancel that ends a held side, if any.
 fn cancel_name(release: &Release) -> Option<ClientId>
     ensures { result ≡ order_name (Unheld release.now) }
 {
@@ -33,7 +33,7 @@ fn cancel_name(release: &Release) -> Option<ClientId>
     }
 }
 
-// The identifier of a cross that a fact of the delay uses.
+// The cross identifier that a fact of the delay uses.
 fn cross_name(fact: &Fact) -> Option<ClientId>
     ensures { result ≡ cross_name fact.now }
 {
@@ -47,7 +47,7 @@ fn cross_name(fact: &Fact) -> Option<ClientId>
 }
 
 #[tactic(auto, using(crate::proofs::Readings::order_names_on))]
-/// The identifiers of orders that facts more use, for which there is room.
+/// Adds the order identifiers of facts, within reserved capacity.
 pub(crate) fn add_order_names(orders: &mut IdIndex, facts: &[Fact])
     requires { length facts.now ≤ orders.old.headroom }
     ensures { orders.new.names ≡ orders.old.names ++ order_names facts.now }
@@ -60,7 +60,7 @@ pub(crate) fn add_order_names(orders: &mut IdIndex, facts: &[Fact])
 }
 
 #[tactic(auto, using(crate::proofs::Readings::cross_names_on))]
-/// The identifiers of crosses that facts more use, for which there is room.
+/// Adds the cross identifiers of facts, within reserved capacity.
 pub(crate) fn add_cross_names(crosses: &mut IdIndex, facts: &[Fact])
     requires { length facts.now ≤ crosses.old.headroom }
     ensures { crosses.new.names ≡ crosses.old.names ++ cross_names facts.now }

@@ -31,9 +31,9 @@ use Rattle.cross_handler.specs.declared.terms.Terms.{Terms}
 use Rattle.cross_handler.specs.Crossing.{IsPassed, IsSound, IsTermsOf, IsTurnedAway, cross_order, rejection}
 use Rattle.cross_handler.proofs.Turning.{taken-alone}
 
--- What is answered to a cross, whatever has happened beside the book and the held sides.
+-- The answer to a cross depends on the book and the held sides alone.
 
--- a refusal says nothing of the facts
+-- a refusal reads no facts
 
 abbrev pub counted : ℕ → History
 counted n = record { facts = []; reports = n }
@@ -48,12 +48,12 @@ turned-counted h n s d PriceMissing e = refl
 pub turned-answers : (p : ParticipantFile) (file : List Instrument) (book delay : List Fact) (c : Counts) (h : History) (who number : ℕ) (kind : List ℕ) (d : NewOrderCross) (t : ℕ) (cause : Cause) → IsReadAlone h book delay c → IsTurnedAway file book delay who d cause → rejection (counted c.reports) (record { who = who; number = number; kind = kind }) d cause ≡ answer_cross (market p file) h (record { who = who; number = number; kind = kind }) d t
 turned-answers p file book delay c h who number kind d t cause r is = turned-counted h c.reports (record { who = who; number = number; kind = kind }) d cause r.reports ∙ sym (is.answers h c r p number kind t)
 
--- a side as it is asked for
+-- a side as asked for
 
 side-is : (p : ParticipantFile) (file : List Instrument) (who : ℕ) (d : NewOrderCross) (side : CrossSide) (terms : Terms) → IsTermsOf file d terms → cross_order terms who side ≡ side_order (market p file) who d side
 side-is p file who d side terms n = rw (n.instrument, n.price) refl
 
--- the refusals that the book and the held sides know
+-- the refusals that the book and the held sides decide
 
 abbrev last : Market → History → Sender → NewOrderCross → OrderFact → ℕ → Answer
 last m h s d o t = first_of ((is_some (too_soon m h.facts o t), cross_refused h s d LinkedOrderTooRecent) ∷ (is_side_full h.facts o, cross_refused h s d BookSideFull) ∷ (nat_le held_capacity (length (held h.facts)), cross_refused h s d TooManyHeld) ∷ []) (cross_accepted m h s d t)

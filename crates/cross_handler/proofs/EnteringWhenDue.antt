@@ -23,7 +23,7 @@ use Rattle.order_handler.specs.Reads.{IsReadAlone}
 use Rattle.cross_handler.specs.EnteringWhenDue.{entered_when_due, side_turned_away}
 use Rattle.cross_handler.proofs.Answering.{counted}
 
--- What a tick answers, whatever has happened beside the book and the held sides.
+-- The answer to a tick depends on the book and the held sides alone.
 
 has_fill : (x : Option Fill) (n : ℕ) → option_map number_of x ≡ Some n → is_some x ≡ true
 has_fill (Some f) n h = refl
@@ -50,7 +50,7 @@ entered_when_due-full p file h k u r same e is =
     let free : too_soon (market p file) h.facts k.order k.due ≡ None = ap (too_soon (market p file) h.facts k.order) (sym same) ∙ is.0 in
     side-counted file h r k BookSideFull e ∙ rw free (rw is.1 refl)
 
--- a tick at which one side is due, and one at which none is
+-- a tick with a side due, and one without
 
 pub tick-answers : (p : ParticipantFile) (file : List Instrument) (book delay : List Fact) (c : Counts) (h : History) (t : ℕ) (k : HeldSide) (a b : Parts) (planned : List Fact) → IsReadAlone h book delay c → Some k ≡ due delay t → book_answer_of a ≡ entered_when_due (market p file) h k → planned ≡ Unheld (record { who = k.order.who; id = k.order.id; cancel = None }) ∷ [] → b ≡ record { delay_first = true; delay = planned; book = a.book; replies = a.replies } → answer_of b ≡ answer_input (market p file) h (Tick t)
 tick-answers p file book delay c h t k a b planned r first entered plan made =

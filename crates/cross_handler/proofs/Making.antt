@@ -14,7 +14,7 @@ use Rattle.order_handler.specs.Made.{IsMade, are_listed}
 use Rattle.order_handler.specs.Parts.{Parts}
 use Rattle.cross_handler.specs.Crossing.{IsQuiet, are_ids_taken}
 
--- What an answer adds may be applied.
+-- The plans of an answer may be applied.
 
 pub no-entry : (book : Book) → IsBookPlan book []
 no-entry book = record { step = NoEntry; allowed = tt; made = refl; headroom = omega arith }
@@ -46,7 +46,7 @@ below x count h = grind (arith, nat_tests)
 pub held-listed : (count : ℕ) (k : HeldSide) → k.order.instrument < count → are_listed count (Held k ∷ []) ≡ true
 held-listed count k h = and_true (nat_lt k.order.instrument count) (below k.order.instrument count h)
 
--- with both plans, and what they add listed
+-- with both plans, in listed instruments
 pub both-made : (count : ℕ) (book : Book) (delay : Delay) (first : Bool) (a b : Parts) (planned : List Fact) → IsBookPlan book a.book → IsDelayPlan delay planned → are_listed count a.book ≡ true → are_listed count planned ≡ true → b ≡ record { delay_first = first; delay = planned; book = a.book; replies = a.replies } → IsMade count book delay b
 both-made count book delay first a b planned entry hold el hl same =
     let P : Parts → Type 0 = λ x. IsMade count book delay x in

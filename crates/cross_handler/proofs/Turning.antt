@@ -14,7 +14,7 @@ use Rattle.cross_handler.specs.Crossing.{IsTurnedAway, are_ids_taken, is_quantit
 
 -- Each refusal of a cross is the answer where it holds and none before it does.
 
--- what is read off the whole history, by what is read off the book and the held sides
+-- readings of the whole history are those of the book and the held sides
 pub taken-alone : (h : History) (book delay : List Fact) (c : Counts) → IsReadAlone h book delay c → (who : ℕ) (d : NewOrderCross) → (is_order_id_used h.facts who d.first.order_id || (is_order_id_used h.facts who d.second.order_id || bytes_eq d.first.order_id d.second.order_id)) ≡ are_ids_taken book delay who d
 taken-alone h book delay c r who d = rw (r.used who d.first.order_id, r.used who d.second.order_id) refl
 

@@ -21,7 +21,7 @@ use Rattle.cross_handler.specs.declared.terms.Cause.{Cause}
 use Rattle.cross_handler.specs.declared.terms.Cause.TheVariants.{Refused, PriceMissing}
 use Rattle.cross_handler.specs.declared.terms.Terms.{Terms}
 
--- an identifier of a side was used, or the two are one
+-- a side's identifier is used, or both are the same
 abbrev pub are_ids_taken : List Fact → List Fact → ℕ → NewOrderCross → Bool
 are_ids_taken book delay who d = is_used book delay who d.first.order_id || (is_used book delay who d.second.order_id || bytes_eq d.first.order_id d.second.order_id)
 
@@ -33,7 +33,7 @@ is_unsupported d = not (d.cross_type == 4) || (not (d.prioritization == 1 || d.p
 abbrev pub is_quantity_wrong : List Instrument → ℕ → NewOrderCross → Bool
 is_quantity_wrong file x d = not (d.first.quantity == d.second.quantity) || nat_lt d.first.quantity (least_of file x)
 
--- none of the refusals holds that come before the book is asked
+-- no refusal holds that is checked before the book is asked
 pub record IsSound (file : List Instrument) (book delay : List Fact) (who : ℕ) (d : NewOrderCross) : Type 0 where
   pub known : is_unknown_instrument file d.symbol ≡ false
   pub uncrossed : is_cross_id_used delay who d.cross_id ≡ false
@@ -50,25 +50,25 @@ pub record IsTermsOf (file : List Instrument) (d : NewOrderCross) (terms : Terms
   pub listed : terms.instrument < length file
   pub price : d.price ≡ Some terms.price
 
--- a side of a cross of these terms as a day order
+-- a side of a cross with these terms as a day order
 abbrev pub cross_order : Terms → ℕ → CrossSide → OrderFact
 cross_order terms who side = record { who = who; id = side.order_id; link = None; instrument = terms.instrument; side = side.side; quantity = side.quantity; price = terms.price; life = Day }
 
--- the answer to a cross that is turned away
+-- the answer to a cross refused before the book is asked
 abbrev pub rejection : History → Sender → NewOrderCross → Cause → Answer
 rejection h s d (Refused cause) = cross_refused h s d cause
 rejection h s d PriceMissing = business_reject s business.PriceMissing
 
--- a cross is turned away for this cause, after every history of this book and these held sides, whoever takes part, and whatever its number
--- and its moment are
+-- a cross is refused for this cause in every history of this book and these held sides, in any market with these
+-- instruments, whatever its number and moment
 pub record IsTurnedAway (file : List Instrument) (book delay : List Fact) (who : ℕ) (d : NewOrderCross) (cause : Cause) : Type 0 where
   pub answers : (h : History) (c : Counts) → IsReadAlone h book delay c → (participants : ParticipantFile) (number : ℕ) (kind : List ℕ) (t : ℕ) → answer_cross (market participants file) h (record { who = who; number = number; kind = kind }) d t ≡ rejection h (record { who = who; number = number; kind = kind }) d cause
 
--- nothing happens in the book or to the held sides
+-- the book and the held sides are unchanged
 abbrev pub IsQuiet : Parts → Type 0
 IsQuiet a = (a.book ≡ []) × (a.delay ≡ [])
 
--- no refusal holds of a cross of these terms that comes before the book is asked for this order, its first side
+-- no refusal of a cross with these terms holds that is checked before the book is asked for this order, its first side
 pub record IsPassed (file : List Instrument) (book delay : List Fact) (who : ℕ) (d : NewOrderCross) (terms : Terms) (first : OrderFact) : Type 0 where
   pub sound : IsSound file book delay who d
   pub named : IsTermsOf file d terms

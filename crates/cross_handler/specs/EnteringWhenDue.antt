@@ -9,7 +9,7 @@ use Rattle.venue_rules.specs.Answer.{Answer, answers, first_of, numbered}
 use Rattle.venue_rules.specs.Crosses.{due_refusals}
 use Rattle.venue_rules.specs.Orders.{accepted, refusal_report}
 
--- what a held side does as it enters at its due moment, or why it does not
+-- the entry of a held side at its due moment, or its refusal
 abbrev pub entered_when_due : Market → History → HeldSide → Answer
 entered_when_due m h k = first_of (due_refusals m h k) (accepted m h k.order k.due)
 

@@ -1,4 +1,4 @@
--- what is known of a cross before the book is asked
+-- conditions of a cross, before the book is asked
 pub mod Crossing
--- what a held side does as it enters
+-- the entry of a held side
 pub mod EnteringWhenDue

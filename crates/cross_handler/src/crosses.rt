@@ -1,4 +1,4 @@
-//! A cross (NewOrderCross, s): why it is refused, and what its two sides do.
+//! NewOrderCross (s): refusals, the first side's entry, and the second side's hold.
 ghost use Rattle.std.specs.Prelude.{◌≡◌, length, IfOk};
 ghost use Rattle.venue_rules.specs.Facts.{History};
 ghost use Rattle.venue_rules.specs.Crosses.{answer_cross};
@@ -20,7 +20,7 @@ use sef_moment::Moment;
 use std::alloc::{AllocError, Global};
 use venue_rules::{CrossRefusal, Taken};
 
-/// The answer to a cross; makes room for the side that enters the book, and for the one that is held.
+/// The answer to a cross; reserves memory for the side that enters and for the one that is held.
 pub fn plan_cross(
     alloc: Global,
     participants: &Participants,

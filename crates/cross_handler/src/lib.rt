@@ -1,4 +1,4 @@
-//! The venue's whole answers to crosses, and to the ticks at which the held side of a cross is due (17 CFR 37.9(b)(1), (b)(2)).
+//! Whole answers to crosses, and to ticks with a held side due (17 CFR 37.9(b)(1), (b)(2)).
 #![tactic(auto)]
 
 mod crosses;

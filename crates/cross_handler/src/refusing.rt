@@ -1,4 +1,4 @@
-//! What is answered to a cross that is refused.
+//! Answers to refused crosses.
 ghost use Rattle.std.specs.Prelude.{◌≡◌, ◌<◌, ◌^◌, [], IfOk};
 ghost use Rattle.venue_rules.specs.Crosses.{cross_refused, side_refused};
 ghost use Rattle.order_handler.specs.Market.{sender};
@@ -37,7 +37,7 @@ fn side_refused(
     Reply { to, what }
 }
 
-/// A cross is refused by two reports, one for each side in the message's order.
+/// Two reports refuse a cross, one for each side in the message's order.
 pub(crate) fn refused(
     alloc: Global,
     taken: &Taken,
@@ -56,7 +56,7 @@ pub(crate) fn refused(
     Ok(OrderAnswer::of_replies(alloc, replies))
 }
 
-/// The answer to a cross that is turned away before the book is asked.
+/// The answer to a cross refused before the book is asked.
 pub(crate) fn rejection(
     alloc: Global,
     taken: &Taken,

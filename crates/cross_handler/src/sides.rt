@@ -21,7 +21,6 @@ fn is_first(cross: &NewOrderCross, side: &CrossSide) -> bool
     }
 }
 
-/// The side that enters first.
 pub(crate) fn first_side(cross: &NewOrderCross) -> &CrossSide
     ensures { result.now ≡ first_side cross.now }
 {
@@ -32,7 +31,6 @@ pub(crate) fn first_side(cross: &NewOrderCross) -> &CrossSide
     }
 }
 
-/// The side that is held.
 fn second_side(cross: &NewOrderCross) -> &CrossSide
     ensures { result.now ≡ second_side cross.now }
 {
@@ -59,7 +57,7 @@ pub(crate) fn side_order(who: Who, side: &CrossSide, terms: &Terms) -> OrderFact
     }
 }
 
-// The moment in milliseconds at which a side of a cross of this moment falls due, which may lie past the last moment.
+// Due moment of a cross's second side, in milliseconds since 1970; possibly past the last moment.
 fn due_after(instruments: &Instruments, instrument: u32, moment: Moment) -> u64
     requires { instrument < length instruments.now }
     ensures { result ≡ moment + delay_of instruments.now instrument }

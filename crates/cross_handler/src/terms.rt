@@ -1,4 +1,4 @@
-//! The terms of a cross, and why it is turned away before the book is asked.
+//! Terms of a cross, and refusals before the book is asked.
 ghost use Rattle.std.specs.Prelude.{◌≡◌, ◌<◌, length, IfOk, IfErr};
 ghost use Rattle.cross_handler.specs.Crossing.{IsSound, IsTermsOf, IsTurnedAway, are_ids_taken, is_quantity_wrong, is_unsupported};
 
@@ -10,14 +10,14 @@ use order_handler::{is_limit, is_used};
 use price_book::PriceBook;
 use venue_rules::{CrossRefusal, Who, is_side};
 
-/// Why a cross is turned away before the book is asked.
+/// Cause of a refusal before the book is asked.
 #[derive(Clone, Copy)]
 pub(crate) enum Cause {
     Refused(CrossRefusal),
     PriceMissing,
 }
 
-/// The instrument and the price of a cross.
+/// Instrument and price of a cross.
 #[derive(Clone, Copy)]
 pub(crate) struct Terms {
     pub instrument: u32,
@@ -33,7 +33,7 @@ fn is_unsupported(cross: &NewOrderCross) -> bool
         || (!(prioritization == 1 || prioritization == 2) || !is_limit(cross.order_type))
 }
 
-/// Whether an identifier of a side was used, or the two are one.
+/// Whether a side's identifier is used, or both are the same.
 fn are_ids_taken(book: &PriceBook, held: &Held, who: Who, cross: &NewOrderCross) -> bool
     ensures { result ≡ are_ids_taken book.now.facts held.now.facts who cross.now }
 {
@@ -51,7 +51,7 @@ fn is_quantity_wrong(instruments: &Instruments, instrument: u32, cross: &NewOrde
         || is_below_least(instruments, instrument, cross.first.quantity)
 }
 
-/// The terms of a cross that may enter; else the first cause to turn it away before the book is asked.
+/// The terms of a cross that may enter, or the first cause to refuse it before the book is asked.
 #[tactic(auto, using(crate::proofs::Turning::turnings))]
 pub(crate) fn cross_terms(
     instruments: &Instruments,

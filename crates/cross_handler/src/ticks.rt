@@ -1,4 +1,4 @@
-//! A tick: the held side that is due enters the book.
+//! Ticks: the entry of a held side that is due.
 ghost use Rattle.std.specs.Prelude.{◌≡◌, ◌≤◌, ◌<◌, ◌^◌, [], true, List, length, IfOk};
 ghost use Rattle.venue_rules.specs.declared.facts.Fact.{Fact};
 ghost use Rattle.venue_rules.specs.Facts.{History};
@@ -48,7 +48,7 @@ fn refused(
     Ok(OrderAnswer::of_replies(alloc, replies))
 }
 
-// The moment at which a side falls due, which is not past.
+// Due moment of a side that is due at `moment`, so within the range of moments.
 fn due_moment(side: &HeldSide, moment: Moment) -> Moment
     requires { side.now.due ≤ moment }
     ensures { result ≡ side.now.due }
@@ -57,7 +57,7 @@ fn due_moment(side: &HeldSide, moment: Moment) -> Moment
     Moment::of_ms(side.due).unwrap()
 }
 
-// What a side that is due does in the book as it enters, or the report that refuses it.
+// The entry of a side that is due, or the report that refuses it.
 fn entered_when_due(
     alloc: Global,
     participants: &Participants,
@@ -108,8 +108,8 @@ fn entered_when_due(
     }
 }
 
-/// The answer to a tick: the first held side that is due by then enters the book at its due moment, or is refused then; no
-/// answer where none is due. Makes room for what it adds.
+/// The answer to a tick: the first held side due by then enters the book at its due moment, or is refused then; none
+/// where no side is due. Reserves memory for its plans.
 pub fn plan_due(
     alloc: Global,
     participants: &Participants,

@@ -1,4 +1,4 @@
--- What comes of texts that are appended one behind the other.
+-- The result of appending texts in order.
 use Rattle.std.proofs.Common.{◌≡◌, ◌++◌, ◌∙◌, List, ℕ, ap, append_assoc, Result, Ok, Err, OnOk}
 
 pub so_ok : {X E : Type 0} (r : Result X E) (P Q : Type 0) → (P → Q) → OnOk r P → OnOk r Q

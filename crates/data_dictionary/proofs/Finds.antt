@@ -1,4 +1,4 @@
--- A field is found by its tag alike, with and without where its name lies in memory.
+-- A field is found by its tag, with or without its name's place in memory.
 use Rattle.std.proofs.Common.{◌≡◌, refl, ℕ, Bool, true, false, List, [], ◌∷◌, nat_eq, map, Option, Some, cond}
 use Rattle.std.specs.List.{find}
 use Rattle.std.specs.Option.{option_map}

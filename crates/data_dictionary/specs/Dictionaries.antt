@@ -1,4 +1,5 @@
--- The text of a data dictionary, in QuickFIX's XML: the header, the messages and the trailer line by line, then each field of theirs.
+-- The text of a data dictionary, in QuickFIX's XML: the header, the messages and the trailer line by line, then each
+-- field of theirs.
 use Rattle.std.specs.Prelude.{ℕ, Bool, true, false, List, ◌++◌, codes, decimal}
 use Rattle.std.specs.List.{flat_map}
 use Rattle.fix_validation.specs.Tables.{header_rows}
@@ -17,7 +18,7 @@ unfoldable pub answer : Bool → List ℕ
 answer true = codes "Y"
 answer false = codes "N"
 
--- which field, and whether it is required
+-- the field's name, and whether it is required
 unfoldable pub attributes : Mention → List ℕ
 attributes field = codes " name='" ++ (name_of field.tag ++ (codes "' required='" ++ (answer field.required ++ codes "'")))
 
@@ -26,7 +27,7 @@ line_text (Field field) = codes "      <field" ++ (attributes field ++ codes "/>
 line_text (GroupBegin field) = codes "      <group" ++ (attributes field ++ codes ">\n")
 line_text GroupEnd = codes "      </group>\n"
 
--- the lines of fields that stand in no group
+-- the lines of fields outside of groups
 unfoldable pub fields_asked : List Mention → List ℕ
 fields_asked fields = flat_map (λ field. line_text (Field field)) fields
 

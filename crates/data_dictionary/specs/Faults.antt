@@ -1,4 +1,4 @@
--- What a fault says of the output.
+-- The meaning of a fault for the output.
 use Rattle.data_dictionary.specs.declared.faults.WriteFault.{WriteFault}
 use Rattle.data_dictionary.specs.declared.faults.WriteFault.TheVariants.{Memory, Output}
 

@@ -1,11 +1,12 @@
--- The fields, by their tags: their names and data types in FIX 5.0 SP2. QuoteType (537) is a character here, as the venue reads it.
+-- The fields, by their tags: their names and data types in FIX 5.0 SP2. QuoteType (537) is a character here, as the
+-- venue reads it.
 use Rattle.std.specs.Prelude.{ℕ, List, [], ◌∷◌, codes, nat_eq, Option, Some, None}
 use Rattle.std.specs.List.{find}
 use Rattle.data_dictionary.specs.declared.fields.Field.{Field as HeldField}
 use Rattle.data_dictionary.specs.declared.fields.DataType.{DataType}
 use Rattle.data_dictionary.specs.declared.fields.DataType.TheVariants as types
 
--- how FIX writes a data type
+-- the FIX name of a data type
 unfoldable pub type_name_of : DataType → List ℕ
 type_name_of types.Text = codes "STRING"
 type_name_of types.Version = codes "STRING"
@@ -31,7 +32,7 @@ pub record Field : Type 0 where
 abbrev pub field : ℕ → List ℕ → DataType → Field
 field tag name data_type = record { tag = tag; name = name; data_type = data_type }
 
--- a field, without where its name lies in memory
+-- a field, without its name's place in memory
 abbrev pub seen : HeldField → Field
 seen f = record { tag = f.tag; name = f.name.now; data_type = f.data_type }
 

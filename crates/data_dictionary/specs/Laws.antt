@@ -1,4 +1,4 @@
--- What holds of the dictionaries.
+-- Laws of the dictionaries.
 use Rattle.std.specs.Prelude.{◌≡◌, ◌⊎◌, ℕ, Bool, true, false, not, ◌&&◌, ◌||◌, List, [], ◌∷◌, ◌++◌, length, nat_lt, Option, Some, None, map}
 use Rattle.std.specs.List.{list_all}
 use Rattle.std.specs.Str.{bytes_eq}
@@ -12,15 +12,15 @@ use Rattle.data_dictionary.specs.Layout.{each, lines_in, said_by}
 use Rattle.data_dictionary.specs.MessageTypes.{Listed, application_types, session_types}
 use Rattle.data_dictionary.specs.Values.{values_of}
 
--- the lines of a table say each of its rows once, in order, with its tag, whether it is required, and its group
+-- the lines of a table state each of its rows once, in order, with its tag, whether it is required, and its group
 abbrev pub SaysEachRow : List Row → Type 0
 SaysEachRow rows = said_by [] (lines_in 0 rows) ≡ each rows (λ row. record { tag = row.tag; required = row.required; group = row.group })
 
--- Each row of each table is said once.
+-- Each row of each table is stated once.
 abbrev pub EachRowIsSaid : Type 0
 EachRowIsSaid = SaysEachRow header_rows × ((kind : MessageType) (begin : ℕ) → SaysEachRow (rows_of kind begin))
 
--- the types of both dictionaries, by what 35 says
+-- the types of both dictionaries, by the value of 35
 abbrev pub codes_stated : List (List ℕ)
 codes_stated = each (session_types ++ application_types) (λ kind. kind.code)
 
@@ -28,7 +28,7 @@ abbrev pub is_among : List ℕ → List (List ℕ) → Bool
 is_among text [] = false
 is_among text (other ∷ others) = bytes_eq text other || is_among text others
 
--- no text stands twice
+-- no text occurs twice
 abbrev pub are_distinct : List (List ℕ) → Bool
 are_distinct [] = true
 are_distinct (text ∷ texts) = not (is_among text texts) && are_distinct texts
@@ -51,11 +51,11 @@ abbrev pub are_rising : List ℕ → Bool
 are_rising [] = true
 are_rising (n ∷ ns) = list_all (nat_lt n) ns && are_rising ns
 
--- The tags of each dictionary stand once, under names of their own.
+-- The tags of each dictionary occur once, under distinct names.
 abbrev pub NamesStateFields : List ℕ → Type 0
 NamesStateFields tags = (are_rising tags ≡ true) × (are_distinct ([] ∷ map name_of tags) ≡ true)
 
--- Of the fields that have values in a dictionary, each value is one that is read, in each table.
+-- Of the fields that have listed values in a dictionary, each value is read, in each table.
 abbrev pub is_none : {A : Type 0} → Option A → Bool
 is_none None = true
 is_none (Some x) = false

@@ -1,4 +1,4 @@
--- The lines of a table: a field for each row, and a group round the rows of its instances.
+-- The lines of a table: a field for each row, and a group around the rows of its instances.
 use Rattle.std.specs.Prelude.{ℕ, Bool, true, false, List, [], ◌∷◌, ◌++◌, nat_eq, nat_lt, map}
 use Rattle.std.specs.List.{flat_map, list_any}
 use Rattle.fix_validation.specs.Tables.{header_rows, rows_of}
@@ -9,34 +9,35 @@ use Rattle.data_dictionary.specs.declared.lines.Line.{Line}
 use Rattle.data_dictionary.specs.declared.lines.Line.TheVariants.{Field, GroupBegin, GroupEnd}
 use Rattle.data_dictionary.specs.MessageTypes.{Listed, application_types, session_types}
 
--- what is told of each of these rows
+-- a function of each of these rows
 abbrev pub each : {A B : Type 0} → List A → (A → B) → List B
 each things stated = map stated things
 
--- the rows of a type, by which messages of the type are read and printed (which number a resend request begins with says only what its
--- 16 may be)
+-- the rows of a type, by which messages of the type are read and printed (the number that a resend request begins with
+-- only bounds its 16)
 abbrev pub rows_stated : Listed → List Row
 rows_stated kind = rows_of (type_of kind.code) 0
 
--- how a line names the field of a row, and a field that each message has
+-- the reference of a line to the field of a row, and a required field
 abbrev pub stated : Row → Mention
 stated row = record { tag = row.tag; required = row.required }
 
 abbrev pub required : ℕ → Mention
 required tag = record { tag = tag; required = true }
 
--- a frame's fields in front of the header, and behind the body
+-- the fields of a frame before the header, and after the body
 unfoldable pub frame_begin : List Mention
 frame_begin = required 8 ∷ required 9 ∷ []
 
 unfoldable pub frame_end : List Mention
 frame_end = required 10 ∷ []
 
--- whether some of these rows stand in the instances that this tag counts
+-- whether some of these rows are in the instances that this tag counts
 abbrev pub is_counted : ℕ → List Row → Bool
 is_counted tag rows = list_any (λ (row : Row). nat_eq row.group tag) rows
 
--- The lines of the rows that stand in this group, 0 for outside of groups. A count field has the lines of its instances' rows behind it.
+-- The lines of the rows of this group, 0 for outside of groups. The lines of a group's instances follow its count
+-- field.
 abbrev pub lines_in : ℕ → List Row → List Line
 lines_in group [] = []
 lines_in group (row ∷ rows) = elim (nat_eq row.group group) [
@@ -56,7 +57,7 @@ abbrev pub outer : List ℕ → List ℕ
 outer [] = []
 outer (tag ∷ tags) = tags
 
--- what the lines say of a field: its tag, whether it is required, and the group in whose lines it stands
+-- the content of a line for a field: its tag, whether it is required, and its group
 pub record Said : Type 0 where
   pub tag : ℕ
   pub required : Bool
@@ -65,7 +66,7 @@ pub record Said : Type 0 where
 abbrev pub said : Mention → List ℕ → Said
 said field around = record { tag = field.tag; required = field.required; group = innermost around }
 
--- what the lines say of each field, where around are the open groups
+-- the content of the lines for each field, within these open groups
 abbrev pub said_by : List ℕ → List Line → List Said
 said_by around [] = []
 said_by around (Field field ∷ lines) = said field around ∷ said_by around lines

@@ -1,4 +1,4 @@
--- The types of messages: what 35 says, and how FIXT 1.1 and FIX 5.0 SP2 name them.
+-- The message types: the value of 35, and their names in FIXT 1.1 and FIX 5.0 SP2.
 use Rattle.std.specs.Prelude.{ℕ, List, [], ◌∷◌, codes}
 use Rattle.data_dictionary.specs.declared.message_types.Listed.{Listed as HeldListed}
 
@@ -9,7 +9,7 @@ pub record Listed : Type 0 where
 abbrev pub listed : List ℕ → List ℕ → Listed
 listed code name = record { code = code; name = name }
 
--- a type, without where its texts lie in memory
+-- a type, without its texts' places in memory
 abbrev pub seen : HeldListed → Listed
 seen kind = record { code = kind.code.now; name = kind.name.now }
 

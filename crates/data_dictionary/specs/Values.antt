@@ -1,4 +1,4 @@
--- The values of the fields that have few: those that the venue reads, with the names that FIX 5.0 SP2 gives them.
+-- The values of the fields that have few: those that the venue reads, with their names in FIX 5.0 SP2.
 use Rattle.std.specs.Prelude.{ℕ, List, [], ◌∷◌, codes}
 use Rattle.data_dictionary.specs.declared.fields.DataType.{DataType}
 use Rattle.data_dictionary.specs.declared.fields.DataType.TheVariants as types

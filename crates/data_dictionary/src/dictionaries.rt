@@ -1,4 +1,4 @@
-//! Writes the data dictionaries.
+//! Writing of the data dictionaries.
 ghost use Rattle.std.specs.Prelude.{◌≡◌, ◌++◌, OnOk, IfOk, IfErr, map};
 ghost use Rattle.std.specs.List.{flat_map};
 ghost use Rattle.std.specs.Io.KnownBytes.{Appends, Keeps};
@@ -51,7 +51,8 @@ fn append_message_head(
     )
 }
 
-// Appends the lines of a type's table. The number that a resend request begins with bounds only its 16, of which a line says nothing.
+// Appends the lines of a type's table. The number that a resend request begins with bounds only its 16, which its line
+// leaves out.
 fn append_table_of(text: &mut Vec<u8>, kind: MessageType) -> Result<(), AllocError>
     ensures { OnOk result (text.new.items ≡ text.old.items ++ table_text (rows_of kind 0)) }
 {
@@ -87,7 +88,7 @@ fn append_each_message(
     Ok(())
 }
 
-// Appends the messages of one category: `admin` are the session's, `app` the application's.
+// Appends the messages of one category: `admin` for the session's, `app` for the application's.
 #[tactic(auto, unfolding(crate::specs::Dictionaries::messages_text))]
 fn append_messages(
     text: &mut Vec<u8>,
@@ -246,9 +247,9 @@ fn text_of(alloc: Global, dictionary: Dictionary) -> Result<Vec<u8>, AllocError>
     Ok(text)
 }
 
-/// Writes a data dictionary as QuickFIX reads it (XML): the rows of each table by which messages are read and printed, in
-/// printed order, each with whether it is required and in the group in which it stands; then each field of theirs once,
-/// with its tag, name and data type, and the values that stand here for the data type, if any do.
+/// Writes a data dictionary as QuickFIX reads it (XML): the rows of each table by which messages are read and printed,
+/// in printed order, each with whether it is required and within its group; then each field of theirs once, with its
+/// tag, name and data type, and the listed values of the data type, if any.
 pub fn write_dictionary<W: Write>(
     alloc: Global,
     dictionary: Dictionary,

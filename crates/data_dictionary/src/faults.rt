@@ -6,7 +6,7 @@ use thiserror::Error;
 /// Why a dictionary was not written.
 #[derive(Clone, Copy, Debug, PartialEq, Eq, Error)]
 pub enum WriteFault {
-    /// 1: memory was refused. Nothing was written.
+    /// 1: an allocation failed. Nothing was written.
     #[error("memory")]
     Memory,
     /// 2: a write failed.

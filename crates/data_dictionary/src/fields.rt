@@ -172,7 +172,7 @@ pub(crate) fn application_tags() -> &'static [u32]
     &APPLICATION
 }
 
-/// How FIX writes a data type.
+/// The FIX name of a data type.
 #[tactic(auto, unfolding(crate::specs::Fields::type_name_of))]
 pub(crate) fn type_name_of(data_type: DataType) -> &'static str
     ensures { result.now ≡ type_name_of data_type }
@@ -203,21 +203,20 @@ fn fields() -> &'static [Field]
     &FIELDS
 }
 
-// The first of these fields that has this tag.
+// The first of these fields with this tag.
 fn first_of(fields: &[Field], tag: u32) -> Option<&Field>
     ensures { option_map (λ field. field.now) result ≡ find (λ field. nat_eq field.tag tag) fields.now }
 {
     fields.iter().find(|field| field.tag == tag)
 }
 
-// The field with this tag.
 fn field_of(tag: u32) -> Option<Field>
     ensures { option_map seen result ≡ field_with tag }
 {
     first_of(fields(), tag).copied()
 }
 
-/// The name of the field with this tag, empty where no field has it.
+/// The name of the field with this tag, or an empty one where no field has it.
 pub(crate) fn name_of(tag: u32) -> &'static str
     ensures { result.now ≡ name_of tag }
 {
@@ -227,7 +226,7 @@ pub(crate) fn name_of(tag: u32) -> &'static str
     }
 }
 
-/// The data type of the field with this tag, a text where no field has it.
+/// The data type of the field with this tag, or a text where no field has it.
 pub(crate) fn data_type_of(tag: u32) -> DataType
     ensures { result ≡ data_type_of tag }
 {

@@ -9,7 +9,7 @@ use crate::fields::name_of;
 use fix_validation::Row;
 use std::alloc::AllocError;
 
-/// How a line names a field: by its tag, and with whether it is required.
+/// The reference of a line to a field: its tag, and whether it is required.
 #[derive(Clone, Copy)]
 pub(crate) struct Mention {
     pub tag: u32,
@@ -21,12 +21,12 @@ pub(crate) struct Mention {
 pub(crate) enum Line {
     /// a field
     Field(Mention),
-    /// the count field of a group, whose instances' rows have the lines up to the group's end
+    /// the count field of a group; the lines up to the group's end are those of its instances' rows
     GroupBegin(Mention),
     GroupEnd,
 }
 
-/// Appends texts, one behind the other.
+/// Appends texts in order.
 pub(crate) fn append(text: &mut Vec<u8>, parts: &[&str]) -> Result<(), AllocError>
     ensures { OnOk result (text.new.items ≡ text.old.items ++ joined parts.now) }
 {
@@ -43,7 +43,7 @@ fn answer(required: bool) -> &'static str
     if required { "Y" } else { "N" }
 }
 
-/// A field that each message has.
+/// A required field.
 pub(crate) fn required(tag: u32) -> Mention
     ensures { result ≡ required tag }
 {
@@ -53,7 +53,7 @@ pub(crate) fn required(tag: u32) -> Mention
     }
 }
 
-// What a line says of a row.
+// The line of a row.
 fn stated(row: &Row) -> Mention
     ensures { result ≡ stated row.now }
 {
@@ -63,7 +63,7 @@ fn stated(row: &Row) -> Mention
     }
 }
 
-// Appends which field it is, and whether it is required.
+// Appends the field's name, and whether it is required.
 #[tactic(auto, unfolding(crate::specs::Dictionaries::attributes))]
 fn append_attributes(text: &mut Vec<u8>, field: Mention) -> Result<(), AllocError>
     ensures { OnOk result (text.new.items ≡ text.old.items ++ attributes field) }
@@ -105,8 +105,8 @@ fn is_counted(tag: u32, rows: &[Row]) -> bool
     rows.iter().any(|row| row.group == tag)
 }
 
-// Appends the lines of the rows that stand in this group, 0 for outside of groups. A count field has the lines of its instances' rows
-// behind it.
+// Appends the lines of the rows of this group, 0 for outside of groups. The lines of a group's instances follow its
+// count field.
 fn append_rows(text: &mut Vec<u8>, group: u32, rows: &[Row]) -> Result<(), AllocError>
     ensures { OnOk result (text.new.items ≡ text.old.items ++ flat_map line_text (lines_in group rows.now)) }
 {
@@ -134,7 +134,7 @@ pub(crate) fn append_table(text: &mut Vec<u8>, rows: &[Row]) -> Result<(), Alloc
     append_rows(text, 0, rows)
 }
 
-/// Appends the lines of fields that stand in no group.
+/// Appends the lines of fields outside of groups.
 #[tactic(auto, unfolding(crate::specs::Dictionaries::fields_asked))]
 pub(crate) fn append_fields_asked(text: &mut Vec<u8>, fields: &[Mention]) -> Result<(), AllocError>
     ensures { OnOk result (text.new.items ≡ text.old.items ++ fields_asked fields.now) }

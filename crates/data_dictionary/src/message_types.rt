@@ -1,13 +1,13 @@
-//! The types of messages that the venue takes or sends, as the dictionaries list them.
+//! The types of messages that the venue reads or sends, as the dictionaries list them.
 ghost use Rattle.std.specs.Prelude.{◌≡◌, map};
 ghost use Rattle.data_dictionary.specs.MessageTypes.{application_types, seen, session_types};
 
-/// A type of messages.
+/// A message type.
 #[derive(Clone, Copy)]
 pub(crate) struct Listed {
-    /// what 35 says
+    /// the value of 35
     pub code: &'static str,
-    /// how FIXT 1.1 and FIX 5.0 SP2 name it
+    /// its name in FIXT 1.1 and FIX 5.0 SP2
     pub name: &'static str,
 }
 

@@ -41,7 +41,7 @@ impl From<io::Error> for Failure {
     }
 }
 
-// The dictionary that a word of the command line asks for.
+// The dictionary named by a word of the command line.
 fn dictionary_named(word: &str) -> Option<Dictionary> {
     match word {
         "--transport" => Some(Dictionary::Transport),
@@ -57,7 +57,7 @@ fn print_help(rt: &HostRuntime) -> Result<(), Failure> {
     }
 }
 
-// Prints each dictionary that is asked for, in order; or the help.
+// Prints each requested dictionary, in order; or the help.
 fn run(rt: &HostRuntime) -> Result<(), Failure> {
     let mut asked = false;
     for word in env::args(rt)?.skip(1) {
@@ -78,7 +78,7 @@ fn run(rt: &HostRuntime) -> Result<(), Failure> {
 }
 
 fn main(rt: HostRuntime) -> ExitCode {
-    // Where standard error fails too there is nobody left to tell.
+    // Where standard error fails too, the failure cannot be reported.
     match run(&rt) {
         Ok(()) => ExitCode::SUCCESS,
         Err(Failure::CommandLine) => {

@@ -44,14 +44,14 @@ either_false false b h = (refl, h)
 false_not_true : false ≡ true → ⊥
 false_not_true h = search (h, rules)
 
--- the header that is added, as it is printed
+-- the added header, as it is printed
 abbrev pub plain : Header
 plain = record { sender = codes "S"; target = codes "T"; number = 1; sending_time = 0; possible_duplicate = None; possible_resend = None; original_sending_time = None; application_version = None }
 
 pub plain_fits : FitsHeader plain
 plain_fits = record { sender = refl; target = refl; number = (omega arith, omega arith); sending_time = omega arith; original_sending_time = tt; application_version = tt }
 
--- the slots of the header that is added, and then those of a message
+-- the slots of the added header, then those of a message
 abbrev plain_slots : List Slot → List Slot
 plain_slots slots = (49, Some (codes "S")) ∷ (56, Some (codes "T")) ∷ (34, Some (codes "1")) ∷ (52, Some (codes "19700101-00:00:00.000")) ∷ slots
 
@@ -59,7 +59,7 @@ slot_absent : (tag : ℕ) (slots : List Slot) → has_slot tag slots ≡ false �
 slot_absent tag [] h = refl
 slot_absent tag (s ∷ ss) h = let parts = either_false (s.0 == tag) (has_slot tag ss) h in rw parts.0 (slot_absent tag ss parts.1)
 
--- a slot with no value may stand before slots without its tag
+-- an empty slot before slots without its tag
 passed : (k tag : ℕ) (own : List Slot) (rest : Option (List ℕ)) → has_slot k own ≡ false → rest ≡ slot_of tag own → cond (k == tag) None rest ≡ slot_of tag own
 passed k tag own rest h e =
     elim (cases_eq k tag) [
@@ -82,7 +82,7 @@ all_passed tag own h =
     passed 43 tag own _ (not_true (has_slot 43 own) a.0) (passed 97 tag own _ (not_true (has_slot 97 own) b.0)
     (passed 122 tag own _ (not_true (has_slot 122 own) c.0) (passed 1128 tag own _ (not_true (has_slot 1128 own) c.1) refl)))
 
--- the type may stand behind the header
+-- the type may follow the header
 pub moved : (tag : ℕ) (kind : List ℕ) (own : List Slot) → lacks_optional own ≡ true
     → slot_of tag (plain_slots ((35, Some kind) ∷ own))
     ≡ slot_of tag ((35, Some kind) ∷ plain_slots ((43, None) ∷ (97, None) ∷ (122, None) ∷ (1128, None) ∷ own))
@@ -240,6 +240,6 @@ app_fields_are a read fits =
     fill_fields (needs 35 form_of_row.Kind ∷ rows_of (type_of (app_kind a)) 0) ((35, Some (app_kind a)) ∷ app_slots a)
     (refl, (form.kind (app_kind a) (text_of_kind (body.App a) read fits), fill_body (body.App a) read fits)) (app_tags (type_of (app_kind a)))
 
--- the type before fields
+-- the type, then fields
 pub with_kind : (kind : List ℕ) (own : List Slot) → IsText 64 kind → AreFields (fields_of own) → AreFields (fields_of ((35, Some kind) ∷ own))
 with_kind kind own text are = ((fill_fields (needs 35 form_of_row.Kind ∷ []) ((35, Some kind) ∷ []) (refl, (form.kind kind text, tt)) refl).0, are)

@@ -1,4 +1,4 @@
--- Values that are read lie in their ranges.
+-- Values that are read are in their ranges.
 use Rattle.std.proofs.Common.{◌≡◌, ℕ, zero, suc, ◌≤◌, true, false, Bool, List, refl, sym, ◌∙◌, arith, rules, cond, ◌==◌, ◌&&◌, nat_le, Result, Ok, Err, Some, None, ℤ, pos, neg_ℤ, unsigned_abs, drop}
 use Rattle.std.specs.Prelude.{slice_index}
 use Rattle.std.proofs.lemmas.Bool.Decides.{nat_tests}

@@ -1,4 +1,4 @@
--- Crosses: what holds of one in which its table found no fault, and what is printed is read as the message.
+-- Crosses: a cross in which its table found no fault, and a printed cross is read as itself.
 use Rattle.std.proofs.Common.{◌≡◌, ℕ, ◌≤◌, true, false, List, [], ◌∷◌, ◌++◌, refl, sym, ap, subst, ◌∙◌, arith, ◌==◌, length, append_assoc, append-nil, decimal, Option, Some, None, ℤ}
 use Rattle.std.specs.List.{AllByRecursion}
 use Rattle.std.proofs.lemmas.Bool.Decides.{nat_tests}

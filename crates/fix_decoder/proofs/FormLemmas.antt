@@ -1,4 +1,4 @@
--- What is printed in each form fills its row: it has no fault, is a short value, and tells the value that was printed.
+-- What is printed in each form fills its row: it has no fault, is a short value, and spells the printed value.
 use Rattle.std.proofs.Common.{◌≡◌, ℕ, ◌≤◌, true, false, Bool, List, [], ◌∷◌, refl, ap, ◌∙◌, arith, rules, ◌&&◌, nat_le, nat_lt, length, decimal, Option, Some, None, Ok, ℤ, pos}
 use Rattle.std.specs.List.{list_all}
 use Rattle.std.proofs.lemmas.Bool.Decides.{nat_tests}
@@ -37,7 +37,7 @@ longest form.Flag = 1
 longest form.Utc = 21
 longest form.Printable = 200
 
--- what is printed for a row, if anything, is right there, and a short value
+-- the printed value of a row, if any, is valid there and short
 pub record Filled (r : Row) (o : Option (List ℕ)) : Type 0 where
   pub holds : RowHolds r o
   pub text : Given (IsShort (longest r.form)) o

@@ -1,4 +1,4 @@
--- What stands before the fields of a message with groups: a printed header, or the one that is added.
+-- The fields before those of a message with groups: a printed header, or the added one.
 use Rattle.std.proofs.Common.{◌≡◌, ℕ, true, Bool, List, [], ◌∷◌, ◌++◌, refl, subst, ◌∙◌, Some, codes, decimal, arith}
 use Rattle.sef_moment.specs.Utc.{utc_text}
 use Rattle.fix_fields.specs.Fields.{AreFields}
@@ -33,7 +33,7 @@ printed_head h kind fits text = record {
   fields = fill_fields header_rows ((35, Some kind) ∷ header_slots h) (fill_header h kind fits text) refl;
 }
 
--- the header that is added, and the type behind it
+-- the added header, then the type
 abbrev pub added_slots : List ℕ → List Slot
 added_slots kind = (49, Some (codes "S")) ∷ (56, Some (codes "T")) ∷ (34, Some (codes "1")) ∷ (52, Some (codes "19700101-00:00:00.000")) ∷ (35, Some kind) ∷ []
 

@@ -1,4 +1,4 @@
--- Fields printed from slots, some of them the instances of a group: where they stand, and that they have no fault.
+-- Fields printed from slots, some of them the instances of a group: their positions, and that they have no fault.
 use Rattle.std.proofs.Common.{◌≡◌, ℕ, suc, ◌+◌, ◌≤◌, ◌<◌, true, false, Bool, List, [], ◌∷◌, ◌++◌, refl, sym, ap, subst, ◌∙◌, arith, cond, ◌==◌, ◌&&◌, ◌||◌, not, length, map, append_assoc, append-nil, Option, Some, None, Ok, inl, inr, decimal, ◌*◌, length-append}
 use Rattle.std.specs.List.{AllByRecursion}
 use Rattle.std.proofs.lemmas.Bool.Decides.{nat_tests}
@@ -26,7 +26,7 @@ use Rattle.fix_decoder.proofs.LookLemmas.{are_single, are_distinct, Fill, has_ta
 pub fields_append : (ss more : List Slot) → fields_of (ss ++ more) ≡ fields_of ss ++ fields_of more
 fields_append ss more = fields_of_append ss more
 
--- Fields that stand outside of groups.
+-- Fields outside of groups.
 
 abbrev pub at_zero : List Entry → List LocatedFields → List LocatedFields
 at_zero [] rest = rest
@@ -113,7 +113,7 @@ pub upto_length : {X : Type 0} (k : ℕ) (xs : List X) → length (upto k xs) �
 upto_length k [] = refl
 upto_length k (x ∷ xs) = ap suc (upto_length (k + 1) xs)
 
--- Where they stand.
+-- Their positions.
 
 -- an open group, after an instance
 pub record Opens (X : Type 0) (g : GroupOf X) (header rows : List Row) (at : ℕ → Option ℕ → State) : Type 0 where
@@ -136,7 +136,7 @@ members_placed header rows s q (t ∷ ts) fs h =
     moved tag None l = refl
     moved tag (Some bytes) l = refl
 
--- the state behind the instances
+-- the state after the instances
 abbrev pub after : {X : Type 0} → (ℕ → Option ℕ → State) → ℕ → Option ℕ → List X → State
 after at k i [] = at k i
 after at k i (x ∷ xs) = after at (k + 1) (Some (k + 1)) xs
@@ -174,7 +174,7 @@ part_out q k (s ∷ ss) rest h = one s.0 s.1 (goes_on_in k ss rest) (part_out q 
     one tag None ps e = e
     one tag (Some bytes) ps e = rw h e
 
--- an earlier part has nothing of them
+-- an earlier part has none of their fields
 pub part_low : {X : Type 0} (g : GroupOf X) (q k : ℕ) (xs : List X) (rest : List LocatedFields) → q ≤ k → part q (chunk g k xs rest) ≡ part q rest
 part_low g q k [] rest h = refl
 part_low g q k (x ∷ xs) rest h =
@@ -190,7 +190,7 @@ part_here g k x xs rest =
 pub part_later : {X : Type 0} (g : GroupOf X) (q k : ℕ) (x : X) (xs : List X) (rest : List LocatedFields) → (k + 1 == q) ≡ false → part q (chunk g k (x ∷ xs) rest) ≡ part q (chunk g (k + 1) xs rest)
 part_later g q k x xs rest test = rw test (part_out q (k + 1) (g.more x) (chunk g (k + 1) xs rest) test)
 
--- the parts of the instances are free behind them
+-- the parts of the instances are free after them
 abbrev pub AreFree : ℕ → ℕ → List LocatedFields → Type 0
 AreFree k n rest = (q : ℕ) → k < q → q ≤ k + n → part q rest ≡ []
 
@@ -213,13 +213,13 @@ chunk_single g k (x ∷ xs) rest d free q h =
           (chunk_single g (k + 1) xs rest d (free_later k (length xs) rest (λ p a b. free p a (omega (arith, b)))) q h)
     ]
 
--- a later part has nothing of them
+-- a later part has none of their fields
 pub part_high : {X : Type 0} (g : GroupOf X) (q k : ℕ) (xs : List X) (rest : List LocatedFields) → k + length xs < q → part q (chunk g k xs rest) ≡ part q rest
 part_high g q k [] rest h = refl
 part_high g q k (x ∷ xs) rest h =
     part_later g q k x xs rest (grind (arith, nat_tests, h)) ∙ part_high g q (k + 1) xs rest (omega (arith, h))
 
--- Their begins.
+-- Their beginnings.
 
 begins_passed : (first around q : ℕ) (slots : List Slot) (rest : List LocatedFields) → begins first around (goes_on_in q slots rest) ≡ begins first around rest
 begins_passed first around q [] rest = refl
@@ -280,7 +280,7 @@ other_lacking g first tag k (x ∷ xs) rest d h =
     other_here (g.first == first) (not (has_tag tag (part (k + 1) (chunk g k (x ∷ xs) rest)))) _ d
     (lacking_passed first tag (k + 1) (g.more x) (chunk g (k + 1) xs rest) ∙ other_lacking g first tag (k + 1) xs rest d h)
 
--- Nothing of theirs is a count.
+-- None of their fields is a count.
 
 pub passed_counted : (rows : List Row) (all : List LocatedFields) (q : ℕ) (slots : List Slot) (rest : List LocatedFields) → are_plain rows slots → miscounted rows all (goes_on_in q slots rest) ≡ miscounted rows all rest
 passed_counted rows all q [] rest h = refl
@@ -297,7 +297,7 @@ chunk_counted g rows all k (x ∷ xs) rest d =
     let test = (d x).0 in
     rw test (passed_counted rows all (k + 1) (g.more x) (chunk g (k + 1) xs rest) (d x).1 ∙ chunk_counted g rows all (k + 1) xs rest d)
 
--- Nothing stands twice where no part has a tag twice.
+-- Nothing occurs twice where no part has a tag twice.
 
 single_split : (f : Entry) (before behind : List Entry) → are_single (before ++ f ∷ behind) ≡ true → has_tag f.0 before ≡ false
 single_split f [] behind h = refl
@@ -339,7 +339,7 @@ none_twice_behind earlier (p ∷ ps) h =
 pub none_twice : (ps : List LocatedFields) → ((q : ℕ) → are_single (part q ps) ≡ true) → twice [] ps ≡ None
 none_twice ps h = none_twice_behind [] ps h
 
--- Nothing is missing where each row of the outside holds, and no instance lacks one of its own.
+-- Nothing is missing where each row outside of groups holds, and no instance lacks one of its own.
 
 abbrev pub IsThere : List Row → List LocatedFields → Row → Type 0
 IsThere rows ps r = (r.required && is_lacking rows r ps) ≡ false
@@ -393,7 +393,7 @@ right_faultless fault all (f ∷ fs) h =
     let fine : is_fault fault (fault_as (form_of f.0 all) f.1) ≡ false = ap (is_fault fault) h.0 ∙ no_fault fault in
     rw fine (right_faultless fault all fs h.1)
 
--- What they tell.
+-- The message that they spell.
 
 pub read_back : {X : Type 0} (g : GroupOf X) (read : List Entry → X) → (k : ℕ) (xs : List X) (rest : List LocatedFields) (whole : List LocatedFields) → AllByRecursion (λ (x : X). read (fields_of (slots_of g x)) ≡ x) xs → AreFree k (length xs) rest
     → ((q : ℕ) → k < q → part q whole ≡ part q (chunk g k xs rest)) → map read (map (λ (q : ℕ). part q whole) (upto k xs)) ≡ xs
@@ -426,7 +426,7 @@ pub chunk_length : {X : Type 0} (g : GroupOf X) (n : ℕ) (xs : List X) → AllB
 chunk_length g n [] h = omega arith
 chunk_length g n (x ∷ xs) h = omega (arith, slots_length (slots_of g x) (each_slots (slots_of g) xs), chunk_length g n xs h.1, h.0)
 
--- All together: slots outside of groups, and what comes behind them.
+-- All together: slots outside of groups, and the fields after them.
 
 pub outside_part : (outs : List Slot) (tail : List LocatedFields) (post : List Slot) → part 0 tail ≡ fields_of post → part 0 (at_zero (fields_of outs) tail) ≡ fields_of (outs ++ post)
 outside_part outs tail post h = zero_part (fields_of outs) tail ∙ ap (λ (l : List Entry). fields_of outs ++ l) h ∙ sym (fields_append outs post)

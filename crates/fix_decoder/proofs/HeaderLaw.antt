@@ -25,7 +25,7 @@ built : (m : Header) (sender_x : List ℕ) (target_x : List ℕ) (number_x : ℕ
     → sender_x ≡ m.sender → target_x ≡ m.target → number_x ≡ m.number → sending_time_x ≡ m.sending_time → possible_duplicate_x ≡ m.possible_duplicate → possible_resend_x ≡ m.possible_resend → original_sending_time_x ≡ m.original_sending_time → application_version_x ≡ m.application_version → m ≡ record { sender = sender_x; target = target_x; number = number_x; sending_time = sending_time_x; possible_duplicate = possible_duplicate_x; possible_resend = possible_resend_x; original_sending_time = original_sending_time_x; application_version = application_version_x }
 built m sender_x target_x number_x sending_time_x possible_duplicate_x possible_resend_x original_sending_time_x application_version_x sender_e target_e number_e sending_time_e possible_duplicate_e possible_resend_e original_sending_time_e application_version_e = rw (sender_e, target_e, number_e, sending_time_e, possible_duplicate_e, possible_resend_e, original_sending_time_e, application_version_e) refl
 
--- before any slots
+-- in front of any slots
 pub header_before : (h : Header) (kind : List ℕ) (own : List Slot) → FitsHeader h → (fields : List Entry) → Shows fields ((35, Some kind) ∷ (header_slots h ++ own)) → h ≡ header fields
 header_before h kind own fits fields shows =
     built h _ _ _ _ _ _ _ _

@@ -20,7 +20,7 @@ pub or_else_none : (fault : ℕ → DictFault) (o : Option ℕ) (next : Option D
 or_else_none fault None next h = (refl, h)
 or_else_none fault (Some tag) next h = absurd (some_not_none (fault tag) h)
 
--- no kind of fault
+-- no fault of any kind
 pub record Faultless (rows : List Row) (fields : List Entry) : Type 0 where
   pub once : repeated rows [] fields ≡ None
   pub present : missing rows fields ≡ None
@@ -106,7 +106,7 @@ found_as : (fault : ℕ → DictFault) (o : Option ℕ) (next : Option DictFault
 found_as fault None next own others h = others h
 found_as fault (Some tag) next own others h = own tag h
 
--- the first fault is no want of memory
+-- the first fault is not an allocation failure
 pub no_want : (rows : List Row) (fields : List Entry) → first_fault rows fields ≡ Some NoMemory → ⊥
 unfolding first_fault
 no_want rows fields =

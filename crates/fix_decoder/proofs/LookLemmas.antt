@@ -1,4 +1,4 @@
--- Fields that show printed slots have no fault.
+-- Fields of printed slots have no fault.
 use Rattle.std.proofs.Common.{◌≡◌, ℕ, ◌+◌, ◌≤◌, true, false, Bool, List, [], ◌∷◌, ◌++◌, refl, sym, ap, ◌∙◌, arith, rules, ◌==◌, ◌&&◌, ◌||◌, not, nat_le, length, length-append, decimal, Option, Some, None, inl, inr, is_some, if◌then◌else◌}
 use Rattle.std.specs.List.{AllByRecursion}
 use Rattle.std.proofs.lemmas.Bool.Decides.{nat_tests}
@@ -44,13 +44,13 @@ false_not b h = rw h refl
 turned : (a b : ℕ) → (a == b) ≡ false → (b == a) ≡ false
 turned a b h = grind (arith, nat_tests, h)
 
--- Fields of which no two have one tag.
+-- Fields with distinct tags.
 
 abbrev pub are_single : List Entry → Bool
 are_single [] = true
 are_single (f ∷ fs) = not (has_tag f.0 fs) && are_single fs
 
--- none of the tags stands among the earlier fields
+-- none of the tags occurs among the earlier fields
 abbrev are_new : List Entry → List Entry → Bool
 are_new earlier [] = true
 are_new earlier (f ∷ fs) = not (has_tag f.0 earlier) && are_new earlier fs
@@ -67,7 +67,7 @@ pub has_tag_append : (tag : ℕ) (fs gs : List Entry) → has_tag tag (fs ++ gs)
 has_tag_append tag [] gs = refl
 has_tag_append tag (f ∷ fs) gs = ap (λ b. (f.0 == tag) || b) (has_tag_append tag fs gs) ∙ or_assoc (f.0 == tag) (has_tag tag fs) (has_tag tag gs)
 
--- one more field, of another tag, leaves them new
+-- another field, of another tag, leaves them new
 new_behind : (f : Entry) (earlier fields : List Entry) → are_new earlier fields ≡ true → has_tag f.0 fields ≡ false → are_new (earlier ++ f ∷ []) fields ≡ true
 new_behind f earlier [] h k = refl
 new_behind f earlier (g ∷ gs) h k =
@@ -77,7 +77,7 @@ new_behind f earlier (g ∷ gs) h k =
     has_tag_append g.0 earlier (f ∷ []) ∙ or_false _ _ (not_true (has_tag g.0 earlier) parts.0) (or_false _ _ (turned g.0 f.0 others.0) refl) in
     and_true _ _ (false_not _ absent) (new_behind f earlier gs parts.1 others.1)
 
--- so nothing is repeated
+-- nothing is repeated
 none_repeated : (rows : List Row) (earlier fields : List Entry) → are_single fields ≡ true → are_new earlier fields ≡ true → repeated rows earlier fields ≡ None
 none_repeated rows earlier [] d n = refl
 none_repeated rows earlier (f ∷ fs) d n =
@@ -183,7 +183,7 @@ pub record Shows (fields : List Entry) (slots : List Slot) : Type 0 where
   pub once : are_single fields ≡ true
   pub values : (tag : ℕ) → value_of tag fields ≡ slot_of tag slots
 
--- a field of a slot with another tag is passed over
+-- a field of a slot with another tag is skipped
 value_passed : (tag other : ℕ) (o : Option (List ℕ)) (fs : List Entry) → (other == tag) ≡ false → value_of tag (with_slot other o fs) ≡ value_of tag fs
 value_passed tag other None fs h = refl
 value_passed tag other (Some bytes) fs h = rw h refl
@@ -198,7 +198,7 @@ value_here : (tag : ℕ) (o : Option (List ℕ)) (fs : List Entry) → value_of 
 value_here tag None fs h = h
 value_here tag (Some bytes) fs h = let test : (tag == tag) ≡ true = grind (arith, nat_tests) in rw test refl
 
--- where no tag stands twice, a value is that of its slot
+-- where no tag occurs twice, a value is that of its slot
 pub value_slot : (tag : ℕ) (ss : List Slot) → are_distinct ss ≡ true → value_of tag (fields_of ss) ≡ slot_of tag ss
 value_slot tag [] h = refl
 value_slot tag (s ∷ ss) h =
@@ -294,7 +294,7 @@ abbrev pub have_tags : List Row → Bool
 have_tags [] = true
 have_tags (r ∷ rs) = is_tag r.tag && have_tags rs
 
--- the most bytes that the fields of rows take
+-- the most bytes of the fields of rows
 abbrev pub headroom : List Row → ℕ
 headroom [] = 0
 headroom (r ∷ rs) = 11 + longest r.form + headroom rs

@@ -1,4 +1,4 @@
--- Market data: what is printed is read as the message.
+-- Market data: a printed message is read as itself.
 use Rattle.std.proofs.Common.{◌≡◌, ℕ, ◌+◌, ◌≤◌, true, false, Bool, List, [], ◌∷◌, ◌++◌, refl, sym, ap, subst, ◌∙◌, arith, cond, ◌==◌, length, map, append_assoc, append-nil, decimal, Option, Some, None, ℤ}
 use Rattle.std.proofs.lemmas.Bool.Decides.{nat_tests}
 use Rattle.fix_fields.specs.Fields.{Entry, value_of, AreFields}

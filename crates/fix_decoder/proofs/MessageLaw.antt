@@ -233,7 +233,7 @@ flat_fault kind fields h = rw h refl
 flat_outside : (kind : MessageType) (fields : List Entry) → is_grouped kind ≡ false → outside kind fields ≡ fields
 flat_outside kind fields h = rw h refl
 
--- fields that show what is printed spell the message
+-- fields of the printed slots spell the message
 pub shown_is_read : (h : Header) (b : Body) → FitsHeader h → is_flat b ≡ true → FitsBody b → (fields : List Entry) → Shows fields (message_slots (the_message h b)) → Spells (the_message h b) fields
 shown_is_read h b head read fits fields shows =
     let kind : type_in fields ≡ type_of (body_kind b) = ap (λ (o : Option (List ℕ)). type_of (some_or [] o)) (shows.values 35) in
@@ -300,7 +300,7 @@ small_capacity types.MarketDataRequest begin = omega arith
 small_capacity types.MarketDataSnapshot begin = omega arith
 small_capacity types.Unsupported begin = omega arith
 
--- what is printed are fields
+-- a printed message is a list of fields
 pub printed_fields : (m : Message) → is_flat m.body ≡ true → FitsMessage m → AreFields (fields_of (message_slots m))
 printed_fields m read fits =
     fill_fields (header_rows ++ rows_of (type_of (body_kind m.body)) (begin_of m.body)) (message_slots m) (fill_all m.header m.body fits.header read fits.body) (all_tags (type_of (body_kind m.body)) (begin_of m.body))

@@ -1,4 +1,4 @@
--- Orders and what is answered to them: what is printed is read as the message.
+-- Orders and the replies to them: a printed message is read as itself.
 use Rattle.std.proofs.Common.{◌≡◌, ℕ, List, [], refl, sym, ap, ◌∙◌, Option, ℤ}
 use Rattle.sef_moment.specs.Utc.{moment_of}
 use Rattle.fix_fields.specs.Fields.{Entry}

@@ -1,4 +1,4 @@
--- Refusals of other messages: what is printed is read as the message.
+-- Refusals of other messages: a printed message is read as itself.
 use Rattle.std.proofs.Common.{◌≡◌, ℕ, List, [], refl, sym, ap, ◌∙◌, Option}
 use Rattle.fix_fields.specs.Fields.{Entry}
 use Rattle.fix_dictionary.specs.declared.messages.App.TheVariants as app

@@ -162,13 +162,13 @@ part_append q (p ∷ ps) others = kept (is_in q p.1) p.0 (part q ps) (part q oth
     kept true f fs gs all e = ap (λ (l : List Entry). f ∷ l) e
     kept false f fs gs all e = e
 
--- what stands in a part from some field on stands in the part
+-- the fields of a part from some field on are fields of the part
 given_onwards : (q tag : ℕ) (before onwards : List LocatedFields) → not (has_tag tag (part q onwards)) ≡ false → not (has_tag tag (part q (before ++ onwards))) ≡ false
 given_onwards q tag before onwards h =
     rw (part_append q before onwards, has_tag_append tag (part q before) (part q onwards))
     (not_or (has_tag tag (part q before)) (has_tag tag (part q onwards)) h)
 
--- what an instance that begins here has
+-- the fields of an instance that begins here
 begun_given : (g first begin q around : ℕ) (f : Entry) (before ps : List LocatedFields) (r : Row) → ((f.0 == first) && (around == begin)) ≡ true
     → IsNowhereLacking g first ((f, Begins q around) ∷ ps) r → IsGiven g (part q (before ++ (f, Begins q around) ∷ ps)) r
 begun_given g first begin q around f before ps r t h e =

@@ -1,4 +1,4 @@
--- Whatever fields a printed text has spell the message again, and it is short.
+-- Any fields with a printed text spell the message, and the text is short.
 use Rattle.std.proofs.Common.{◌≡◌, ℕ, ◌≤◌, List, ◌∷◌, ◌++◌, length, refl, sym, ap, subst, arith, Some, codes}
 use Rattle.fix_fields.specs.Fields.{Entry, AreFields, fields_text}
 use Rattle.fix_fields.proofs.OneList.{one_list}
@@ -86,7 +86,7 @@ spelled_app (app.MarketDataSnapshot m) fits =
     let law = market.snapshot_law application.plain (codes "W") (added_slots (codes "W")) m application.plain_fits refl fits (added_head (codes "W") refl) refl (refl, (refl, (refl, (refl, (refl, tt))))) in
     (law.0, ap (λ (x : Message). x.body) law.1)
 
--- what is printed are fields
+-- a printed message is a list of fields
 grouped_fields : (h : Header) (kind : List ℕ) (own : List Slot) → FitsHeader h → IsText 64 kind → AreFields (fields_of own) → AreFields (fields_of (head_slots h kind ++ own))
 grouped_fields h kind own head text are =
     subst AreFields (sym (fields_append (head_slots h kind) own)) (fields_both (fields_of (head_slots h kind)) (fields_of own) (fill_fields header_rows (head_slots h kind) (fill_header h kind head text) refl) are)

@@ -1,4 +1,4 @@
--- Quotes: what is printed is read as the message.
+-- Quotes: a printed message is read as itself.
 use Rattle.std.proofs.Common.{◌≡◌, ℕ, List, [], refl, sym, ap, ◌∙◌, Option}
 use Rattle.fix_fields.specs.Fields.{Entry}
 use Rattle.fix_dictionary.specs.declared.values.Side.{Side}

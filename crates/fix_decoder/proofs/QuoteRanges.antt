@@ -1,4 +1,4 @@
--- What holds of a request for quotes, a quote or a refusal in which its table found no fault.
+-- The facts of a request for quotes, a quote or a refusal in which its table found no fault.
 use Rattle.std.proofs.Common.{◌≡◌, ℕ, ◌≤◌, true, List, [], ◌∷◌, ◌++◌, refl, sym, subst, arith, length, map, Option, Some, None}
 use Rattle.std.specs.List.{AllByRecursion}
 use Rattle.fix_fields.specs.Fields.{value_of}

@@ -1,4 +1,4 @@
--- Requests for quotes, quotes and refusals of requests: what is printed is read as the message.
+-- Requests for quotes, quotes and refusals of requests: a printed message is read as itself.
 use Rattle.std.proofs.Common.{◌≡◌, ℕ, ◌≤◌, ◌<◌, true, false, List, [], ◌∷◌, ◌++◌, refl, sym, ap, subst, ◌∙◌, arith, ◌==◌, length, map, append_assoc, append-nil, decimal, Option, Some, None, ℤ}
 use Rattle.std.specs.List.{AllByRecursion}
 use Rattle.std.proofs.lemmas.Bool.Decides.{nat_tests}
@@ -84,7 +84,7 @@ counted_back : (xs list : List Party) → list ≡ xs → counted_parties (party
 counted_back [] list e = refl
 counted_back (x ∷ xs) list e = e
 
--- a count that is passed, where there is one
+-- a skipped count, where there is one
 count_passed : (rows : List Row) (all : List LocatedFields) (q : ℕ) (xs : List Party) (rest : List LocatedFields) → is_count 453 rows ≡ true → first_tag 453 rows ≡ 448
     → length (begins 448 q all) ≡ length xs → FitsParties (length xs) → miscounted rows all rest ≡ None → miscounted rows all (with_placed 453 (party_count xs) (InPart q) rest) ≡ None
 count_passed rows all q [] rest c f number fits none = none

@@ -32,7 +32,7 @@ wider_within true low high wide_low wide_high v n below above h =
     rw inside (ap (λ (x : ℕ). Ok x) same)
 wider_within false low high wide_low wide_high v n below above h = absurd (err_not_ok Format n h)
 
--- what is an integer of a range is the same one of a wider range
+-- an integer of a range is the same one of a wider range
 wider : (low high wide_low wide_high : ℕ) (text : List ℕ) (n : ℕ) → wide_low ≤ low → high ≤ wide_high → integer_in low high text ≡ Ok n → integer_in wide_low wide_high text ≡ Ok n
 unfolding integer_in
 wider low high wide_low wide_high text n below above h = wider_within _ low high wide_low wide_high _ n below above h

@@ -1,4 +1,4 @@
--- Messages of the session: what is printed is read as the message.
+-- Messages of the session: a printed message is read as itself.
 use Rattle.std.proofs.Common.{◌≡◌, ℕ, Bool, List, [], refl, sym, ap, ◌∙◌, arith, Option}
 use Rattle.fix_fields.specs.Fields.{Entry}
 use Rattle.fix_dictionary.specs.declared.messages.Admin.TheVariants as admin

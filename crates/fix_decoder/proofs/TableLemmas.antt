@@ -1,4 +1,4 @@
--- No tag stands twice in a table, so each row has its own form there.
+-- No tag occurs twice in a table, so each row has its own form there.
 use Rattle.std.proofs.Common.{◌++◌, ℕ, List, [], ◌∷◌, refl}
 use Rattle.fix_fields.specs.Fields.{Entry}
 use Rattle.fix_validation.specs.declared.table.Row.{Row}

@@ -1,4 +1,4 @@
--- What is printed as a value is a value, and short.
+-- A printed value is a value, and short.
 use Rattle.std.proofs.Common.{◌≡◌, ◌≢◌, ℕ, suc, ◌+◌, ◌/◌, ◌%◌, ◌^◌, ◌≤◌, ◌<◌, true, false, Bool, List, [], ◌∷◌, ◌++◌, refl, arith, rules, cond, ◌==◌, ◌&&◌, nat_le, nat_lt, length, length-append, decimal, ℤ, pos, negsuc}
 use Rattle.std.specs.List.{list_all}
 use Rattle.std.proofs.lemmas.Bool.Decides.{nat_tests}
@@ -10,7 +10,7 @@ use Rattle.fix_fields.specs.Forms.{six_digits, without_trailing_zeros, is_empty,
 use Rattle.fix_fields.proofs.PrintLemmas.{IsValue-decimal, IsValue-utc_text}
 use Rattle.fix_dictionary.specs.Values.{IsText, is_printable, is_graphic, IsPrice}
 
--- a value of at most so many bytes
+-- a value of at most this many bytes
 pub record IsShort (longest : ℕ) (bytes : List ℕ) : Type 0 where
   pub value : IsValue bytes
   pub short : length bytes ≤ longest
@@ -81,7 +81,7 @@ no_soh n e = absurd (omega arith)
 six_digits_lack : (n : ℕ) → Lacks 1 (six_digits n)
 six_digits_lack n = (no_soh (n / 100_000), (no_soh (n / 10_000), (no_soh (n / 1000), (no_soh (n / 100), (no_soh (n / 10), (no_soh n, tt))))))
 
--- the point and the decimals, where there are any
+-- the point and the decimals, if any
 abbrev decimals_text : Bool → ℕ → List ℕ
 decimals_text whole n = cond whole [] (46 ∷ without_trailing_zeros (six_digits n))
 

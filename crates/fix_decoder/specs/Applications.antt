@@ -1,4 +1,4 @@
--- The fields of an application message without a header: they say what they would say behind a right one.
+-- The fields of an application message without a header: they spell what they spell after a valid one.
 use Rattle.std.specs.Prelude.{◌≡◌, if◌then◌else◌, List, [], ◌∷◌, ◌++◌, Option, None, Some, codes}
 use Rattle.fix_fields.specs.Fields.{Entry}
 use Rattle.fix_validation.specs.declared.faults.DictFault.{DictFault}
@@ -9,7 +9,7 @@ use Rattle.fix_dictionary.specs.declared.messages.Body.TheVariants as body
 use Rattle.fix_dictionary.specs.Kinds.{is_session}
 use Rattle.fix_decoder.specs.Messages.{type_in, fault_in, message_in}
 
--- a right header, with nothing in it but what each header has
+-- a valid header with its required fields alone
 abbrev pub plain_header : List Entry
 plain_header = (49, codes "S") ∷ (56, codes "T") ∷ (34, codes "1") ∷ (52, codes "19700101-00:00:00.000") ∷ []
 
@@ -17,10 +17,10 @@ abbrev pub IsApp : Body → Type 0
 IsApp (body.App a) = Unit {0}
 IsApp (body.Admin m) = ⊥
 
--- the first fault; no message of the session stands without a header
+-- the first fault; a message of the session without a header is one
 abbrev pub app_fault_in : List Entry → Option DictFault
 app_fault_in fields = if is_session (type_in fields) then Some (Format 35) else fault_in (plain_header ++ fields)
 
--- the fields have no fault, and say this message
+-- the fields have no fault, and spell this message
 abbrev pub SpellsApp : App → List Entry → Type 0
 SpellsApp a fields = (app_fault_in fields ≡ None) × (body.App a ≡ (message_in (plain_header ++ fields)).body)

@@ -1,4 +1,4 @@
--- What the fields of a body say, type by type. Where the table of the type finds a fault nothing is asked of it.
+-- The message of a body's fields, type by type. Where the table of the type finds a fault nothing is required of it.
 use Rattle.std.specs.Prelude.{◌≡◌, ℕ, if◌then◌else◌, List, [], map, ◌++◌, Option, None, Some}
 use Rattle.fix_fields.specs.Fields.{Entry, value_of}
 use Rattle.fix_fields.specs.Forms.{integer_in}
@@ -199,7 +199,7 @@ business_message_reject fields = record {
   text = value_of 58 fields;
 }
 
--- Messages with groups: what is outside of them, and their instances.
+-- Messages with groups: the fields outside of them, and their instances.
 
 abbrev pub market_data_entry : List Entry → MarketDataEntry
 market_data_entry fields = record {
@@ -293,11 +293,11 @@ new_order_cross ps = record {
   price = stated price_in (value_of 44 (part 0 ps));
 }
 
--- where the fields of a type with groups stand
+-- the positions of the fields of a type with groups
 abbrev pub placed_as : MessageType → List Entry → List LocatedFields
 placed_as kind fields = located header_rows (rows_of kind 0) start fields
 
--- what is behind the header, by the type
+-- the body, by the type
 abbrev pub body_in : MessageType → List Entry → Body
 body_in types.Heartbeat fields = body.Admin (admin.Heartbeat (heartbeat fields))
 body_in types.TestRequest fields = body.Admin (admin.TestRequest (test_request fields))
@@ -338,7 +338,7 @@ message_as kind fields = record { header = header (outside kind fields); body = 
 abbrev pub message_in : List Entry → Message
 message_in fields = message_as (type_in fields) fields
 
--- the number from which a resend request asks: 10^9, past every number, where its field has none or a greater one
+-- the first number that a resend request asks for: 10^9, past every number, where its field has none or a greater one
 abbrev pub begin_in : List Entry → ℕ
 begin_in fields = ok_or 1_000_000_000 (integer_in 0 1_000_000_000 (bytes_at 7 fields))
 
@@ -351,7 +351,7 @@ fault_as_type kind fields =
 abbrev pub fault_in : List Entry → Option DictFault
 fault_in fields = fault_as_type (type_in fields) fields
 
--- the fields have no fault, and say this message
+-- the fields have no fault, and spell this message
 abbrev pub Spells : Message → List Entry → Type 0
 Spells m fields = (fault_in fields ≡ None) × (m ≡ message_in fields)
 
@@ -359,7 +359,7 @@ Spells m fields = (fault_in fields ≡ None) × (m ≡ message_in fields)
 abbrev pub HasFault : DictFault → List Entry → Type 0
 HasFault fault fields = fault_in fields ≡ Some fault
 
--- the first fault is this one, or memory ran out
+-- the first fault is this one, or an allocation failed
 abbrev pub IsFault : Option DictFault → DictFault → Type 0
 IsFault first NoMemory = Unit {0}
 IsFault first (Twice tag) = first ≡ Some (Twice tag)

@@ -1,4 +1,4 @@
-//! Reads crosses.
+//! Reading of crosses.
 ghost use Rattle.std.specs.Prelude.{◌≡◌, ℕ, ◌≤◌, IfOk, Some, length};
 ghost use Rattle.fix_fields.specs.Fields.{value_of};
 ghost use Rattle.fix_fields.specs.Views.{entries};
@@ -59,7 +59,7 @@ fn cross_of(fields: &[Field], one: CrossSide, other: CrossSide) -> NewOrderCross
     }
 }
 
-// The first side and the second.
+// The sides of a cross, from the two instances of its group.
 fn first_side(alloc: Global, located: &[LocatedField]) -> Result<CrossSide, AllocError>
     requires { Holds side_rows (part (first_begin 54 (places located.now)) (places located.now)) }
     ensures { IfOk result (λ m. m ≡ cross_side (part (first_begin 54 (places located.now)) (places located.now))) }

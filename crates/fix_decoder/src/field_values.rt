@@ -1,4 +1,4 @@
-//! What the values of fields tell, where the table of the message found no fault.
+//! The values of fields in which the table of the message found no fault.
 ghost use Rattle.std.specs.Prelude.{◌≡◌, ℕ, ◌≤◌, ◌<◌, IfOk, MatchOption, None, Some};
 ghost use Rattle.fix_fields.specs.Fields.{value_of};
 ghost use Rattle.fix_fields.specs.Views.{entries};
@@ -17,7 +17,6 @@ use fix_fields::{Field, read_amount, read_integer, read_price, read_quantity};
 use sef_moment::{Moment, read_utc};
 use std::alloc::{AllocError, Global};
 
-// The value of the first field with the tag.
 pub(crate) fn value_of<'a>(fields: &[Field<'a>], tag: u32) -> Option<&'a [u8]>
     ensures { MatchOption result (value_of tag (entries fields.now) ≡ None) (λ value. value_of tag (entries fields.now) ≡ Some value.now) }
 {
@@ -94,7 +93,7 @@ pub(crate) fn sequence_number(fields: &[Field], tag: u32) -> SequenceNumber
     }
 }
 
-// The number from which a resend request asks, or 10^9, which is past every number.
+// The first number that a resend request asks for, or 10^9, which is past every number.
 pub(crate) fn begin_in(fields: &[Field]) -> u32
     ensures { result ≡ begin_in (entries fields.now) }
 {

@@ -1,4 +1,4 @@
-//! Reads each message type with repeating groups from fields in which its table found no fault.
+//! Reading of each message type with repeating groups, from fields in which its table found no fault.
 ghost use Rattle.std.specs.Prelude.{◌≡◌, ◌≤◌, IfOk, map, length};
 ghost use Rattle.fix_fields.specs.Views.{entries};
 ghost use Rattle.fix_validation.specs.Tables.{header_rows, entry_type_rows, instrument_rows, market_data_entry_rows, market_data_request_rows, market_data_snapshot_rows};
@@ -66,7 +66,7 @@ fn sole<'a>(alloc: Global, located: &[LocatedField<'a>], first: u32) -> Result<P
     }
 }
 
-// The instrument that a group names.
+// The instrument of a group.
 pub(crate) fn symbol(alloc: Global, located: &[LocatedField]) -> Result<Identifier, AllocError>
     requires { Holds instrument_rows (sole 55 (places located.now)) }
     ensures { IfOk result (λ id. id ≡ bytes_at 55 (sole 55 (places located.now))) }

@@ -1,4 +1,4 @@
-//! Laws of what is printed and read: each is the contract of a function with no parameters.
+//! Laws of printing and reading: each is the contract of a function with no parameters.
 ghost use Rattle.std.specs.Prelude.{◌≡◌, ◌⊎◌, ◌≤◌, List, length};
 ghost use Rattle.fix_fields.specs.Fields.{Entry, AreFields, fields_text};
 ghost use Rattle.fix_decoder.specs.Applications.{SpellsApp};
@@ -10,8 +10,8 @@ ghost use Rattle.fix_dictionary.specs.declared.messages.App.{App};
 ghost use Rattle.fix_dictionary.specs.declared.messages.Body.TheVariants as body;
 ghost use Rattle.fix_dictionary.specs.declared.messages.Message.{Message};
 
-/// What is printed of a message are fields, and whatever fields the text has spell the message. So it is for the text of
-/// an application message without header.
+/// Law call (docs/ARCHITECTURE.md): the printed text of a message is a list of fields, and any fields with that text
+/// spell the message. The same holds of the text of an application message without header.
 pub fn printed_is_read()
     ensures fields { (m : Message) → FitsMessage m → AreFields (fields_of (message_slots m)) }
     ensures message { (m : Message) (fields : List Entry) → FitsMessage m
@@ -20,12 +20,12 @@ pub fn printed_is_read()
         → AreFields fields → app_text a ≡ fields_text fields → SpellsApp a fields }
 {}
 
-/// The text of a message has at most 65,536 bytes, as much as a frame's body may have.
+/// Law call (docs/ARCHITECTURE.md): the text of a message has at most 65,536 bytes, the limit of a frame's body.
 pub fn printed_is_short()
     ensures { (m : Message) → FitsMessage m → length (message_text m) ≤ 65_536 }
 {}
 
-/// Fields spell a message or have a first fault, and not both.
+/// Law call (docs/ARCHITECTURE.md): fields spell a message or have a first fault, and not both.
 pub fn spelled_or_faulty()
     ensures either { (fields : List Entry) → ((m : Message) × Spells m fields) ⊎ ((fault : DictFault) × HasFault fault fields) }
     ensures not_both { (fields : List Entry) (m : Message) (fault : DictFault) → Spells m fields → HasFault fault fields → ⊥ }

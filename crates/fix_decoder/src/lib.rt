@@ -1,4 +1,4 @@
-//! What the fields of a body say, read as a message.
+//! The fields of a body, read as a message.
 #![tactic(auto)]
 
 // parts

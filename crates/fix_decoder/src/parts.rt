@@ -1,4 +1,4 @@
-//! Reads each message type from fields in which its table found no fault.
+//! Reading of each message type from fields in which its table found no fault.
 ghost use Rattle.std.specs.Prelude.{◌≡◌, IfOk};
 ghost use Rattle.fix_validation.specs.Tables.{header_rows, heartbeat_rows, test_request_rows, resend_request_rows, reject_rows, sequence_reset_rows, logout_rows, logon_rows, quote_cancel_rows, quote_response_rows, quote_status_report_rows, new_order_single_rows, order_cancel_request_rows, order_cancel_replace_request_rows, execution_report_rows, order_cancel_reject_rows, market_data_request_reject_rows, business_message_reject_rows};
 ghost use Rattle.fix_fields.specs.Views.{entries};
@@ -105,8 +105,8 @@ pub(crate) fn logon(fields: &[Field]) -> Logon
     }
 }
 
-// Each message of the venue is put into memory of its own where it is read: no room is held for those of the other types, and it is
-// not handed on by value.
+// Each message of the venue is built on the heap where it is read, so that the largest type costs the others nothing,
+// and is not moved by value.
 
 pub(crate) fn quote_cancel(alloc: Global, fields: &[Field]) -> Result<BoxedApp, AllocError>
     requires { Holds quote_cancel_rows (entries fields.now) }

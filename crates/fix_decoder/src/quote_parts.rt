@@ -1,4 +1,4 @@
-//! Reads requests for quotes, quotes and refusals of requests from fields in which their tables found no fault.
+//! Reading of requests for quotes, quotes and refusals of requests, from fields in which their tables found no fault.
 ghost use Rattle.std.specs.Prelude.{◌≡◌, ℕ, ◌≤◌, IfOk, List, Some, map, length};
 ghost use Rattle.fix_fields.specs.Fields.{value_of};
 ghost use Rattle.fix_fields.specs.Views.{entries};
@@ -49,7 +49,7 @@ fn party_list(
     Ok(list)
 }
 
-// The parties of a part, whose fields are at hand.
+// The parties of a part, given its fields.
 fn parties_of(
     alloc: Global,
     located: &[LocatedField],
@@ -85,7 +85,6 @@ fn asked(fields: &[Field], request_id: Identifier, list: Parties) -> QuoteReques
     }
 }
 
-// The identifier of a request.
 fn request_id(alloc: Global, located: &[LocatedField]) -> Result<Identifier, AllocError>
     requires { Holds (members 0 quote_request_rows) (part 0 (places located.now)) }
     ensures { IfOk result (λ id. id ≡ bytes_at 131 (part 0 (places located.now))) }

@@ -1,4 +1,4 @@
-//! Reads messages.
+//! Reading of messages.
 ghost use Rattle.std.specs.Prelude.{◌≡◌, ◌++◌, true, false, None, Err, IfOk, MatchResult};
 ghost use Rattle.fix_validation.specs.Tables.{header_rows, rows_of};
 ghost use Rattle.fix_validation.specs.Holding.{Holds};
@@ -22,7 +22,7 @@ use fix_validation::{
 };
 use std::alloc::{AllocError, Global};
 
-// What a message of the session says behind its header.
+// A message of the session, without its header.
 fn admin_in(alloc: Global, kind: MessageType, fields: &[Field]) -> Result<Admin, AllocError>
     requires holds { Holds (rows_of kind (begin_in (entries fields.now))) (entries fields.now) }
     requires session { is_session kind ≡ true }
@@ -40,7 +40,7 @@ fn admin_in(alloc: Global, kind: MessageType, fields: &[Field]) -> Result<Admin,
     })
 }
 
-// What a message of the venue without groups says behind its header.
+// A message of the venue without groups, without its header.
 fn flat_app(alloc: Global, kind: MessageType, fields: &[Field]) -> Result<BoxedApp, AllocError>
     requires holds { Holds (rows_of kind 0) (entries fields.now) }
     requires flat { is_grouped kind ≡ false }
@@ -81,7 +81,7 @@ fn body_in(alloc: Global, kind: MessageType, fields: &[Field]) -> Result<Body, A
     }
 }
 
-// What is behind the header of a message without groups.
+// The body of a message without groups.
 fn flat_body(alloc: Global, kind: MessageType, fields: &[Field]) -> Result<Body, AllocError>
     requires holds { Holds (header_rows ++ rows_of kind (begin_in (entries fields.now))) (entries fields.now) }
     requires flat { is_grouped kind ≡ false }
@@ -103,7 +103,7 @@ fn message_in(alloc: Global, kind: MessageType, fields: &[Field]) -> Result<Mess
     })
 }
 
-// What a message with groups says behind its header.
+// A message with groups, without its header.
 fn grouped_app(
     alloc: Global,
     kind: MessageType,
@@ -136,7 +136,7 @@ fn grouped_app(
     })
 }
 
-// What is behind the header of a message with groups.
+// The body of a message with groups.
 fn grouped_body(
     alloc: Global,
     kind: MessageType,
@@ -248,7 +248,7 @@ fn read_body_in(alloc: Global, fields: &[Field]) -> Result<Body, DictFault>
     }
 }
 
-/// What the message that the fields of a body spell says behind its header, or their first fault; of the header nothing is kept.
+/// The body of the message that the fields spell, or their first fault. The header is checked and dropped.
 pub fn read_body(alloc: Global, fields: &Fields) -> Result<Body, DictFault>
     ensures read { MatchResult result (λ b. (fault_in fields.now ≡ None) × (b ≡ (message_in fields.now).body)) (IsFault (fault_in fields.now)) }
     ensures flat { result ≡ Err DictFault.NoMemory → is_grouped (type_in fields.now) ≡ false → fault_in fields.now ≡ None }
@@ -264,7 +264,7 @@ pub fn read_message(alloc: Global, fields: &Fields) -> Result<Message, DictFault
     read_fields(alloc, fields.as_slice())
 }
 
-// A right header, with nothing in it but what each header has.
+// A valid header with its required fields alone.
 const PLAIN_HEADER: [Field<'static>; 4] = [
     Field {
         tag: 49,
@@ -293,7 +293,6 @@ fn with_header<'a>(alloc: Global, fields: &[Field<'a>]) -> Result<Vec<Field<'a>>
     Ok(all)
 }
 
-// The application message that a body is.
 fn application(body: Body) -> App
     requires { IsApp body }
     ensures { body ≡ Body.App result }
@@ -305,7 +304,7 @@ fn application(body: Body) -> App
 }
 
 /// The application message that fields without a header spell, as `print_app` writes them, or their first fault. The
-/// header's optional fields may stand there, once and in their form, and are not kept.
+/// header's optional fields are accepted, once and in their form, and dropped.
 pub fn read_app(alloc: Global, fields: &Fields) -> Result<App, DictFault>
     ensures { MatchResult result (λ a. SpellsApp a fields.now) (IsFault (app_fault_in fields.now)) }
 {

@@ -1,4 +1,4 @@
--- Bytes that are read as an identifier or as a text: whether they are one.
+-- Bytes read as an identifier or as a text: whether they are one.
 use Rattle.std.proofs.Common.{◌≡◌, ℕ, Bool, true, false, ◌&&◌, List, refl, sym, ap, ◌∙◌, is_ok, Result, Ok, Err, MatchResult, if◌then◌else◌}
 use Rattle.std.specs.List.{list_all}
 use Rattle.std.specs.Prelude.{length, nat_le, nat_lt}
@@ -20,7 +20,7 @@ is_read true false false bytes = refl
 are_read : (longest : ℕ) (bytes : List ℕ) → is_ok (printable_of longest bytes) ≡ is_text longest bytes
 are_read longest bytes = is_read (nat_lt 0 (length bytes)) (list_all is_printable bytes) (nat_le (length bytes) longest) bytes
 
--- what is read of bytes, by the definition of it
+-- what is read of bytes, by its definition
 abbrev pub Reads : {V : Type 0} → (V → List ℕ) → ℕ → List ℕ → Result V ValueFault → Type 0
 Reads now longest bytes read = MatchResult read (λ value. printable_of longest bytes ≡ Ok (now value)) (λ fault. printable_of longest bytes ≡ Err fault)
 

@@ -1,4 +1,4 @@
--- The bytes of an identifier, and the zeros behind them.
+-- The bytes of an identifier, and the zeros after them.
 use Rattle.std.proofs.Common.{◌≡◌, ℕ, List, ◌++◌, refl, length, take, drop, replicate, ◌-◌}
 use Rattle.std.proofs.lemmas.List.{drop-replicate}
 use Rattle.std.proofs.Math.Seq.{take-append_seam}

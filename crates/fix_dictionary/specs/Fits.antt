@@ -1,4 +1,4 @@
--- The ranges of the values of a message, which its types keep.
+-- The ranges of the values of a message, as its types keep them.
 use Rattle.std.specs.Prelude.{◌≡◌, ℕ, ◌≤◌, true, length, Option, None, Some}
 use Rattle.std.specs.List.{AllByRecursion}
 use Rattle.fix_dictionary.specs.Kinds.{IsOtherKind}
@@ -222,7 +222,7 @@ pub record FitsMarketDataSnapshot (m : MarketDataSnapshot) : Type 0 where
   pub entries : AllByRecursion FitsMarketDataEntry m.entries
   pub number : FitsEntries (length m.entries)
 
--- nothing is said of the types that are not read
+-- types that are not read have no clause
 abbrev pub FitsBody : Body → Type 0
 FitsBody (body.Admin (admin.Heartbeat m)) = FitsHeartbeat m
 FitsBody (body.Admin (admin.TestRequest m)) = FitsTestRequest m

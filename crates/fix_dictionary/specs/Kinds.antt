@@ -1,4 +1,4 @@
--- The type that the text of a type stands for.
+-- The type of the text of a type.
 use Rattle.std.specs.Prelude.{◌≡◌, ℕ, Bool, true, false, List, codes, if◌then◌else◌}
 use Rattle.std.specs.Str.{bytes_eq}
 use Rattle.fix_dictionary.specs.declared.kinds.MessageType.{MessageType}
@@ -58,6 +58,6 @@ abbrev pub is_resend_request : MessageType → Bool
 is_resend_request types.ResendRequest = true
 is_resend_request _ = false
 
--- what the type of an unsupported message may be
+-- the possible types of an unsupported message
 abbrev pub IsOtherKind : List ℕ → Type 0
 IsOtherKind kind = IsText 64 kind × (type_of kind ≡ types.Unsupported)

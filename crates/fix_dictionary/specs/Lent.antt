@@ -1,4 +1,4 @@
--- Headers and bodies that are lent, without where they lie in memory.
+-- Borrowed headers and bodies, without their place in memory.
 use Rattle.std.specs.Prelude.{option_map}
 use Rattle.fix_dictionary.specs.declared.messages.Body.{Body}
 use Rattle.fix_dictionary.specs.declared.messages.Body.TheVariants as body

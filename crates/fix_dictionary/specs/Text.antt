@@ -1,4 +1,4 @@
--- The printed text of messages: for each type its tags in order, with what is printed of their values.
+-- The printed text of messages: for each type its tags in order, with the printed values.
 use Rattle.std.specs.Prelude.{ℕ, Bool, true, false, List, [], ◌∷◌, ◌++◌, length, Option, None, Some, decimal, codes}
 use Rattle.fix_fields.specs.Fields.{Entry, fields_text}
 use Rattle.fix_fields.specs.Forms.{price_text}
@@ -39,7 +39,7 @@ use Rattle.fix_dictionary.specs.declared.messages.MarketDataSnapshot.{MarketData
 use Rattle.fix_dictionary.specs.declared.messages.MarketDataRequestReject.{MarketDataRequestReject}
 use Rattle.fix_dictionary.specs.declared.messages.BusinessMessageReject.{BusinessMessageReject}
 
--- a tag, and what is printed as its value if it has one
+-- a tag, and its printed value if it has one
 abbrev pub Slot : Type 0
 Slot = ℕ × Option (List ℕ)
 
@@ -222,7 +222,7 @@ business_message_reject_slots m =
     ∷ (58, m.text)
     ∷ []
 
--- the slots of instances, one behind the other
+-- the slots of instances, in order
 abbrev pub each_slots : {X : Type 0} → (X → List Slot) → List X → List Slot
 each_slots print [] = []
 each_slots print (x ∷ xs) = print x ++ each_slots print xs
@@ -245,7 +245,7 @@ quote_request_slots m =
     ∷ (453, party_count m.parties)
     ∷ each_slots party_slots m.parties
 
--- what stands behind the parties of a quote
+-- the slots after the parties of a quote
 abbrev pub quote_rest_slots : Quote → List Slot
 quote_rest_slots m =
     (55, Some m.symbol)
@@ -388,6 +388,6 @@ message_slots m = (35, Some (body_kind m.body)) ∷ (header_slots m.header ++ bo
 abbrev pub message_text : Message → List ℕ
 message_text m = slots_text (message_slots m)
 
--- the same without the header, its type apart
+-- the same without the header: the type, then the fields
 abbrev pub app_text : App → List ℕ
 app_text m = slots_text ((35, Some (app_kind m)) ∷ app_slots m)

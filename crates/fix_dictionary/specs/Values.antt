@@ -3,11 +3,11 @@ use Rattle.std.specs.Prelude.{◌≡◌, ℕ, ◌≤◌, ℤ, unsigned_abs, ◌=
 use Rattle.std.specs.List.{list_all}
 pub use Rattle.fix_fields.specs.Forms.{is_printable, is_graphic}
 
--- one or more printable bytes, at most so many
+-- one or more printable bytes, at most this many
 abbrev pub is_text : ℕ → List ℕ → Bool
 is_text longest bytes = nat_lt 0 (length bytes) && (nat_le (length bytes) longest && list_all is_printable bytes)
 
--- one such byte, and no space
+-- one printable byte other than a space
 abbrev pub is_character : List ℕ → Bool
 is_character [] = false
 is_character (c ∷ []) = is_graphic c
@@ -19,7 +19,7 @@ is_either a b [] = false
 is_either a b (c ∷ []) = (c == a) || (c == b)
 is_either a b (c ∷ d ∷ more) = false
 
--- the bytes, and 0 behind them up to 64
+-- the bytes, padded with 0 up to 64
 abbrev pub zero_padded : List ℕ → List ℕ
 zero_padded bytes = bytes ++ replicate (64 - length bytes) 0
 
@@ -33,14 +33,14 @@ IsPrice p = unsigned_abs p ≤ 1_000_000_000_000_000_000
 abbrev pub IsQuantity : ℕ → Type 0
 IsQuantity q = (1 ≤ q) × (q ≤ 1_000_000_000_000_000)
 
--- what is left, or filled, of a quantity
+-- the leaves quantity, or the filled quantity
 abbrev pub IsAmount : ℕ → Type 0
 IsAmount n = n ≤ 1_000_000_000_000_000
 
 abbrev pub IsNumber : ℕ → ℕ → ℕ → Type 0
 IsNumber low high n = (low ≤ n) × (n ≤ high)
 
--- an integer of which nothing else is said
+-- any integer from 0 to 999,999,999
 abbrev pub IsFixInt : ℕ → Type 0
 IsFixInt n = IsNumber 0 999_999_999 n
 
@@ -48,7 +48,7 @@ IsFixInt n = IsNumber 0 999_999_999 n
 abbrev pub IsSequenceNumber : ℕ → Type 0
 IsSequenceNumber n = IsNumber 1 999_999_999 n
 
--- the number that comes behind some message
+-- the number after some message
 abbrev pub IsNewSequenceNumber : ℕ → Type 0
 IsNewSequenceNumber n = IsNumber 1 1_000_000_000 n
 
@@ -56,7 +56,7 @@ IsNewSequenceNumber n = IsNumber 1 1_000_000_000 n
 abbrev pub IsInterval : ℕ → Type 0
 IsInterval n = IsNumber 0 3600 n
 
--- how many instances a group may have; a group of parties may be absent
+-- the number of instances of a group; a group of parties may be absent
 abbrev pub FitsParties : ℕ → Type 0
 FitsParties n = n ≤ 64
 
@@ -71,7 +71,7 @@ pub record Resend : Type 0 where
   pub begin : ℕ
   pub end : ℕ
 
--- the other is 0, which is the last, or not below the one
+-- the other is 0, for the last, or not below the one
 abbrev pub ends : ℕ → ℕ → Bool
 ends begin end = (end == 0) || nat_le begin end
 

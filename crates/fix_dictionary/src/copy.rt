@@ -193,7 +193,7 @@ fn business_message_reject(
 }
 
 impl App {
-    /// The same message again.
+    /// A copy of the message.
     pub fn copy(&self, alloc: Global) -> Result<App, AllocError>
         ensures { IfOk result (λ copy. copy ≡ self.now) }
     {

@@ -1,4 +1,4 @@
-//! The messages of the venue: their values, their structs, and what is printed of each.
+//! The messages of the venue: their values, their structs, and their printed text.
 #![tactic(auto)]
 
 mod copy;

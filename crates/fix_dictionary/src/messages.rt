@@ -12,7 +12,7 @@ use sef_moment::Moment;
 use std::alloc::{AllocError, Global};
 use std::marker::Model;
 
-/// The header, which each message has.
+/// The header of each message.
 #[derive(Clone, Copy)]
 pub struct Header {
     /// 49
@@ -33,7 +33,7 @@ pub struct Header {
     pub application_version: Option<Identifier>,
 }
 
-/// A header that is lent.
+/// A borrowed header.
 #[derive(Clone, Copy)]
 pub struct HeaderRef<'a> {
     /// 49
@@ -55,7 +55,7 @@ pub struct HeaderRef<'a> {
 }
 
 impl Header {
-    /// The header, lent.
+    /// Borrows the header.
     pub fn lent(&self) -> HeaderRef<'_>
         ensures { lent_header result ≡ self.now }
     {
@@ -89,7 +89,8 @@ pub struct TestRequest {
     pub test_id: Identifier,
 }
 
-/// Message type `2`: asks for the messages from number `begin` (7) to number `end` (16), or to the last one if that is 0.
+/// Message type `2`: asks for the messages from number `begin` (7) to number `end` (16), or to the last one where that
+/// is 0.
 #[derive(Clone, Copy, PartialEq, Eq)]
 pub struct ResendRequest {
     begin: SequenceNumber,
@@ -117,7 +118,7 @@ impl ResendRequest {
         ResendRequest { begin, end }
     }
 
-    /// The first number that is asked for (7).
+    /// The first number asked for (7).
     pub fn begin(self) -> SequenceNumber
         ensures value { result ≡ self.begin }
         ensures range { IsResend self.begin self.end }
@@ -125,7 +126,7 @@ impl ResendRequest {
         self.begin
     }
 
-    /// The last number that is asked for (16); 0 stands for the last one that was sent.
+    /// The last number asked for (16), or 0 for the last one that was sent.
     pub fn end(self) -> FixInt
         ensures value { result ≡ self.end }
         ensures range { IsResend self.begin self.end }
@@ -165,7 +166,7 @@ pub struct Logout {
     pub text: Option<Text>,
 }
 
-/// Message type `A`. Its 98 is always 0 and its 1137 always 9.
+/// Message type `A`. Its 98 is always 0, and its 1137 always 9.
 #[derive(Clone, Copy)]
 pub struct Logon {
     /// 108, in seconds
@@ -485,11 +486,11 @@ pub enum App {
     MarketDataSnapshot(MarketDataSnapshot),
     MarketDataRequestReject(MarketDataRequestReject),
     BusinessMessageReject(BusinessMessageReject),
-    /// a type that none of these is, nor one of the session
+    /// a type other than these and those of the session
     Unsupported(OtherKind),
 }
 
-// Written out, so that a proof sees one call where it is dropped, and not the drop of each part.
+// Written-out drop (docs/ARCHITECTURE.md).
 impl Drop for App {
     fn drop(self) {
         match self {
@@ -514,12 +515,12 @@ impl Drop for App {
     }
 }
 
-/// An application message in memory of its own: 8 bytes where it stands, whatever it says.
+/// An application message on the heap, of 8 bytes inline whatever its type.
 pub struct BoxedApp {
     app: Box<App>,
 }
 
-// Written out, so that a proof sees one call where it is dropped, and not the drop of each part.
+// Written-out drop (docs/ARCHITECTURE.md).
 impl Drop for BoxedApp {
     fn drop(self) {
         let BoxedApp { app: _app } = self;
@@ -535,7 +536,7 @@ impl Model for BoxedApp {
 }
 
 impl BoxedApp {
-    /// The message, moved to memory of its own.
+    /// Moves the message to the heap.
     pub fn new(alloc: Global, app: App) -> Result<BoxedApp, AllocError>
         ensures { IfOk result (λ boxed. boxed ≡ app) }
     {
@@ -543,14 +544,13 @@ impl BoxedApp {
         Ok(BoxedApp { app })
     }
 
-    /// The message, lent.
     pub fn get(&self) -> &App
         ensures { result.now ≡ self.now }
     {
         &self.app
     }
 
-    /// The message, whose memory is given back.
+    /// Moves the message out and frees its memory.
     pub fn into_inner(self) -> App
         ensures { result ≡ self }
     {
@@ -571,14 +571,14 @@ pub enum Admin {
     Logon(Logon),
 }
 
-/// What a message says behind its header.
+/// A message without its header.
 #[derive(Drop)]
 pub enum Body {
     Admin(Admin),
     App(BoxedApp),
 }
 
-/// A body that is lent.
+/// A borrowed body.
 #[derive(Clone, Copy)]
 pub enum BodyRef<'a> {
     Admin(&'a Admin),
@@ -592,7 +592,7 @@ pub struct Message {
     pub body: Body,
 }
 
-/// An application message as a session accepted it: its era, from 1, its number (34) in that era, and what it says.
+/// An application message as a session accepted it: its era, from 1, its number (34) in that era, and the message.
 #[derive(Drop)]
 pub struct Item {
     pub era: u32,

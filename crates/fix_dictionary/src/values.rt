@@ -7,10 +7,10 @@ use fix_fields::read_identifier;
 use std::alloc::{AllocError, Global};
 use std::marker::Model;
 
-/// An identifier: 1 to 64 bytes, each from 32 to 126. It lies in the value: nothing is allocated for it.
+/// An identifier: 1 to 64 bytes, each from 32 to 126, stored inline without allocation.
 #[derive(Clone, Copy)]
 pub struct Identifier {
-    // The bytes, and 0 behind them.
+    // The bytes, padded with 0.
     padded: [u8; 64],
     len: u8,
 }
@@ -39,7 +39,7 @@ pub fn is_identifier(bytes: &[u8]) -> bool
     read_identifier(bytes).is_ok()
 }
 
-// The bytes, and 0 behind them.
+// The bytes, padded with 0.
 #[tactic(auto, using(crate::proofs::ValueLemmas::zeros_behind))]
 fn zero_padded(bytes: &[u8]) -> [u8; 64]
     requires { length bytes.now ≤ 64 }
@@ -51,7 +51,7 @@ fn zero_padded(bytes: &[u8]) -> [u8; 64]
 }
 
 impl Identifier {
-    /// The identifier with these bytes, where they are one.
+    /// The identifier with these bytes, or `None` where they are not one.
     pub fn read(bytes: &[u8]) -> Option<Identifier>
         ensures { result ≡ (if is_text 64 bytes.now then Some bytes.now else None) }
     {
@@ -62,7 +62,6 @@ impl Identifier {
         }
     }
 
-    /// The identifier with these bytes.
     #[tactic(auto, using(crate::proofs::ValueLemmas::bytes_in_front))]
     pub fn from_slice(bytes: &[u8]) -> Identifier
         requires { IsText 64 bytes.now }
@@ -81,7 +80,7 @@ impl Identifier {
         &self.padded[..usize::from(self.len)]
     }
 
-    /// Whether the other has the same bytes.
+    /// Whether both have the same bytes.
     pub fn is(&self, other: &Identifier) -> bool
         ensures { result ≡ bytes_eq self.now other.now }
     {
@@ -107,7 +106,6 @@ impl Model for Text {
 }
 
 impl Text {
-    /// The text with these bytes.
     pub fn from_slice(alloc: Global, bytes: &[u8]) -> Result<Text, AllocError>
         requires { IsText 200 bytes.now }
         ensures { IfOk result (λ text. text ≡ bytes.now) }
@@ -123,7 +121,7 @@ impl Text {
         &self.bytes
     }
 
-    /// The same again.
+    /// A copy of the text.
     pub fn copy(&self, alloc: Global) -> Result<Text, AllocError>
         ensures { IfOk result (λ copy. copy ≡ self.now) }
     {
@@ -201,7 +199,7 @@ impl FixInt {
     }
 }
 
-/// The number of a message (34, 7), from 1 to 999,999,999.
+/// The sequence number of a message (34, 7), from 1 to 999,999,999.
 #[derive(Clone, Copy, PartialEq, Eq)]
 pub struct SequenceNumber {
     value: u32,
@@ -236,7 +234,7 @@ impl SequenceNumber {
     }
 }
 
-/// The number that comes next (36), from 1 to 1,000,000,000: one past the greatest number too.
+/// The next sequence number (36), from 1 to 1,000,000,000: up to one past the greatest sequence number.
 #[derive(Clone, Copy, PartialEq, Eq)]
 pub struct NewSequenceNumber {
     value: u32,
@@ -376,7 +374,7 @@ impl Quantity {
     }
 }
 
-/// What is left, or filled, of a quantity: from 0 to 10^15.
+/// The leaves quantity, or the filled quantity: from 0 to 10^15.
 #[derive(Clone, Copy, PartialEq, Eq)]
 pub struct Amount {
     value: u64,
@@ -418,7 +416,7 @@ pub enum Side {
     Sell,
 }
 
-/// A message type that is none of the venue or of the session.
+/// A message type other than those of the venue and of the session.
 #[derive(Clone, Copy)]
 pub struct OtherKind {
     kind: Identifier,
@@ -438,7 +436,6 @@ impl Model for OtherKind {
 }
 
 impl OtherKind {
-    /// The type with this text.
     pub fn from_slice(bytes: &[u8]) -> OtherKind
         requires { IsOtherKind bytes.now }
         ensures { result ≡ bytes.now }

@@ -1,4 +1,4 @@
--- Slots, one behind the other.
+-- Slots, in order.
 use Rattle.std.proofs.Common.{◌≡◌, ℕ, ◌+◌, ◌<◌, List, [], ◌∷◌, ◌++◌, length, take, get_or, refl, sym, ap, ◌∙◌, append_assoc, append-nil}
 use Rattle.std.proofs.lemmas.List.{take_more}
 use Rattle.fix_dictionary.specs.Text.{Slot, slots_text, each_slots}
@@ -10,7 +10,7 @@ slots_append : (xs ys : List values.Slot) → slots (xs ++ ys) ≡ slots xs ++ s
 slots_append [] ys = refl
 slots_append (x ∷ xs) ys = ap (λ (l : List Slot). slot x ∷ l) (slots_append xs ys)
 
--- one more slot
+-- another slot
 pub slots_take : (list : List values.Slot) (i : ℕ) (d : values.Slot) → i < length list
     → slots_text (slots (take (i + 1) list)) ≡ slots_text (slots (take i list)) ++ slots_text (slots (get_or list i d ∷ []))
 slots_take list i d lt =
@@ -22,7 +22,7 @@ each_append : {X : Type 0} (f : X → List Slot) (xs ys : List X) → each_slots
 each_append f [] ys = refl
 each_append f (x ∷ xs) ys = ap (λ (l : List Slot). f x ++ l) (each_append f xs ys) ∙ sym (append_assoc (f x) (each_slots f xs) (each_slots f ys))
 
--- one more instance
+-- another instance
 pub each_take : {X : Type 0} (f : X → List Slot) (list : List X) (i : ℕ) (d : X) → i < length list
     → slots_text (each_slots f (take (i + 1) list)) ≡ slots_text (each_slots f (take i list)) ++ slots_text (f (get_or list i d))
 each_take {X = X} f list i d lt =

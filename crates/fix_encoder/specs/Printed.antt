@@ -1,4 +1,4 @@
--- What is printed as a value, without where it lies in memory.
+-- Printed values without their place in memory.
 use Rattle.std.specs.Prelude.{ℕ, List, [], ◌∷◌, Option, None, Some, decimal, map}
 use Rattle.fix_fields.specs.Forms.{price_text}
 use Rattle.sef_moment.specs.Utc.{utc_text}

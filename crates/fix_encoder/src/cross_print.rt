@@ -1,4 +1,4 @@
-//! Prints crosses.
+//! Printing of crosses.
 ghost use Rattle.std.specs.Prelude.{◌≡◌, ℕ, ◌≤◌, ◌++◌, ◌∷◌, [], decimal, Some, length};
 ghost use Rattle.fix_fields.specs.Fields.{Appends};
 ghost use Rattle.fix_dictionary.specs.Fits.{FitsCrossSide, FitsNewOrderCross};

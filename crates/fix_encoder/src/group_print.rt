@@ -1,4 +1,4 @@
-//! Prints messages with repeating groups.
+//! Printing of messages with repeating groups.
 ghost use Rattle.std.specs.Prelude.{◌≡◌, ℕ, ◌≤◌, ◌++◌, ◌∷◌, [], decimal, Some, length};
 ghost use Rattle.std.specs.List.{AllByRecursion};
 ghost use Rattle.fix_fields.specs.Fields.{Appends};
@@ -71,7 +71,7 @@ fn print_entries(out: &mut Vec<u8>, list: &[MarketDataEntry]) -> Result<(), Allo
     Ok(())
 }
 
-// The values of each instance lie in their ranges, as their types say.
+// The values of each instance are in their ranges, as their types say.
 fn entry_types_fit(list: &[FixChar])
     ensures { AllByRecursion IsGraphic list.now }
 {

@@ -1,4 +1,4 @@
-//! Messages, printed.
+//! Printing of messages.
 #![tactic(auto)]
 
 mod cross_print;

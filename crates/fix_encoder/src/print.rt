@@ -1,4 +1,4 @@
-//! Prints messages.
+//! Printing of messages.
 ghost use Rattle.std.specs.Prelude.{◌≡◌, ℕ, ◌≤◌, ◌++◌, ◌∷◌, [], decimal, OnOk, OnErr, MatchOption, None, Some, option_map, take, length};
 ghost use Rattle.fix_fields.specs.Fields.{Appends, IsTag, field_text, fields_text};
 ghost use Rattle.fix_fields.specs.Forms.{price_text};
@@ -23,7 +23,7 @@ use fix_fields::{append_byte, append_bytes, append_moment, append_number, append
 use sef_moment::Moment;
 use std::alloc::AllocError;
 
-/// What is printed as a value.
+/// A printed value.
 #[derive(Clone, Copy)]
 pub(crate) enum Printed<'a> {
     Bytes(&'a [u8]),
@@ -33,7 +33,7 @@ pub(crate) enum Printed<'a> {
     Byte(u8),
 }
 
-/// A tag, and what is printed as its value if it has one.
+/// A tag, and its printed value if it has one.
 #[derive(Clone, Copy)]
 pub(crate) struct Slot<'a> {
     pub tag: u32,
@@ -61,7 +61,7 @@ fn append_slot(out: &mut Vec<u8>, tag: u32, value: &Printed) -> Result<(), Alloc
     }
 }
 
-// Appends a slot, which is nothing where it has no value.
+// Appends a slot, or nothing where it has no value.
 fn append_optional(out: &mut Vec<u8>, slot: &Slot) -> Result<(), AllocError>
     ensures { Appends out.old.items out.new.items (fields_text (with_slot slot.now.tag (printed_option slot.now.value) [])) result }
 {
@@ -486,7 +486,6 @@ fn print_business_message_reject(
     )
 }
 
-// The text of an application message's type.
 fn app_kind(message: &App) -> &[u8]
     ensures { result.now ≡ app_kind message.now }
 {
@@ -539,7 +538,6 @@ fn append_app(out: &mut Vec<u8>, message: &App) -> Result<(), AllocError>
     }
 }
 
-// The text of a session message's type.
 fn admin_kind(message: &Admin) -> &[u8]
     ensures { result.now ≡ admin_kind message.now }
 {
@@ -588,7 +586,7 @@ fn append_body(out: &mut Vec<u8>, body: BodyRef) -> Result<(), AllocError>
     }
 }
 
-// Appends the header and what is behind it.
+// Appends the header and the body after the type.
 #[tactic(auto, using(fix_dictionary::proofs::TextLemmas::slots_text_append))]
 fn append_rest(out: &mut Vec<u8>, header: &HeaderRef, body: BodyRef) -> Result<(), AllocError>
     ensures text { Appends out.old.items out.new.items (slots_text (header_slots (lent_header header.now) ++ body_slots (lent_body body.entry))) result }
@@ -614,7 +612,7 @@ fn append_application(out: &mut Vec<u8>, message: &App) -> Result<(), AllocError
     append_app(out, message)
 }
 
-// Takes back what a refused call appended behind the first bytes.
+// Truncates what a failed call appended.
 fn settle(out: &mut Vec<u8>, start: usize, done: Result<(), AllocError>) -> Result<(), AllocError>
     ensures result { result ≡ done }
     ensures ok { OnOk done (out.new.items ≡ out.old.items) }
@@ -626,7 +624,7 @@ fn settle(out: &mut Vec<u8>, start: usize, done: Result<(), AllocError>) -> Resu
     done
 }
 
-/// Appends the body of the frame of a message with this header and body. After an error nothing is appended.
+/// Appends the body of the frame of a message with this header and body. An `Err` appends nothing.
 pub fn print_parts(header: &HeaderRef, body: BodyRef, out: &mut Vec<u8>) -> Result<(), AllocError>
     ensures ok { OnOk result (out.new.items ≡ out.old.items ++ message_text (record { header = lent_header header.now; body = lent_body body.entry })) }
     ensures fits { OnOk result (FitsMessage (record { header = lent_header header.now; body = lent_body body.entry })) }
@@ -637,7 +635,7 @@ pub fn print_parts(header: &HeaderRef, body: BodyRef, out: &mut Vec<u8>) -> Resu
     settle(out, start, done)
 }
 
-/// Appends the body of the message's frame. After an error nothing is appended.
+/// Appends the body of the message's frame. An `Err` appends nothing.
 pub fn print_message(message: &Message, out: &mut Vec<u8>) -> Result<(), AllocError>
     ensures ok { OnOk result (out.new.items ≡ out.old.items ++ message_text message.now) }
     ensures fits { OnOk result (FitsMessage message.now) }
@@ -650,8 +648,7 @@ pub fn print_message(message: &Message, out: &mut Vec<u8>) -> Result<(), AllocEr
     print_parts(&message.header.lent(), body, out)
 }
 
-/// Appends the text of an application message: its type and its own fields, without a header. After an error nothing is
-/// appended.
+/// Appends the text of an application message: its type and its own fields, without a header. An `Err` appends nothing.
 pub fn print_app(message: &App, out: &mut Vec<u8>) -> Result<(), AllocError>
     ensures ok { OnOk result (out.new.items ≡ out.old.items ++ app_text message.now) }
     ensures fits { OnOk result (FitsBody (Body.App message.now)) }

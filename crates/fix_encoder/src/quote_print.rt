@@ -1,4 +1,4 @@
-//! Prints requests for quotes, quotes and refusals of requests.
+//! Printing of requests for quotes, quotes and refusals of requests.
 ghost use Rattle.std.specs.Prelude.{◌≡◌, ℕ, ◌≤◌, ◌++◌, ◌∷◌, [], decimal, Some, length};
 ghost use Rattle.std.specs.List.{AllByRecursion};
 ghost use Rattle.fix_fields.specs.Fields.{Appends};
@@ -61,7 +61,7 @@ fn party_fits(m: &Party)
     let _ = m.role.get();
 }
 
-// The values of each party lie in their ranges, as their types say.
+// The values of each party are in their ranges, as their types say.
 fn parties_fit(list: &[Party])
     ensures { AllByRecursion FitsParty list.now }
 {

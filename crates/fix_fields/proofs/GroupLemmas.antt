@@ -1,4 +1,4 @@
--- Groups: the parts of fields in which one stands, and that its instances are determined.
+-- Groups: the parts of fields that hold one, and the uniqueness of its instances.
 use Rattle.std.proofs.Common.{◌≡◌, ℕ, ◌==◌, Bool, true, false, ◌&&◌, ◌||◌, not, List, [], ◌∷◌, ◌++◌, length, map, cond, refl, sym, ap, subst, ◌∙◌, arith, inl, inr, Result, Ok, Err}
 use Rattle.std.specs.List.{AllByRecursion}
 use Rattle.std.proofs.lemmas.Bool.{cases_eq}
@@ -89,7 +89,7 @@ HasOnly-append : (test : ℕ → Bool) (xs ys : List Entry) → HasOnly test xs 
 HasOnly-append test [] ys h k = k
 HasOnly-append test (x ∷ xs) ys h k = (h.0, HasOnly-append test xs ys h.1 k)
 
--- what is left aside takes no tag away that fails, and adds none
+-- ignored fields remove no tag that fails, and add none
 kept-HasNo : (g : Group) (test : ℕ → Bool) (xs : List Entry) → HasNo test xs → HasNo test (kept g xs)
 kept-HasNo g test [] h = tt
 kept-HasNo g test (x ∷ xs) h =
@@ -116,7 +116,7 @@ ending true true h = cc
 ending true false h = (refl, refl)
 ending false member h = cc
 
--- behind them stands no member
+-- no member follows them
 kept-stops : (g : Group) (xs : List Entry) → BeginsAs (is_end g) xs → Stops (is_member g) (kept g xs)
 kept-stops g [] h = tt
 kept-stops g (x ∷ xs) h =
@@ -253,7 +253,7 @@ joined-cut tag (x ∷ xs) h =
 first-named : (g : Group) (tag : ℕ) → (tag == g.first) ≡ true → is_named g tag ≡ true
 first-named g tag e = named-member g tag (rw e refl)
 
--- cutting, and leaving fields aside, in either order
+-- cutting and ignoring fields commute
 before-kept : (g : Group) (xs : List Entry) → before_tag g.first (kept g xs) ≡ kept g (before_tag g.first xs)
 before-kept g [] = refl
 before-kept g (x ∷ xs) =
@@ -278,7 +278,7 @@ cut-kept g (x ∷ xs) =
 own-count : (g : Group) (tag : ℕ) → tag ≡ g.count → is_own g tag ≡ true
 own-count g tag e = let test : (tag == g.count) ≡ true = grind (arith, nat_tests) in rw test refl
 
--- The parts of a group are those of the cut, as far as the fields are kept.
+-- The parts of a group are those of the cut, up to ignored fields.
 pub record SameParts (count : Entry) (body rest : List Entry) (other : Entry) (middle more : List Entry) : Type 0 where
   pub here : other ≡ count
   pub members : middle ≡ body
@@ -295,7 +295,7 @@ same_parts g fields count body rest instances cut group =
     (instances-members g instances group.each) (kept-members g body cut.middle) (stops (is_member g) group.rest group.behind) (kept-stops g rest cut.behind) at.behind in
     record { here = at.here; members = split.0; behind = split.1 }
 
--- the instances that the middle part has, without the fields that are left aside
+-- the instances of the middle part, without the ignored fields
 abbrev pub instances_in : Group → List Entry → List (List Entry)
 instances_in g body = map (kept g) (cut_before g.first body)
 
@@ -340,20 +340,20 @@ fails-at : (test : ℕ → Bool) (xs : List Entry) (y : Entry) (ys : List Entry)
 fails-at test [] y ys h = h.0
 fails-at test (x ∷ xs) y ys h = fails-at test xs y ys h.1
 
--- where no field is the group's there is no group
+-- where no field belongs to the group there is no group
 pub no_group : (g : Group) (fields : List Entry) (instances : List (List Entry)) → HasNo (is_own g) fields → IsGroup g fields instances → ⊥
 no_group g fields instances h group =
     let none : HasNo (is_own g) (group.front ++ group.count ∷ (chained instances ++ group.rest)) =
     subst (λ (l : List Entry). HasNo (is_own g) l) group.parts (kept-HasNo g (is_own g) fields h) in
     not_both (is_own g group.count.0) (own-count g group.count.0 group.tag) (fails-at (is_own g) group.front group.count (chained instances ++ group.rest) none)
 
--- where there are parts, a field is the group's
+-- where there are parts, a field belongs to the group
 pub some_own : (g : Group) (fields : List Entry) (count : Entry) (body rest : List Entry) → IsCut g fields count body rest → HasNo (is_own g) fields → ⊥
 some_own g fields count body rest cut h =
     let none : HasNo (is_own g) (cut.front ++ count ∷ (body ++ rest)) = subst (λ (l : List Entry). HasNo (is_own g) l) cut.parts h in
     not_both (is_own g count.0) cut.own (fails-at (is_own g) cut.front count (body ++ rest) none)
 
--- the instances are determined
+-- the instances are unique
 pub one_group : (g : Group) (fields : List Entry) (instances others : List (List Entry)) → has g.others.now g.first ≡ false
     → IsGroup g fields instances → IsGroup g fields others → instances ≡ others
 one_group g fields instances others lacks group more =

@@ -1,4 +1,4 @@
--- Where fields are cut.
+-- Places at which fields are cut.
 use Rattle.std.proofs.Common.{◌≡◌, ℕ, suc, ◌+◌, ◌<◌, ◌≤◌, ◌==◌, Bool, true, not, List, [], ◌∷◌, ◌++◌, length, get_or, filter, take, drop, cond, refl, sym, ap, subst, ◌∙◌, arith, append-nil}
 use Rattle.std.specs.List.{count_by, position_or_len}
 use Rattle.std.proofs.lemmas.List.Sums.{length-filter}
@@ -31,7 +31,7 @@ pub split_is : (test : ℕ → Bool) (fields : List Field) → let place = posit
 split_is test [] = record { parts = refl; before = tt; here = tt }
 split_is test (f ∷ fs) = split_first test f fs (split_is test fs)
 
--- what stands before the tag begins no instance
+-- the fields before the tag begin no instance
 pub cut-front : (tag : ℕ) (front rest : List Entry) → HasNo (λ t. t == tag) front → cut_before tag (front ++ rest) ≡ cut_before tag rest
 cut-front tag [] rest h = refl
 cut-front tag (f ∷ fs) rest h = let e = h.0 in let more = cut-front tag fs rest h.1 in rw e more
@@ -60,7 +60,7 @@ begun tag (f ∷ fs) =
 pub number_is : (tag : ℕ) (fields : List Field) → count_by (λ (f : Field). f.tag == tag) fields ≡ length (cut_before tag (entries fields))
 number_is tag fields = sym (length-filter (λ (f : Field). f.tag == tag) fields) ∙ begun tag fields
 
--- the same of what the code cuts
+-- the same of the cut in the code
 split_at : (test : ℕ → Bool) (fields : List Field) (place : ℕ) → place ≡ position_or_len (λ (f : Field). test f.tag) fields
     → IsSplit test (entries fields) (entries (take place fields)) (entries (drop place fields))
 split_at test fields place e = rw e (split_is test fields)

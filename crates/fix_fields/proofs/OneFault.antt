@@ -45,14 +45,14 @@ no_empty f tag h is e =
     let none : length f.1 ≡ 0 = ap length (sym value) in
     absurd (omega (arith, h.1.some))
 
--- what begins with a field has no fault in front
+-- a text that begins with a field has no fault in front
 pub no_front_fault : (f : Entry) (rest text : List ℕ) (fault : FieldFault) → IsField f → text ≡ field_text f.0 f.1 ++ rest → FrontFault text fault → ⊥
 no_front_fault f rest text BadTag h e (inl bad) = bad.4 f.0 f.1 h.0 (same_piece f rest text bad.0 bad.1 h e bad.2 bad.3)
 no_front_fault f rest text BadTag h e (inr unended) = ended f rest text e unended
 no_front_fault f rest text (NoValue tag) h e bad = no_empty f tag h bad.4.0 (sym bad.4.1 ∙ same_piece f rest text bad.0 bad.1 h e bad.2 bad.3)
 no_front_fault f rest text NoMemory h e bad = bad
 
--- the rest at which fields stop is determined
+-- the rest at which fields stop is unique
 same_stop : (fs gs : List Entry) (r s : List ℕ) (fault other : FieldFault) → AreFields fs → AreFields gs → fields_text fs ++ r ≡ fields_text gs ++ s
     → FrontFault r fault → FrontFault s other → r ≡ s
 same_stop [] [] r s fault other h k e a b = e

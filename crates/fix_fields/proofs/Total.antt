@@ -45,7 +45,7 @@ true_or_not : (b : Bool) → (b ≡ true) ⊎ (b ≡ true → ⊥)
 true_or_not true = inl refl
 true_or_not false = inr (λ e. cc)
 
--- a text is that of a tag, or not
+-- whether a text is that of a tag is decidable
 tag_or_not : (text : List ℕ) → IsTagText text ⊎ (IsTagText text → ⊥)
 tag_or_not text = ⊎_elim
     (λ (some : 0 < length text). ⊎_elim
@@ -122,7 +122,7 @@ fault_in_front NoMemory body piece after real whole lacks h = absurd (real refl)
 one_more : (f : Entry) (fields : List Entry) (after rest : List ℕ) → after ≡ fields_text fields ++ rest → field_text f.0 f.1 ++ after ≡ fields_text (f ∷ fields) ++ rest
 one_more f fields after rest e = ap (λ (l : List ℕ). field_text f.0 f.1 ++ l) e ∙ sym (append_assoc (field_text f.0 f.1) (fields_text fields) rest)
 
--- the fault stands behind a field
+-- the fault comes after a field
 fault_behind : (fault : FieldFault) (f : Entry) (body after : List ℕ) → fault ≢ NoMemory → IsField f → body ≡ field_text f.0 f.1 ++ after → BodyFault after fault → BodyFault body fault
 fault_behind BadTag f body after real is whole h = (f ∷ h.0, h.1, (is, h.2), whole ∙ one_more f h.0 after h.1 h.3, h.4)
 fault_behind (NoValue tag) f body after real is whole h = (f ∷ h.0, h.1, (is, h.2), whole ∙ one_more f h.0 after h.1 h.3, h.4)

@@ -11,7 +11,7 @@ abbrev pub BeginsAs : (ℕ → Bool) → List Entry → Type 0
 BeginsAs test [] = Unit {0}
 BeginsAs test (f ∷ fs) = test f.0 ≡ true
 
--- the first field of the group, the fields behind it that do not end the group, and the rest
+-- the first field of the group, the fields after it up to the group's end, and the rest
 pub record IsCut (g : Group) (fields : List Entry) (count : Entry) (body rest : List Entry) : Type 0 where
   pub front : List Entry
   pub parts : fields ≡ front ++ count ∷ (body ++ rest)
@@ -30,7 +30,7 @@ abbrev pub has_no : (ℕ → Bool) → List Entry → Bool
 has_no test [] = true
 has_no test (f ∷ fs) = not (test f.0) && has_no test fs
 
--- the text is an integer, this number
+-- the text spells this integer
 abbrev pub is_read_as : ℕ → Result ℕ ValueFault → Bool
 is_read_as n (Ok m) = m == n
 is_read_as n (Err fault) = false

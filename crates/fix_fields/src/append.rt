@@ -10,7 +10,6 @@ use itoa::Buffer;
 use sef_moment::{Moment, print_utc};
 use std::alloc::AllocError;
 
-// The bytes of all parts.
 fn total_len(parts: &[&[u8]]) -> usize
     requires { sum_by (λ part. length part.now) parts.now < 2 ^ 64 }
     ensures { result ≡ length (joined parts.now) }
@@ -18,7 +17,7 @@ fn total_len(parts: &[&[u8]]) -> usize
     parts.iter().map(|part| part.len()).sum()
 }
 
-// Appends the parts, one behind the other.
+// Appends the parts in order.
 fn append_parts(bytes: &mut Vec<u8>, parts: &[&[u8]]) -> Result<(), AllocError>
     requires { sum_by (λ part. length part.now) parts.now < 2 ^ 64 }
     ensures appends { Appends bytes.old.items bytes.new.items (joined parts.now) result }
@@ -33,7 +32,7 @@ fn append_parts(bytes: &mut Vec<u8>, parts: &[&[u8]]) -> Result<(), AllocError>
     Ok(())
 }
 
-// Appends a digit, for which there is room.
+// Appends a digit, for which capacity is reserved.
 #[inline]
 fn push_digit(bytes: &mut Vec<u8>, digit: u64)
     requires digit { digit < 10 }
@@ -45,7 +44,7 @@ fn push_digit(bytes: &mut Vec<u8>, digit: u64)
     bytes.push_reserved(b'0' + digit as u8);
 }
 
-// Appends the last four digits of a number, for which there is room.
+// Appends the last four digits of a number, for which capacity is reserved.
 #[inline]
 fn push_four(bytes: &mut Vec<u8>, n: u64)
     requires { vec_len bytes.old + 4 ≤ vec_capacity bytes.old }
@@ -59,7 +58,7 @@ fn push_four(bytes: &mut Vec<u8>, n: u64)
     push_digit(bytes, n % 10);
 }
 
-// Appends the digits of a number below 10,000, for which there is room.
+// Appends the digits of a number below 10,000, for which capacity is reserved.
 #[inline]
 #[tactic(auto, using(std::proofs::lemmas::Fmt::decimal_digit, crate::proofs::DecimalLemmas::decimal_two, crate::proofs::DecimalLemmas::decimal_three, crate::proofs::DecimalLemmas::decimal_four))]
 fn push_short(bytes: &mut Vec<u8>, n: u64)
@@ -87,7 +86,7 @@ fn push_short(bytes: &mut Vec<u8>, n: u64)
     push_four(bytes, n);
 }
 
-// Appends the digits of a number, for which there is room.
+// Appends the digits of a number, for which capacity is reserved.
 #[tactic(auto, using(crate::proofs::DecimalLemmas::decimal_last_four))]
 fn push_decimal(bytes: &mut Vec<u8>, n: u64)
     requires { vec_len bytes.old + length (decimal n) ≤ vec_capacity bytes.old }
@@ -103,7 +102,7 @@ fn push_decimal(bytes: &mut Vec<u8>, n: u64)
     push_four(bytes, n);
 }
 
-// How many digits a number below 10,000 has.
+// The number of digits of a number below 10,000.
 #[inline]
 #[tactic(auto, using(std::proofs::lemmas::Fmt::decimal_digit, crate::proofs::DecimalLemmas::decimal_two, crate::proofs::DecimalLemmas::decimal_three, crate::proofs::DecimalLemmas::decimal_four))]
 fn short_len(n: u64) -> usize
@@ -122,7 +121,7 @@ fn short_len(n: u64) -> usize
     4
 }
 
-// How many digits a number has.
+// The number of digits of a number.
 #[tactic(auto, using(crate::proofs::DecimalLemmas::decimal_last_four, crate::proofs::DecimalLemmas::decimal_short))]
 fn decimal_len(n: u64) -> usize
     ensures exact { result ≡ length (decimal n) }
@@ -134,7 +133,7 @@ fn decimal_len(n: u64) -> usize
     decimal_len(n / 10_000) + 4
 }
 
-// Makes room for more bytes, where there is not enough.
+// Reserves capacity for `more` bytes.
 #[inline]
 fn reserve_for(bytes: &mut Vec<u8>, more: usize) -> Result<(), AllocError>
     ensures items { bytes.new.items ≡ bytes.old.items }
@@ -148,7 +147,7 @@ fn reserve_for(bytes: &mut Vec<u8>, more: usize) -> Result<(), AllocError>
     bytes.reserve(more)
 }
 
-// Makes room for a field whose value has so many bytes, and appends its tag.
+// Reserves capacity for a field whose value has `len` bytes, and appends its tag.
 fn begin_field(bytes: &mut Vec<u8>, tag: u32, len: usize) -> Result<(), AllocError>
     requires { len < 2 ^ 63 }
     ensures tag { OnOk result (bytes.new.items ≡ bytes.old.items ++ (decimal tag ++ 61 ∷ [])) }
@@ -164,7 +163,7 @@ fn begin_field(bytes: &mut Vec<u8>, tag: u32, len: usize) -> Result<(), AllocErr
     Ok(())
 }
 
-/// Appends a field with these bytes as its value. Memory is refused only where the room that is left is too short.
+/// Appends a field with these bytes as its value. It fails only where the spare capacity is too small for the field.
 pub fn append_bytes(bytes: &mut Vec<u8>, tag: u32, value: &[u8]) -> Result<(), AllocError>
     ensures appends { Appends bytes.old.items bytes.new.items (field_text tag value.now) result }
     ensures unchanged { OnErr result (bytes.new.items ≡ bytes.old.items) }
@@ -229,7 +228,7 @@ fn magnitude_of(price: i64) -> u64
     price.unsigned_abs()
 }
 
-// The point before a fraction, where there is one.
+// The point before a fraction other than 0.
 fn point_of(fraction: u64) -> &'static [u8]
     ensures { result.now ≡ point_text fraction }
 {

@@ -11,13 +11,13 @@ use crate::fields::Field;
 use crate::value::read_integer;
 use thiserror::Error;
 
-// More than any list has fields.
+// Above the number of fields of any list.
 const MAX_COUNT: u64 = 1_000_000_000_000_000_000;
 
-/// A repeating group, as the table of a message's type names it.
+/// A repeating group, as the table of a message type names it.
 #[derive(Clone, Copy)]
 pub struct Group<'t> {
-    /// The tag of the field that tells how many instances there are.
+    /// The tag of the field with the number of instances.
     pub count: u32,
     /// The least number of instances.
     pub low: usize,
@@ -25,24 +25,25 @@ pub struct Group<'t> {
     pub high: usize,
     /// The tag that begins each instance.
     pub first: u32,
-    /// The other tags of an instance, those of groups within it too.
+    /// The other tags of an instance, including those of groups nested in it.
     pub others: &'t [u32],
     /// The tags that the type names outside of this group.
     pub outside: &'t [u32],
 }
 
-/// Why fields have not the group.
+/// Why fields do not have the group.
 #[derive(Clone, Copy, Debug, PartialEq, Eq, Drop, Error)]
 pub enum GroupFault {
-    /// The count is wrong, or a member stands outside of an instance.
+    /// The count is wrong, or a member is outside of an instance.
     #[error("wrong count, or a member outside of an instance")]
     Count,
-    /// There are too few instances, or too many.
+    /// Too few instances, or too many.
     #[error("number of instances outside the range")]
     Range,
 }
 
-/// The instances of a group, in order: slices of the fields, which have also those that the message's type does not name.
+/// The instances of a group, in order: slices of the fields, with the fields among them that the message type does not
+/// name.
 #[derive(Drop)]
 pub struct Instances<'f, 'a> {
     rest: &'f [Field<'a>],
@@ -50,7 +51,7 @@ pub struct Instances<'f, 'a> {
 }
 
 impl<'f, 'a> Instances<'f, 'a> {
-    /// How many are left.
+    /// The number of instances that remain.
     pub fn number(&self) -> usize
         ensures { result ≡ length (shown self.now) }
     {
@@ -73,7 +74,7 @@ impl<'f, 'a> Iterator for Instances<'f, 'a> {
     }
 }
 
-// The first field with the tag and those up to the next one, and what stands behind them.
+// The first field with the tag and those up to the next one, and the fields after them.
 fn first_instance<'f, 'a>(
     fields: &'f [Field<'a>],
     tag: u32,
@@ -89,7 +90,7 @@ fn first_instance<'f, 'a>(
     }
 }
 
-// The place of the first field with the tag, or how many there are.
+// The place of the first field with the tag, or the number of fields.
 fn place_of(fields: &[Field<'_>], tag: u32) -> usize
     ensures exact { result ≡ position_or_len (λ field. field.tag == tag) fields.now }
     ensures bound { result ≤ length fields.now }
@@ -102,7 +103,6 @@ fn place_of(fields: &[Field<'_>], tag: u32) -> usize
     fields.len()
 }
 
-// How many fields have the tag.
 fn count_of(fields: &[Field<'_>], tag: u32) -> usize
     ensures { result ≡ count_by (λ field. field.tag == tag) fields.now }
 {
@@ -139,7 +139,7 @@ fn is_end(group: &Group<'_>, tag: u32) -> bool
     is_named(group, tag) && !is_member(group, tag)
 }
 
-// The first field of a group, what may be its instances, and what stands behind them.
+// The first field of a group, its candidate instances, and the fields after them.
 #[derive(Clone, Copy)]
 struct Parts<'f, 'a> {
     count: Field<'a>,
@@ -147,7 +147,7 @@ struct Parts<'f, 'a> {
     rest: &'f [Field<'a>],
 }
 
-// The place of the first field of the group, or how many fields there are.
+// The place of the first field of the group, or the number of fields.
 fn own_place(fields: &[Field<'_>], group: &Group<'_>) -> usize
     ensures exact { result ≡ position_or_len (λ field. is_own group.now field.tag) fields.now }
     ensures bound { result ≤ length fields.now }
@@ -160,7 +160,7 @@ fn own_place(fields: &[Field<'_>], group: &Group<'_>) -> usize
     fields.len()
 }
 
-// The place of the first field that ends the group, or how many fields there are.
+// The place of the first field that ends the group, or the number of fields.
 fn end_place(fields: &[Field<'_>], group: &Group<'_>) -> usize
     ensures exact { result ≡ position_or_len (λ field. is_end group.now field.tag) fields.now }
     ensures bound { result ≤ length fields.now }
@@ -173,7 +173,7 @@ fn end_place(fields: &[Field<'_>], group: &Group<'_>) -> usize
     fields.len()
 }
 
-// The parts of the group, if a field is the group's.
+// The parts of the group, if a field belongs to it.
 fn parts_of<'f, 'a>(fields: &'f [Field<'a>], group: &Group<'_>) -> Option<Parts<'f, 'a>>
     ensures { MatchOption result
         (HasNo (is_own group.now) (entries fields.now))
@@ -203,7 +203,6 @@ fn begins_right(fields: &[Field<'_>], group: &Group<'_>) -> bool
     true
 }
 
-// Whether no field is a member.
 fn has_no_member(fields: &[Field<'_>], group: &Group<'_>) -> bool
     ensures { result ≡ has_no (is_member group.now) (entries fields.now) }
 {
@@ -215,7 +214,7 @@ fn has_no_member(fields: &[Field<'_>], group: &Group<'_>) -> bool
     true
 }
 
-// Whether a text tells the number.
+// Whether a text spells the number.
 fn emits(text: &[u8], number: usize) -> bool
     ensures { result ≡ emits number text.now }
 {
@@ -241,7 +240,8 @@ fn is_in_range(group: &Group<'_>, number: usize) -> bool
     group.low <= number && number <= group.high
 }
 
-/// The instances of a group among fields, or `None` where no field is of the group. The fields of the instances are lent.
+/// The instances of a group among fields, or `None` where no field belongs to the group. The fields of the instances
+/// are borrowed.
 pub fn group_among<'f, 'a>(
     fields: &'f [Field<'a>],
     group: &Group<'_>,
@@ -266,7 +266,7 @@ pub fn group_among<'f, 'a>(
     Ok(Some(instances))
 }
 
-/// The instances of a group are determined by the fields.
+/// Law call (docs/ARCHITECTURE.md): the fields determine the instances of a group.
 pub fn one_group()
     ensures { (g : Group) (fields : List Entry) (instances others : List (List Entry)) → has g.others.now g.first ≡ false
         → IsGroup g fields instances → IsGroup g fields others → instances ≡ others }

@@ -17,7 +17,7 @@ fn is_printable(text: &[u8]) -> bool
     text.iter().all(|byte| b' ' <= *byte && *byte <= b'~')
 }
 
-// Reads printable bytes, one or more, and at most so many.
+// Reads printable bytes, from one to `longest`.
 fn read_printable(text: &[u8], longest: usize) -> Result<&[u8], ValueFault>
     ensures { MatchResult result
         (λ value. printable_of longest text.now ≡ Ok value.now)
@@ -50,7 +50,7 @@ pub fn read_text(text: &[u8]) -> Result<&[u8], ValueFault>
     read_printable(text, MAX_TEXT_LEN)
 }
 
-/// Reads a character: one printable byte, no space.
+/// Reads a character: one printable byte other than a space.
 pub fn read_character(text: &[u8]) -> Result<u8, ValueFault>
     ensures { result ≡ character_of text.now }
 {
@@ -71,7 +71,7 @@ pub fn read_flag(text: &[u8]) -> Result<bool, ValueFault>
     }
 }
 
-/// Reads a moment, a UTC timestamp of FIX. Each fault of it is `Format`.
+/// Reads a moment, a UTC timestamp of FIX. Its only fault is `Format`.
 pub fn read_moment(text: &[u8]) -> Result<Moment, ValueFault>
     ensures { result ≡ moment_in text.now }
 {

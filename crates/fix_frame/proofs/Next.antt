@@ -1,4 +1,4 @@
--- The first frame of some bytes: there is one answer, and what it is when bytes are skipped, taken or added.
+-- The first frame of some bytes: it is unique, and how it changes when bytes are skipped, taken or appended.
 use Rattle.std.proofs.Common.{ℕ, ◌+◌, List, ◌++◌, Option, Some, None, take, drop, refl, sym, ◌∙◌, ap, subst}
 use Rattle.std.specs.Prelude.{slice_range, IfSome}
 use Rattle.std.proofs.lemmas.List.{drop-append-le, drop-drop}
@@ -54,7 +54,6 @@ first_then_rest s body after bodies h g = (g.0, (h.0, after, h.1, h.2, g.1), g.2
 pub none_then_end : NoneThenEnd
 none_then_end s h = (drop h.0 s, (h.0, h.1, refl), h.2, h.3)
 
--- bytes are skipped
 skipped : (s : List ℕ) (p : ℕ) (found : Option (List ℕ × List ℕ)) → Passes p s → IsNext (drop p s) found → IsNext s found
 skipped s p None passes h =
     let place = drop-drop h.0 p s in

@@ -1,4 +1,4 @@
--- Every stream has its frames: what begins some bytes can be decided.
+-- Every stream has its frames: what begins some bytes is decidable.
 use Rattle.std.proofs.Common.{◌≡◌, ℕ, zero, suc, ◌+◌, ◌-◌, ◌<◌, ◌≤◌, ◌⊎◌, inl, inr, List, [], ◌∷◌, length, take, drop, min, get_or, refl, subst, ⊎_elim, arith, length-drop}
 use Rattle.std.specs.Prelude.{slice_range}
 use Rattle.std.specs.Char.{digit_value}
@@ -20,7 +20,7 @@ use Rattle.fix_frame.proofs.Opening.{not_opening, few, wrong, cut, header}
 use Rattle.fix_frame.proofs.Starts.{nil_open, begins_from_look, IsOpen-from_look}
 use Rattle.fix_frame.proofs.Reading.{Passes-none}
 
--- two lists are one or not
+-- equality of lists is decidable
 same_list : (xs ys : List ℕ) → (xs ≡ ys) ⊎ (xs ≡ ys → ⊥)
 same_list [] [] = inl refl
 same_list [] (y ∷ ys) = inr (λ e. cc)
@@ -36,7 +36,7 @@ same_list (x ∷ xs) (y ∷ ys) = ⊎_elim
 agree_or_not : (xs ys : List ℕ) → (Agree xs ys) ⊎ (Agree xs ys → ⊥)
 agree_or_not xs ys = same_list (take (min (length xs) (length ys)) xs) (take (min (length xs) (length ys)) ys)
 
--- the digits in front, seven at most
+-- the leading digits, seven at most
 record Front (bytes : List ℕ) : Type 0 where
   count : ℕ
   within : count ≤ length bytes
@@ -66,7 +66,7 @@ front_from (suc left) count bytes sum within digits = ⊎_elim
 Field : List ℕ → Type 0
 Field bytes = (l : LengthField) × IsLengthField bytes l
 
--- what stands behind `9=`
+-- what follows `9=`
 field_of : (bytes : List ℕ) → Front bytes → Field bytes
 unfolding Field
 field_of bytes f =
@@ -108,7 +108,7 @@ field_of bytes f =
 abbrev pub Seen : List ℕ → Type 0
 Seen bytes = (l : Look) × IsLook bytes l
 
--- what stands behind the header
+-- what follows the header
 behind_header : (bytes : List ℕ) (start n : ℕ) → IsHeader bytes start n → Seen bytes
 behind_header bytes start n h =
     let end : ℕ = start + n in
@@ -195,6 +195,6 @@ frames_within (suc most) s le =
     let f = first_open s in
     frames_after s f (seen (drop f.place s)).0 (seen (drop f.place s)).1 (λ after shorter. frames_within most after (omega arith))
 
--- every stream has its frames
+-- every stream has a list of frames
 pub Frames-some : (s : List ℕ) → (bodies : List (List ℕ)) × Frames s bodies
 Frames-some s = frames_within (length s) s (omega arith)

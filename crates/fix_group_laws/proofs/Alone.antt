@@ -14,7 +14,7 @@ use Rattle.fix_group_laws.proofs.Chains.{both_or_none}
 use Rattle.fix_group_laws.proofs.States.{NoStrays, none_some, IsSound, sound_closed, sound_begun, sound_on, sound_within, sound_inner, unlike_numbers}
 
 module _ (rows : List Row) (none : group_of 0 rows ≡ None) where
-  -- no tag is a group's that stands in no group
+  -- no tag belongs to a group if it is in no group
   some_group : (h x : ℕ) → group_of h rows ≡ Some x → (h == 0) ≡ false
   some_group h x its = unlike_numbers h 0 (λ zero. none_some x (sym none ∙ ap (λ (t : ℕ). group_of t rows) (sym zero) ∙ its))
 

@@ -1,4 +1,4 @@
--- The fields behind a group's count, as instances one behind the other, and the parts in which they stand.
+-- The fields after a group's count, as instances in order, and the parts that hold them.
 use Rattle.std.proofs.Common.{◌≡◌, ℕ, ◌+◌, ◌≤◌, ◌<◌, true, false, Bool, List, [], ◌∷◌, ◌++◌, append_assoc, map, refl, sym, ap, ◌∙◌, arith, cond, ◌==◌}
 use Rattle.std.specs.List.{AllByRecursion}
 use Rattle.std.proofs.lemmas.Bool.Decides.{nat_tests}
@@ -14,16 +14,16 @@ use Rattle.fix_group_laws.specs.Tied.{stands_in, in_itself}
 use Rattle.fix_group_laws.proofs.Tags.{IsTable, first_named, first_stands}
 use Rattle.fix_group_laws.proofs.Runs.{Shut, Counted, Inside, IsQuiet, skips, leaves, counts, starts, goes, IsRun}
 
--- the fields without where they stand
+-- the fields without their positions
 abbrev pub fields_of : List LocatedFields → List Entry
 fields_of [] = []
 fields_of (p ∷ ps) = p.0 ∷ fields_of ps
 
--- a field that is left out, or not, of both of two lists
+-- a field dropped from both lists, or kept in both
 pub both_or_none : (b c : Bool) (f : Entry) (xs ys : List Entry) → b ≡ c → xs ≡ ys → cond b (f ∷ xs) xs ≡ cond c (f ∷ ys) ys
 both_or_none b c f xs ys same rest = rw (same, rest) refl
 
--- parts in which a field does not stand
+-- parts without a field
 pub past : (x : LocatedFields) (n : ℕ) (ps : List LocatedFields) (bs : List ℕ) → AllByRecursion (λ (b : ℕ). n < b) bs → ((b : ℕ) → n < b → is_in b x.1 ≡ false)
     → map (λ (b : ℕ). part b ps) bs ≡ map (λ (b : ℕ). part b (x ∷ ps)) bs
 past x n ps [] later out = refl
@@ -35,7 +35,7 @@ pub later_still : (n m : ℕ) (bs : List ℕ) → n ≤ m → AllByRecursion (λ
 later_still n m [] le h = tt
 later_still n m (b ∷ bs) le h = (grind (arith, le, h.0), later_still n m bs le h.1)
 
--- what is kept has no tag that nothing has
+-- kept fields have no tag that no field has
 kept_with : (test : ℕ → Bool) (b : Bool) (f : Entry) (fs : List Entry) → test f.0 ≡ false → HasNo test fs → HasNo test (cond b (f ∷ fs) fs)
 kept_with test true f fs h k = (h, k)
 kept_with test false f fs h k = k
@@ -44,15 +44,15 @@ kept_without : (g : Group) (test : ℕ → Bool) (fs : List Entry) → HasNo tes
 kept_without g test [] h = tt
 kept_without g test (f ∷ fs) h = kept_with test (is_named g f.0) f (kept g fs) h.0 (kept_without g test fs h.1)
 
--- what is not named is none of the group's, and what is none of its own is no member
+-- a tag that is not named is not the group's, and one that is not its own is not a member
 pub not_own : (g : Group) (t : ℕ) → is_named g t ≡ false → is_own g t ≡ false
 not_own g t unnamed = (or_parts (is_own g t) (has g.outside.now t) unnamed).0
 
 pub not_member : (g : Group) (t : ℕ) → is_own g t ≡ false → is_member g t ≡ false
 not_member g t out = (or_parts (t == g.count) (is_member g t) out).1
 
--- Fields behind the begin of an instance: some in it, instances one behind the other, and some behind them that are no members. The
--- parts are what of these stands in the group itself, and those that begin are new ones.
+-- Fields after the beginning of an instance: some in it, instances in order, and some after them that are not members.
+-- The parts are the fields of these in the group itself, and the parts that begin are new ones.
 record Chain (rows : List Row) (tag home : ℕ) (g : Group) (n q : ℕ) (ps : List LocatedFields) : Type 0 where
   pre : List Entry
   is : List (List Entry)
@@ -104,7 +104,7 @@ module _ (header rows : List Row) (tag around home : ℕ) (g : Group) (table : I
 
   -- Where the group is open.
 
-  -- a field that is left aside
+  -- an ignored field
   skipped : (n q : ℕ) (p : LocatedFields) (ps : List LocatedFields) → is_named g p.0.0 ≡ false → is_in q p.1 ≡ false → IsQuiet rows tag home n p
       → Chain rows tag home g n q ps → Chain rows tag home g n q (p ∷ ps)
   skipped n q p ps unnamed out quiet c =
@@ -155,7 +155,7 @@ module _ (header rows : List Row) (tag around home : ℕ) (g : Group) (table : I
         later = rw (quiet.1 bs) (later_still n m bs le c.later);
       }
 
-  -- an instance that is over
+  -- an instance that has ended
   over : (n q : ℕ) (ps : List LocatedFields) → part q ps ≡ [] → Behind rows tag home g n ps → Chain rows tag home g n q ps
   over n q ps gone b = record { pre = []; is = b.is; rest = b.rest; parts = b.parts; others = tt; each = b.each; behind = b.behind; here = sym gone; there = b.there; later = b.later }
 
@@ -183,7 +183,7 @@ module _ (header rows : List Row) (tag around home : ℕ) (g : Group) (table : I
         later = rw begin (grind (arith), later_still n (n + 1) bs (grind (arith)) c.later);
       }
 
-  -- a field that is none of the group's, which ends it
+  -- a field outside the group, which ends it
   ended : (n m : ℕ) (p : LocatedFields) (ps : List LocatedFields) → is_own g p.0.0 ≡ false → IsQuiet rows tag home m p
       → IsRun rows tag home g ps Shut m → has_tag tag (fields_of ps) ≡ false → Behind rows tag home g n (p ∷ ps)
   ended n m p ps out quiet run once =
@@ -211,7 +211,7 @@ module _ (header rows : List Row) (tag around home : ℕ) (g : Group) (table : I
         | goes m le named other same quiet rest ↦ joined n m q p ps le named other same quiet (chain ps m q rest tags.1)
       ]
 
-  -- fields behind the count, of which none has begun an instance yet
+  -- fields after the count, of which none has begun an instance yet
   pub behind_count : (ps : List LocatedFields) (n : ℕ) → IsRun rows tag home g ps Counted n → has_tag tag (fields_of ps) ≡ false → Behind rows tag home g n ps
   behind_count [] n run once = record { is = []; rest = []; parts = refl; each = tt; behind = tt; there = refl; later = tt }
   behind_count (p ∷ ps) n run once =

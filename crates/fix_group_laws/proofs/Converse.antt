@@ -1,4 +1,4 @@
--- Where fields are a group that stands outside of groups, no field shows it to be miscounted.
+-- Where fields are a group outside of groups, no field shows it to be miscounted.
 use Rattle.std.proofs.Common.{◌≡◌, ℕ, ◌+◌, true, false, List, [], ◌∷◌, ◌++◌, length, is_some, refl, sym, ap, subst, ◌∙◌, arith, rules, ◌==◌, Option, Some, None, inl, inr, ◌⊎◌}
 use Rattle.std.specs.List.{AllByRecursion}
 use Rattle.std.proofs.lemmas.Bool.Decides.{nat_tests}
@@ -32,7 +32,8 @@ use Rattle.fix_group_laws.proofs.Members.{IsPlace, ArePlaced, Stays, chain, with
 use Rattle.fix_group_laws.proofs.Ties.{IsOnce, IsHome, once}
 use Rattle.fix_group_laws.proofs.Tables.{plain, table_of, placed_fields}
 
--- A field does not show the group to be miscounted: if it is the count, it tells its instances, and no member stands astray.
+-- A field does not show the group to be miscounted: if it is the count, it is the number of its instances, and no
+-- member is a stray.
 abbrev pub IsRight : List Row → ℕ → ℕ → LocatedFields → Type 0
 IsRight rows tag many p = (p.0.0 ≡ tag → (p.1 ≡ InPart 0) × (emits many p.0.1 ≡ true)) × (group_of p.0.0 rows ≡ Some tag → IsNoStray p.1)
 
@@ -62,10 +63,10 @@ none_shown rows tag all [] some right h = none_some tag h
 none_shown rows tag all (p ∷ ps) some right h =
     none_shown rows tag all ps some right.1 (next_some (miscounts rows all p.0 p.1) (miscounted rows all ps) tag (not_shown rows tag all p.0 p.1 some right.0) h)
 
--- Fields that have no tag of the group do not show it to be miscounted.
+-- Fields without a tag of the group do not show it to be miscounted.
 
 module _ (header rows : List Row) (tag : ℕ) (g : Group) (of : IsOfTable rows tag g) where
-  -- what is none of the group's is not its count, and stands not in it
+  -- a tag outside the group is not its count, and not in it
   not_count : (t : ℕ) → is_own g t ≡ false → t ≡ tag → ⊥
   not_count t out same =
       let test : (t == g.count) ≡ true = grind (arith, nat_tests, same, of.count) in
@@ -85,7 +86,7 @@ module _ (header rows : List Row) (tag : ℕ) (g : Group) (of : IsOfTable rows t
   none_its many (f ∷ fs) s none =
       (((λ same. absurd (not_count f.0 none.0 same)), (λ its. absurd (not_in f.0 none.0 its))), none_its many fs _ none.1)
 
--- so where it is shown a field has one
+-- where it is shown, a field has one
 pub present : (fields : List Entry) (tag : ℕ) (g : Group) → is_grouped (type_in fields) ≡ true → fault_in fields ≡ Some (Count tag)
     → IsOfTable (rows_in fields) tag g → HasNo (is_own g) fields → ⊥
 present fields tag g grouped fault of none =
@@ -100,7 +101,7 @@ present fields tag g grouped fault of none =
     its_number None h = absurd (true≢false (sym h))
     its_number (Some n) h = (n, refl)
 
--- a number that is told
+-- a number that is spelled
 pub stated_right : (n : ℕ) (bytes : List ℕ) → Emits n bytes → emits n bytes ≡ true
 stated_right n bytes number = let self : (n == n) ≡ true = grind (arith, nat_tests) in rw number self
 
@@ -116,7 +117,7 @@ module _ (header rows : List Row) (tag : ℕ) (g : Group) (table : IsTable heade
   abbrev first : ℕ
   first = first_tag tag rows
 
-  -- What a step does where the group is open.
+  -- The effect of a step where the group is open.
 
   to_group : (s : State) (t h : ℕ) → group_of t rows ≡ Some h → (0 ≡ h → ⊥) → step header rows s t ≡ inner_step rows s t h s.inner
   to_group s t h its some =
@@ -130,7 +131,7 @@ module _ (header rows : List Row) (tag : ℕ) (g : Group) (table : IsTable heade
     around : p.around ≡ 0
     inner : (o : OpenGroup) → s.inner ≡ Some o → o.group ≡ tag → ⊥
 
-  -- so it stays where a field opens a group
+  -- it stays so where a field opens a group
   mine_with : (n : ℕ) (p : OpenGroup) (t q : ℕ) → p.group ≡ tag → p.around ≡ 0 → (t ≡ tag → ⊥)
       → IsMine (record { begun = n; outer = Some p; inner = opened_in rows t (Some q) }) p
   mine_with n p t q group around other = record {
@@ -161,7 +162,7 @@ module _ (header rows : List Row) (tag : ℕ) (g : Group) (table : IsTable heade
       let not_first : (t == first_tag p.group rows) ≡ false = rw mine.group later in
       to_outer s p mine t its ∙ rw (test, not_first, at) refl
 
-  -- a member of a group within, in its place or astray
+  -- a member of a group within, in its place or a stray
   step_deeper : (s : State) (p : OpenGroup) → IsMine s p → (t h r : ℕ) → group_of t rows ≡ Some h → group_of h rows ≡ Some tag → (h ≡ tag → ⊥) → p.instance ≡ Some r
       → IsMine (step header rows s t).state p
   step_deeper s p mine t h r its around other at =
@@ -190,7 +191,7 @@ module _ (header rows : List Row) (tag : ℕ) (g : Group) (table : IsTable heade
                 rw test by_outer
           ]
 
-  -- so a member goes on in it, or begins an instance
+  -- a member continues it, or begins an instance
   stays : Stays header rows tag 0 0 g table IsMine
   stays = record {
     there = λ s p mine. mine.around;
@@ -216,13 +217,13 @@ module _ (header rows : List Row) (tag : ℕ) (g : Group) (table : IsTable heade
         step_deeper s p mine t deeper.0 r deeper.1.0 deeper.1.1.0 deeper.1.1.1 at,
       )
 
-  -- What fields show.
+  -- What the fields show.
 
-  -- no field shows the group to be miscounted, and so many instances begin
+  -- no field shows the group to be miscounted, and this many instances begin
   abbrev AreRight : ℕ → ℕ → List LocatedFields → Type 0
   AreRight many n ps = AllByRecursion (IsRight rows tag many) ps × (length (begins first 0 ps) ≡ n)
 
-  -- a field that is not the count, and no first tag
+  -- a field that is neither the count nor a first tag
   sibling : (many n : ℕ) (p : LocatedFields) (ps : List LocatedFields) → (p.0.0 == tag) ≡ false → (p.0.0 == first) ≡ false → (group_of p.0.0 rows ≡ Some tag → IsNoStray p.1)
       → AreRight many n ps → AreRight many n (p ∷ ps)
   sibling many n p ps other later clear right =
@@ -232,7 +233,7 @@ module _ (header rows : List Row) (tag : ℕ) (g : Group) (table : IsTable heade
       test : p.0.0 ≡ tag → (p.0.0 == tag) ≡ true
       test same = grind (arith, nat_tests, same)
 
-  -- a field that is no member
+  -- a field that is not a member
   foreign : (many n : ℕ) (p : LocatedFields) (ps : List LocatedFields) → (p.0.0 == tag) ≡ false → is_member g p.0.0 ≡ false → AreRight many n ps → AreRight many n (p ∷ ps)
   foreign many n p ps other out right = sibling many n p ps other (no_member_first header rows tag 0 g table p.0.0 out) (λ its. absurd (no_member_in header rows tag 0 g table p.0.0 out its)) right
 
@@ -250,7 +251,7 @@ module _ (header rows : List Row) (tag : ℕ) (g : Group) (table : IsTable heade
 
   -- All fields.
 
-  -- the count stands outside of groups
+  -- the count is outside of groups
   homes : (fs : List Entry) (s : State) → AllByRecursion (IsHome header rows tag 0 0 g table) (located header rows s fs)
   homes [] s = tt
   homes (f ∷ fs) s =

@@ -1,4 +1,4 @@
--- A tag that is told to stand twice is the tag of at least two fields of one part.
+-- The tag of a Twice fault is the tag of at least two fields of one part.
 use Rattle.std.proofs.Common.{◌≡◌, ℕ, ◌+◌, ◌≤◌, true, false, Bool, List, [], ◌∷◌, ◌++◌, ◌∙◌, append_assoc, length, filter, sym, subst, ap, arith, cond, ◌==◌, Some, inl, inr}
 use Rattle.std.proofs.lemmas.Bool.Decides.{nat_tests}
 use Rattle.std.proofs.lemmas.Bool.{cases_Bool, true≢false}
@@ -18,7 +18,7 @@ use Rattle.fix_group_laws.proofs.Faults.{twice_stated}
 use Rattle.fix_group_laws.proofs.Ties.{part_append}
 
 module _ (tag : ℕ) where
-  -- how many fields have the tag
+  -- the number of fields with the tag
   abbrev many : List Entry → ℕ
   many fields = length (filter (λ (f : Entry). f.0 == tag) fields)
 
@@ -37,7 +37,7 @@ module _ (tag : ℕ) where
   at_head : (f : Entry) (fs : List Entry) → (f.0 == tag) ≡ true → 1 ≤ many (f ∷ fs)
   at_head f fs is = rw is (omega arith)
 
-  -- one behind the head is one of all
+  -- a field after the head is a field of the list
   behind_head : (f : Entry) (fs : List Entry) → 1 ≤ many fs → 1 ≤ many (f ∷ fs)
   behind_head f fs there = omega (arith, there, many_more (f.0 == tag) f (filter (λ (f : Entry). f.0 == tag) fs))
 
@@ -52,7 +52,7 @@ module _ (tag : ℕ) where
   itself : (q : ℕ) → (q == q) ≡ true
   itself q = grind (arith, nat_tests)
 
-  -- where the tag stands before in its part, that is a part that it stands in
+  -- where the tag occurs earlier in its part, that is a part that holds it
   abbrev IsBefore : FieldPosition → List LocatedFields → Type 0
   IsBefore x earlier = (q : ℕ) × ((is_in q x ≡ true) × (has_tag tag (part q earlier) ≡ true))
 
@@ -65,7 +65,7 @@ module _ (tag : ℕ) where
   abbrev IsTwo : List LocatedFields → Type 0
   IsTwo ps = (q : ℕ) × (2 ≤ many (part q ps))
 
-  -- a field that stands in a part in which the tag stands before makes two
+  -- a field in a part with an earlier field of the tag makes two
   makes_two : (p : LocatedFields) (ps earlier : List LocatedFields) → (p.0.0 == tag) ≡ true → IsBefore p.1 earlier → IsTwo (earlier ++ p ∷ ps)
   makes_two p ps earlier is there =
       let q = there.0 in
@@ -73,7 +73,7 @@ module _ (tag : ℕ) where
       let all = ap many (part_append q earlier (p ∷ ps)) ∙ many_append (part q earlier) (part q (p ∷ ps)) in
       (q, omega (arith, one (part q earlier) there.1.1, other, all))
 
-  -- it does so by the first that is told
+  -- the first one found has two
   two : (ps earlier : List LocatedFields) → twice earlier ps ≡ Some tag → IsTwo (earlier ++ ps)
   two [] earlier h = absurd (none_some tag h)
   two (p ∷ ps) earlier h =

@@ -1,4 +1,4 @@
--- What a Twice or a Count fault says of placed fields.
+-- The meaning of a Twice or a Count fault for located fields.
 use Rattle.std.proofs.Common.{◌≡◌, ℕ, List, [], ◌++◌, true, false, Bool, refl, ap, rules, cond, Option, Some, None}
 use Rattle.fix_fields.specs.Fields.{Entry}
 use Rattle.fix_fields.specs.declared.value.ValueFault.TheVariants as value
@@ -34,13 +34,13 @@ same_count tag t h = search (h, rules)
 same_twice : (tag t : ℕ) → Twice t ≡ Twice tag → t ≡ tag
 same_twice tag t h = search (h, rules)
 
--- a fault is told unless something behind tells it
+-- the fault is found here unless it is found later
 stated_here : (fault : ℕ → DictFault) (tag : ℕ) (o : Option ℕ) (next : Option DictFault) → ((t : ℕ) → fault t ≡ fault tag → t ≡ tag) → (next ≡ Some (fault tag) → ⊥)
     → or_else fault o next ≡ Some (fault tag) → o ≡ Some tag
 stated_here fault tag None next same never h = absurd (never h)
 stated_here fault tag (Some t) next same never h = ap (λ (n : ℕ). Some n) (same t (same_some (fault t) (fault tag) h))
 
--- what is told of counts, of rows that lack a field, and of values, is none of a tag that stands twice
+-- the faults of counts, of rows that lack a field, and of values are not that of a tag that occurs twice
 never_twice : (tag : ℕ) (counts header rows form range : Option ℕ)
     → or_else Count counts (or_else Missing header (or_else Missing rows (or_else Format form (or_else Range range None)))) ≡ Some (Twice tag) → ⊥
 never_twice tag (Some t) header rows form range h = search (h, rules)
@@ -50,14 +50,14 @@ never_twice tag None None None (Some t) range h = search (h, rules)
 never_twice tag None None None None (Some t) h = search (h, rules)
 never_twice tag None None None None None h = none_some (Twice tag) h
 
--- the first field that stands twice in its part has this tag
+-- the first field whose tag occurs earlier in its part has this tag
 pub twice_stated : (header rows : List Row) (ps : List LocatedFields) (fields : List Entry) (tag : ℕ) → located_fault header rows ps fields ≡ Some (Twice tag) → twice [] ps ≡ Some tag
 unfolding located_fault
 twice_stated header rows ps fields tag h =
     stated_here Twice tag (twice [] ps) _ (same_twice tag)
     (never_twice tag (miscounted rows ps ps) (missing_in rows header ps) (missing_in rows rows ps) (faulty value.Format (header ++ rows) fields) (faulty value.Range (header ++ rows) fields)) h
 
--- no field stands twice in its part, and the first field that shows a group to be miscounted shows this one
+-- no tag occurs twice in its part, and the first field that shows a group to be miscounted shows this one
 pub count_stated : (header rows : List Row) (ps : List LocatedFields) (fields : List Entry) (tag : ℕ) → located_fault header rows ps fields ≡ Some (Count tag)
     → (twice [] ps ≡ None) × (miscounted rows ps ps ≡ Some tag)
 unfolding located_fault
@@ -72,12 +72,12 @@ count_stated header rows ps fields tag h =
           none_some (Count tag) e.1) a.1,
     )
 
--- what is told where a test holds
+-- the value found where a test holds
 pub cond_some : (b : Bool) (t tag : ℕ) → cond b (Some t) None ≡ Some tag → (b ≡ true) × (t ≡ tag)
 cond_some true t tag h = (refl, same_some t tag h)
 cond_some false t tag h = absurd (none_some tag h)
 
--- what is told is told behind what does not tell it
+-- the value is found later if it is not found here
 pub next_some : (a b : Option ℕ) (tag : ℕ) → (a ≡ Some tag → ⊥) → or_next a b ≡ Some tag → b ≡ Some tag
 next_some None b tag other h = h
 next_some (Some t) b tag other h = absurd (other h)

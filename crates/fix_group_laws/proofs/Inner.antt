@@ -1,4 +1,4 @@
--- What fields do to a group that stands within another one, of which there is one instance.
+-- The effect of fields on a group within another one, of which there is one instance.
 use Rattle.std.proofs.Common.{◌≡◌, ℕ, ◌+◌, true, false, Bool, List, [], ◌∷◌, refl, sym, ap, subst, ◌∙◌, arith, cond, ◌==◌, ◌&&◌, Option, Some, inl, inr}
 use Rattle.std.specs.List.{AllByRecursion}
 use Rattle.std.proofs.lemmas.Bool.Decides.{nat_tests}
@@ -21,7 +21,7 @@ use Rattle.fix_group_laws.proofs.Runs.{Status, Shut, Counted, Inside, skips, lea
 abbrev pub AreAll : ℕ → List ℕ → Type 0
 AreAll q bs = AllByRecursion (λ (b : ℕ). b ≡ q) bs
 
--- those behind a field
+-- those after a field
 all_behind : (first q t : ℕ) (x : FieldPosition) (bs : List ℕ) → AreAll q (with_begin first 0 t x bs) → AreAll q bs
 all_behind first q t Unknown bs h = h
 all_behind first q t (InPart n) bs h = h
@@ -40,37 +40,37 @@ all_begun first q t n around bs same zero h =
     let its : AreAll q (n ∷ bs) = rw (test, outside) at h in
     its.0
 
--- the group around this one stands outside of groups, and its first tag is another than this one's count
+-- the group around this one is outside of groups, and its first tag is not this one's count
 module _ (header rows : List Row) (tag around q : ℕ) (g : Group) (table : IsTable header rows tag around g) (outside : group_of around rows ≡ Some 0)
     (led : first_tag around rows ≡ tag → ⊥) where
   -- the group around this one is in no instance but the one in part q
   abbrev pub IsSole : State → Type 0
   IsSole s = (p : OpenGroup) (n : ℕ) → s.outer ≡ Some p → p.group ≡ around → p.instance ≡ Some n → n ≡ q
 
-  -- and begins no other one
+  -- it begins no other instance
   abbrev pub AreSole : List LocatedFields → Type 0
   AreSole ps = AreAll q (begins (first_tag around rows) 0 ps)
 
-  -- nor behind a field
+  -- nor after a field
   pub sole_behind : (f : Entry) (fs : List Entry) (s : State) (d : Stepped) → step header rows s f.0 ≡ d → AreSole (located header rows s (f ∷ fs))
       → AreSole (located header rows d.state fs)
   sole_behind f fs s d e all = all_behind (first_tag around rows) q f.0 d.position (begins (first_tag around rows) 0 (located header rows d.state fs)) (rw e at all)
 
-  -- what stands outside of groups is not this group's count
+  -- a tag outside of groups is not this group's count
   pub not_outside : (t : ℕ) → group_of t rows ≡ Some 0 → t ≡ tag → ⊥
   not_outside t its same = not_zero rows table.none around 0 outside (same_some 0 around (sym its ∙ ap (λ (t : ℕ). group_of t rows) same ∙ table.count))
 
-  -- the count stands in the group around this one
+  -- the count is in the group around this one
   pub its_around : (t h : ℕ) → group_of t rows ≡ Some h → t ≡ tag → h ≡ around
   its_around t h its same = same_some h around (sym its ∙ ap (λ (t : ℕ). group_of t rows) same ∙ table.count)
 
-  -- what stands in a group that is within another one is not the count
+  -- a tag in a group within another one is not the count
   pub not_within : (t h k : ℕ) → group_of t rows ≡ Some h → group_of h rows ≡ Some k → group_of k rows ≡ Some 0 → t ≡ tag → ⊥
   not_within t h k its within none same =
       let e = its_around t h its same in
       not_zero rows table.none k 0 none (sym (same_some k 0 (sym within ∙ ap (λ (t : ℕ). group_of t rows) e ∙ outside)))
 
-  -- what each of the fields does, by the groups that are open
+  -- the effect of each of the fields, by the open groups
   pub inner_run : (fs : List Entry) (s : State) (was : Status) → IsSound rows s → IsSole s → IsAt tag s.inner was → AreSole (located header rows s fs)
       → NoStrays (located header rows s fs) → IsRun rows tag q g (located header rows s fs) was s.begun
   inner_run [] s was sound sole at all clear = tt

@@ -1,4 +1,4 @@
--- The members behind a group's count, where the fields are that group: they stand in its instances, and none is astray.
+-- The members after a group's count, where the fields are that group: they are in its instances, and none is a stray.
 use Rattle.std.proofs.Common.{◌≡◌, ℕ, ◌+◌, true, false, List, [], ◌∷◌, ◌++◌, append_assoc, length, refl, sym, ap, subst, ◌∙◌, arith, rules, ◌==◌, Some, inl, inr, ◌⊎◌}
 use Rattle.std.specs.List.{AllByRecursion}
 use Rattle.std.proofs.lemmas.Bool.Decides.{nat_tests}
@@ -44,7 +44,7 @@ module _ (header rows : List Row) (tag around home : ℕ) (g : Group) (table : I
   abbrev first : ℕ
   first = first_tag tag rows
 
-  -- no member is a stray, and so many instances begin in the part
+  -- no member is a stray, and this many instances begin in the part
   abbrev pub IsPlace : LocatedFields → Type 0
   IsPlace p = group_of p.0.0 rows ≡ Some tag → IsNoStray p.1
 
@@ -54,7 +54,7 @@ module _ (header rows : List Row) (tag around home : ℕ) (g : Group) (table : I
   sibling : (n : ℕ) (p : LocatedFields) (ps : List LocatedFields) → (p.0.0 == first) ≡ false → IsPlace p → ArePlaced n ps → ArePlaced n (p ∷ ps)
   sibling n p ps later clear right = ((clear, right.0), ap length (with_other first home p.0.0 p.1 (begins first home ps) later) ∙ right.1)
 
-  -- a field that is no member
+  -- a field that is not a member
   foreign : (n : ℕ) (f : Entry) (fs : List Entry) (s : State) → is_member g f.0 ≡ false → ArePlaced n (located header rows (step header rows s f.0).state fs)
       → ArePlaced n (located header rows s (f ∷ fs))
   foreign n f fs s out right =
@@ -81,7 +81,7 @@ module _ (header rows : List Row) (tag around home : ℕ) (g : Group) (table : I
       let self : (home == home) ≡ true = grind (arith, nat_tests) in
       rw at (((λ its. tt), right.0), rw (test, self) (rw right.1 refl))
 
-  -- Where the group is open, it stays open behind a member, which goes on in the instance that has begun, or begins one.
+  -- Where the group is open, it stays open after a member, which continues the instance that has begun, or begins one.
   pub record Stays (IsHeld : State → OpenGroup → Type 0) : Type 0 where
     pub there : (s : State) (o : OpenGroup) → IsHeld s o → o.around ≡ home
     pub starts : (s : State) (o : OpenGroup) → IsHeld s o → (t : ℕ) → t ≡ first
@@ -92,7 +92,7 @@ module _ (header rows : List Row) (tag around home : ℕ) (g : Group) (table : I
   abbrev AreOthers : List Entry → Type 0
   AreOthers fs = AllByRecursion (λ (e : Entry). has g.others.now e.0 ≡ true) fs
 
-  -- an instance has begun, or no field goes on in one
+  -- an instance has begun, or no field continues one
   abbrev HasBegun : OpenGroup → List Entry → Type 0
   HasBegun o pre = (pre ≡ []) ⊎ ((r : ℕ) × (o.instance ≡ Some r))
 
@@ -102,7 +102,7 @@ module _ (header rows : List Row) (tag around home : ℕ) (g : Group) (table : I
     IsChained fs = (s : State) (o : OpenGroup) (pre : List Entry) (is : List (List Entry)) (rest : List Entry) → IsHeld s o → HasBegun o pre
         → kept g fs ≡ pre ++ (chained is ++ rest) → AreOthers pre → AllByRecursion (IsInstance g) is → HasNo (is_member g) rest → ArePlaced (length is) (located header rows s fs)
 
-    -- a field that the table names, by what it is of the group
+    -- a field that the table names, by its role in the group
     chain_named : (f : Entry) (fs : List Entry) → IsChained fs → (s : State) (o : OpenGroup) (pre : List Entry) (is : List (List Entry)) (rest : List Entry)
         → IsHeld s o → HasBegun o pre → f ∷ kept g fs ≡ pre ++ (chained is ++ rest) → AreOthers pre → AllByRecursion (IsInstance g) is → HasNo (is_member g) rest
         → ArePlaced (length is) (located header rows s (f ∷ fs))

@@ -23,7 +23,7 @@ use Rattle.fix_group_laws.proofs.Tables.{AreNamed, apart_of, plain}
 abbrev IsNamed : List Row → ℕ → Type 0
 IsNamed all h = ((h == 0) || is_some (group_of h all)) ≡ true
 
--- so is each count
+-- each count is so
 count_named : (all rows : List Row) → AreNamed all rows → (t : ℕ) → is_count t rows ≡ true → IsNamed all t
 count_named all [] h t counts = absurd (true≢false (sym counts))
 count_named all (r ∷ rs) h t counts =
@@ -34,7 +34,7 @@ count_named all (r ∷ rs) h t counts =
           count_named all rs h.1 t (rw test at counts)
     ]
 
--- and the group of each tag
+-- the group of each tag is so
 group_named : (all rows : List Row) → AreNamed all rows → (t h : ℕ) → group_of t rows ≡ Some h → IsNamed all h
 group_named all [] h t group its = absurd (none_some group its)
 group_named all (r ∷ rs) h t group its =

@@ -1,4 +1,4 @@
--- What fields do to a group that stands outside of groups.
+-- The effect of fields on a group outside of groups.
 use Rattle.std.proofs.Common.{◌≡◌, ℕ, ◌+◌, true, false, List, [], ◌∷◌, refl, sym, ap, subst, ◌∙◌, arith, ◌==◌, Option, Some, inl, inr}
 use Rattle.std.proofs.lemmas.Bool.Decides.{nat_tests}
 use Rattle.std.proofs.lemmas.Bool.{cases_eq}
@@ -16,19 +16,19 @@ use Rattle.fix_group_laws.proofs.Tags.{IsTable, not_zero, unnamed, other_group, 
 use Rattle.fix_group_laws.proofs.Runs.{Status, Shut, Counted, Inside, skips, leaves, counts, starts, goes, IsRun, quiet_within, quiet_begins, acts, IsAt, at_other, if_inside, is_open_at, is_inside_at}
 
 module _ (header rows : List Row) (tag : ℕ) (g : Group) (table : IsTable header rows tag 0 g) where
-  -- a tag that stands in a group is not this group's count
+  -- a tag in a group is not this group's count
   no_count : (t h k : ℕ) → group_of t rows ≡ Some h → group_of h rows ≡ Some k → t ≡ tag → ⊥
   no_count t h k its around same =
       not_zero rows table.none h k around (same_some 0 h (sym table.count ∙ ap (λ (t : ℕ). group_of t rows) (sym same) ∙ its))
 
-  -- what stands in another group outside of groups, or in a group in that one
+  -- a tag in another group outside of groups, or in a group within that one
   sibling : (t h : ℕ) → group_of t rows ≡ Some h → group_of h rows ≡ Some 0 → (h ≡ tag → ⊥) → is_own g t ≡ false
   sibling t h its around unlike = foreign header rows tag 0 g table t h (no_count t h 0 its around) its (other_group header rows tag 0 g table h around unlike)
 
   beneath : (t h k : ℕ) → group_of t rows ≡ Some h → group_of h rows ≡ Some k → (h ≡ tag → ⊥) → (k ≡ tag → ⊥) → is_own g t ≡ false
   beneath t h k its around unlike outer = foreign header rows tag 0 g table t h (no_count t h k its around) its (other_inner header rows tag 0 g table h k around unlike outer)
 
-  -- what each of the fields does, by the groups that are open
+  -- the effect of each of the fields, by the open groups
   pub outer_run : (fs : List Entry) (s : State) (was : Status) → IsSound rows s → IsAt tag s.outer was → NoStrays (located header rows s fs)
       → IsRun rows tag 0 g (located header rows s fs) was s.begun
   outer_run [] s was sound at clear = tt

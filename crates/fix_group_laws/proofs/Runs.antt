@@ -1,4 +1,4 @@
--- What fields do to one group of a table.
+-- The effect of fields on one group of a table.
 use Rattle.std.proofs.Common.{◌≡◌, ℕ, ◌+◌, ◌≤◌, ◌<◌, true, false, List, [], ◌∷◌, refl, sym, ap, subst, ◌∙◌, arith, ◌==◌, Option, Some, None}
 use Rattle.std.proofs.lemmas.Bool.Decides.{nat_tests}
 use Rattle.fix_fields.specs.Fields.{Entry}
@@ -13,19 +13,19 @@ use Rattle.fix_validation.specs.Positions.{LocatedFields, group_of, first_tag, s
 use Rattle.fix_group_laws.specs.Tied.{stands_in}
 use Rattle.fix_group_laws.proofs.States.{none_some, same_some}
 
--- how the group stands: not open, behind its count, or in an instance
+-- the status of the group: not open, after its count, or in an instance
 pub data Status : Type 0 where
   Shut : Status
   Counted : Status
   Inside : ℕ → Status
 
--- so it is if the group is in an instance
+-- a predicate of the instance, if the group is in one
 abbrev pub IfInside : Status → (ℕ → Type 0) → Type 0
 IfInside Shut what = Unit {0}
 IfInside Counted what = Unit {0}
 IfInside (Inside r) what = what r
 
--- the group is in an instance, and so it is
+-- the group is in an instance that satisfies the predicate
 abbrev pub IsInside : Status → (ℕ → Type 0) → Type 0
 IsInside Shut what = ⊥
 IsInside Counted what = ⊥
@@ -36,19 +36,20 @@ IsOpen Shut = ⊥
 IsOpen Counted = Unit {0}
 IsOpen (Inside r) = Unit {0}
 
--- the field stands in no later part, and begins no instance of the group
+-- the field is in no later part, and begins no instance of the group
 abbrev pub IsQuiet : List Row → ℕ → ℕ → ℕ → LocatedFields → Type 0
 IsQuiet rows tag home n p = ((b : ℕ) → n < b → is_in b p.1 ≡ false) × ((rest : List ℕ) → with_begin (first_tag tag rows) home p.0.0 p.1 rest ≡ rest)
 
--- so are a field within an earlier part, and one that begins a part and is not the group's first
+-- a field within an earlier part is quiet, and one that begins a part and is not the group's first
 pub quiet_within : (rows : List Row) (tag home m q : ℕ) (f : Entry) → q ≤ m → IsQuiet rows tag home m (f, InPart q)
 quiet_within rows tag home m q f le = ((λ b h. grind (arith, nat_tests, le, h)), (λ rest. refl))
 
 pub quiet_begins : (rows : List Row) (tag home m around : ℕ) (f : Entry) → (f.0 == first_tag tag rows) ≡ false → IsQuiet rows tag home m (f, Begins m around)
 quiet_begins rows tag home m around f other = ((λ b h. grind (arith, nat_tests, h)), (λ rest. rw other refl))
 
--- What a field does to a group that stands in part `home`, where `n` parts have begun: it is left aside, is none of the group's, is its
--- count, begins an instance, or goes on in one. Then `Then` holds of how the group stands, and of how many parts have begun.
+-- The effect of a field on a group in part `home`, where `n` parts have begun: it is ignored, is outside the group, is
+-- its count, begins an instance, or continues one. Then `Then` holds of the status of the group, and of the number of
+-- parts that have begun.
 pub data Act (rows : List Row) (tag home : ℕ) (g : Group) (was : Status) (n : ℕ) (p : LocatedFields) (ps : List LocatedFields) (Then : Status → ℕ → Type 0) : Type 0 where
   skips : is_named g p.0.0 ≡ false → IfInside was (λ (r : ℕ). is_in r p.1 ≡ false) → IsQuiet rows tag home n p → Then was n → Act rows tag home g was n p ps Then
   leaves : (m : ℕ) → n ≤ m → is_own g p.0.0 ≡ false → IfInside was (λ (r : ℕ). part r (p ∷ ps) ≡ []) → IsQuiet rows tag home m p
@@ -59,18 +60,18 @@ pub data Act (rows : List Row) (tag home : ℕ) (g : Group) (was : Status) (n : 
   goes : (m : ℕ) → n ≤ m → is_named g p.0.0 ≡ true → has g.others.now p.0.0 ≡ true → IsInside was (λ (r : ℕ). stands_in tag (group_of p.0.0 rows) ≡ is_in r p.1)
       → IsQuiet rows tag home m p → Then was m → Act rows tag home g was n p ps Then
 
--- what each of the fields does, one behind the other
+-- the effect of each of the fields, in order
 abbrev pub IsRun : List Row → ℕ → ℕ → Group → List LocatedFields → Status → ℕ → Type 0
 IsRun rows tag home g [] was n = Unit {0}
 IsRun rows tag home g (p ∷ ps) was n = Act rows tag home g was n p ps (λ (now : Status) (m : ℕ). IsRun rows tag home g ps now m)
 
--- a field that is placed does what it does by its step
+-- a located field has the effect of its step
 pub acts : (header rows : List Row) (tag home : ℕ) (g : Group) (was : Status) (f : Entry) (fs : List Entry) (s : State) (d : Stepped) → step header rows s f.0 ≡ d
     → Act rows tag home g was s.begun (f, d.position) (located header rows d.state fs) (λ (now : Status) (m : ℕ). IsRun rows tag home g (located header rows d.state fs) now m)
     → IsRun rows tag home g (located header rows s (f ∷ fs)) was s.begun
 acts header rows tag home g was f fs s d e act = rw e act
 
--- the group is open so, where it can be open
+-- the group has this status, where it can be open
 abbrev pub IsAt : ℕ → Option OpenGroup → Status → Type 0
 IsAt tag slot Shut = (p : OpenGroup) → slot ≡ Some p → p.group ≡ tag → ⊥
 IsAt tag slot Counted = (p : OpenGroup) × ((slot ≡ Some p) × ((p.group ≡ tag) × (p.instance ≡ None)))
@@ -80,7 +81,7 @@ IsAt tag slot (Inside r) = (p : OpenGroup) × ((slot ≡ Some p) × ((p.group �
 pub at_other : (tag : ℕ) (slot : Option OpenGroup) (p : OpenGroup) → slot ≡ Some p → (p.group ≡ tag → ⊥) → IsAt tag slot Shut
 at_other tag slot p is_open other p' h same = other (ap (λ (p : OpenGroup). p.group) (same_some p p' (sym is_open ∙ h)) ∙ same)
 
--- what holds where the group is in an instance
+-- the predicate holds where the group is in an instance
 pub if_inside : (tag : ℕ) (slot : Option OpenGroup) (was : Status) (what : ℕ → Type 0) → IsAt tag slot was
     → ((p : OpenGroup) (r : ℕ) → slot ≡ Some p → p.group ≡ tag → p.instance ≡ Some r → what r) → IfInside was what
 if_inside tag slot Shut what at h = tt

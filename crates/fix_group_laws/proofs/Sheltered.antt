@@ -1,4 +1,4 @@
--- Where fields are a group that stands within the one instance of another, no field shows it first to be miscounted.
+-- Where fields are a group within the one instance of another, no field shows it first to be miscounted.
 use Rattle.std.proofs.Common.{◌≡◌, ℕ, ◌+◌, ◌≤◌, true, false, List, [], ◌∷◌, ◌++◌, length, refl, sym, ap, subst, ◌∙◌, arith, ◌==◌, Option, Some, None, inl, inr, ◌⊎◌}
 use Rattle.std.specs.List.{AllByRecursion}
 use Rattle.std.proofs.lemmas.Bool.Decides.{nat_tests}
@@ -37,12 +37,12 @@ use Rattle.fix_group_laws.proofs.Inner.{AreAll, IsSole, AreSole, sole_behind, no
 use Rattle.fix_group_laws.proofs.Members.{IsPlace, Stays, chain, with_other, same_head, same_tail}
 use Rattle.fix_group_laws.proofs.Converse.{not_shown, present, stated_right}
 
--- the fault is shown behind a field that does not show it
+-- the fault is shown after a field that does not show it
 next_other : (a b : Option ℕ) (tag : ℕ) → (a ≡ Some tag → ⊥) → or_next a b ≡ Some tag → (a ≡ None) × (b ≡ Some tag)
 next_other None b tag other h = (refl, h)
 next_other (Some t) b tag other h = absurd (other h)
 
--- a tag that stands in a part stands there with one more field
+-- a tag in a part is in it with another field
 has_before : (tag q : ℕ) (earlier : List LocatedFields) (p : LocatedFields) → has_tag tag (part q earlier) ≡ true → has_tag tag (part q (earlier ++ p ∷ [])) ≡ true
 has_before tag q earlier p found =
     ap (has_tag tag) (part_append q earlier (p ∷ [])) ∙ has_tag_append tag (part q earlier) (part q (p ∷ [])) ∙ rw found refl
@@ -51,7 +51,7 @@ has_behind : (tag q : ℕ) (earlier : List LocatedFields) (p : LocatedFields) �
 has_behind tag q earlier p found =
     ap (has_tag tag) (part_append q earlier (p ∷ [])) ∙ has_tag_append tag (part q earlier) (part q (p ∷ [])) ∙ rw found (or_true (has_tag tag (part q earlier)))
 
--- no group stands within a group that is within another one
+-- no group is within a group that is within another one
 flat_of : (all rows : List Row) → AreFlat all rows → (tag around : ℕ) → group_of tag all ≡ Some around → (0 ≡ around → ⊥)
     → (t h : ℕ) → group_of t rows ≡ Some h → group_of h all ≡ Some tag → ⊥
 flat_of all [] flat tag around count some t h its within = none_some h its
@@ -82,7 +82,7 @@ module _ (header rows : List Row) (tag around q : ℕ) (g : Group) (table : IsTa
   abbrev Kept : State → Type 0
   Kept s = IsSound rows s × Sole s
 
-  -- What holds of the groups that are open holds behind a field that is not astray.
+  -- The facts of the open groups hold after a field that is not a stray.
   next : (f : Entry) (fs : List Entry) (s : State) → Kept s → AllSole (located header rows s (f ∷ fs)) → IsNoStray (step header rows s f.0).position
       → Kept (step header rows s f.0).state
   next f fs s was all clear =
@@ -109,7 +109,7 @@ module _ (header rows : List Row) (tag around q : ℕ) (g : Group) (table : IsTa
   all_on : (f : Entry) (fs : List Entry) (s : State) → AllSole (located header rows s (f ∷ fs)) → AllSole (located header rows (step header rows s f.0).state fs)
   all_on f fs s all = sole_behind header rows tag around q g table outside led f fs s _ refl all
 
-  -- the count opens its group in the one instance around it, or is told as one of a group that is miscounted
+  -- the count opens its group in the one instance around it, or shows a miscounted group
   abbrev Opens : Stepped → Type 0
   Opens d = (d.position ≡ InPart q) × (d.state.inner ≡ Some (opening tag q))
 
@@ -144,7 +144,7 @@ module _ (header rows : List Row) (tag around q : ℕ) (g : Group) (table : IsTa
           let of = was.0.inner o is_open in
           not_within header rows tag around q g table outside led f.0 o.group of.0.group its of.1.1.0 (was.0.outer of.0 of.1.0).0 same
 
-  -- Fields behind the count.
+  -- Fields after the count.
 
   -- the group is open, in the one instance around it
   record IsHeld (s : State) (o : OpenGroup) : Type 0 where
@@ -171,7 +171,7 @@ module _ (header rows : List Row) (tag around q : ℕ) (g : Group) (table : IsTa
       let not_first : (t == first_tag o.group rows) ≡ false = rw held.group later in
       to_inner s o held t its ∙ rw (test, not_first, at) refl
 
-  -- so it is behind a member, which goes on in an instance, or begins one
+  -- it is so after a member, which continues an instance, or begins one
   stays : Stays header rows tag around q g table IsHeld
   stays = record {
     there = λ s o held. held.home;
@@ -199,7 +199,7 @@ module _ (header rows : List Row) (tag around q : ℕ) (g : Group) (table : IsTa
   other_around : around ≡ tag → ⊥
   other_around same = not_outside header rows tag around q g table outside led around outside same
 
-  -- a field that is not the count, and no member astray, does not show it
+  -- a field other than the count and a stray member does not show it
   past : (all : List LocatedFields) (f : Entry) (x : FieldPosition) (next : Option ℕ) → (f.0 ≡ tag → ⊥) → IsPlace header rows tag around q g table (f, x) → or_next (miscounts rows all f x) next ≡ Some tag
       → IsNoStray x × (next ≡ Some tag)
   past all f x next other clear shown =
@@ -231,7 +231,7 @@ module _ (header rows : List Row) (tag around q : ℕ) (g : Group) (table : IsTa
   -- The count with its instances, and some fields before it.
   module _ (all : List LocatedFields) (count : Entry) (is : List (List Entry)) (rest : List Entry) (its : count.0 ≡ g.count) (each : AllByRecursion (IsInstance g) is)
       (out : HasNo (is_member g) rest) (number : Emits (length is) count.1) where
-    -- such fields do not show the miscount first, if all begins of instances in the part are behind
+    -- such fields do not show the miscount first, if all instances in the part begin after them
     abbrev IsClear : List Entry → Type 0
     IsClear fs = (s : State) (earlier : List LocatedFields) (front : List Entry) → Kept s → AllSole (located header rows s fs) → twice earlier (located header rows s fs) ≡ None
         → kept g fs ≡ front ++ count ∷ (chained is ++ rest) → HasNo (is_own g) front → begins first q all ≡ begins first q (located header rows s fs)
@@ -311,7 +311,7 @@ module _ (header rows : List Row) (tag around q : ℕ) (g : Group) (table : IsTa
       whole (located header rows start fs) group.count is group.rest group.tag group.each group.behind group.number fs start [] group.front
       (sound_start rows, (λ p n h same this. absurd (none_some p h))) sole new group.parts group.before refl shown
 
--- instances of which there are no two are all the same one
+-- instances of which there are at most one are all the same one
 at_most_one : (bs : List ℕ) → length bs ≤ 1 → (q : ℕ) × AreAll q bs
 at_most_one [] h = (0, tt)
 at_most_one (q ∷ []) h = (q, (refl, tt))

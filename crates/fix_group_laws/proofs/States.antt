@@ -1,4 +1,4 @@
--- What holds of the groups that are open, field by field.
+-- The facts of the open groups, field by field.
 use Rattle.std.proofs.Common.{◌≡◌, ℕ, ◌+◌, ◌≤◌, true, false, Bool, List, [], ◌∷◌, refl, sym, ap, ◌∙◌, arith, rules, ◌==◌, ◌&&◌, ◌||◌, Option, Some, None, inl, inr}
 use Rattle.std.specs.List.{AllByRecursion}
 use Rattle.std.proofs.lemmas.Bool.Decides.{nat_tests}
@@ -14,7 +14,7 @@ use Rattle.fix_validation.specs.Stated.{some_or}
 use Rattle.fix_validation.specs.Positions.{LocatedFields, group_of, is_count, opened, opened_in, step_in, header_step, step, located, is_in, part, start}
 use Rattle.fix_group_laws.proofs.Views.{view, begun_at, aside, headed, closes, begins_outer, goes_outer, begins_inner, goes_inner, strays}
 
--- no field stands astray
+-- no field is a stray
 abbrev pub IsNoStray : FieldPosition → Type 0
 IsNoStray Unknown = Unit {0}
 IsNoStray (InPart q) = Unit {0}
@@ -30,7 +30,7 @@ none_some x h = search (h, rules)
 pub same_some : {X : Type 0} (x y : X) → Some x ≡ Some y → x ≡ y
 same_some x y h = search (h, rules)
 
--- what is a number other than 0, where none is told as 0, has that number
+-- a number other than 0, where none stands for 0
 pub some_number : (n : ℕ) → (0 ≡ n → ⊥) → (w : Option ℕ) → some_or 0 w ≡ n → w ≡ Some n
 some_number n unlike None h = absurd (unlike h)
 some_number n unlike (Some m) h = ap (λ (n : ℕ). Some n) h
@@ -46,7 +46,7 @@ and_false false = refl
 abbrev pub opening : ℕ → ℕ → OpenGroup
 opening tag part = record { group = tag; around = part; instance = None }
 
--- what a field opens is its own group, in its part, with no instance
+-- the group that a field opens is its own, in its part, with no instance
 pub opened_is : (rows : List Row) (tag q : ℕ) (p : OpenGroup) → opened rows tag q ≡ Some p → p ≡ opening tag q
 opened_is rows tag q p h = by_count (is_count tag rows) refl
   where
@@ -54,8 +54,8 @@ opened_is rows tag q p h = by_count (is_count tag rows) refl
     by_count true e = sym (same_some (opening tag q) p (rw e at h))
     by_count false e = absurd (none_some p (rw e at h))
 
--- The outer group's count stands outside of groups, and the inner one's in the instance of the outer group; instances are of those that
--- have begun, and the inner group's is another than the outer one's.
+-- The outer group's count is outside of groups, and the inner one's in the instance of the outer group; instances are
+-- of those that have begun, and the inner group is not the outer one.
 pub record IsSound (rows : List Row) (s : State) : Type 0 where
   pub outer : (p : OpenGroup) → s.outer ≡ Some p → (group_of p.group rows ≡ Some 0) × (p.around ≡ 0)
   pub inner : (o : OpenGroup) → s.inner ≡ Some o → (p : OpenGroup) × ((s.outer ≡ Some p) × ((group_of o.group rows ≡ Some p.group) × (p.instance ≡ Some o.around)))
@@ -128,7 +128,7 @@ module _ (rows : List Row) (s : State) (sound : IsSound rows s) (t : ℕ) where
     unlike = λ p o' q h k i j. sound.unlike p o' q h (is_open ∙ k) i j;
   }
 
--- Parts that are done with.
+-- Parts that have ended.
 
 -- a part that has begun, and is no instance of a group that is open
 pub record IsLeft (q : ℕ) (s : State) : Type 0 where
@@ -159,7 +159,7 @@ module _ (rows : List Row) (s : State) (t q : ℕ) (some : 1 ≤ q) (old : q ≤
       → IsLeft q (record { begun = s.begun + 1; outer = s.outer; inner = Some (begun_at (s.begun + 1) o) })
   left_within o other = record { some = some; old = grind (arith, old); outer = other; inner = just_begun o }
 
--- numbers that are not the same
+-- distinct numbers
 pub unlike_numbers : (n m : ℕ) → (n ≡ m → ⊥) → (n == m) ≡ false
 unlike_numbers n m other =
     elim (cases_eq n m) [
@@ -168,12 +168,12 @@ unlike_numbers n m other =
     ]
 
 module _ (header rows : List Row) where
-  -- a part in which the field does not stand is that of the fields behind it
+  -- a part without the field is that of the fields after it
   passed : (q : ℕ) (s : State) (f : Entry) (fs : List Entry) (d : Stepped) → step header rows s f.0 ≡ d → is_in q d.position ≡ false
       → part q (located header rows d.state fs) ≡ [] → part q (located header rows s (f ∷ fs)) ≡ []
   passed q s f fs d e out rest = rw (e, out) rest
 
-  -- a part that is done with gets no more fields
+  -- a part that has ended gets no more fields
   pub left : (q : ℕ) (fs : List Entry) (s : State) → IsLeft q s → NoStrays (located header rows s fs) → part q (located header rows s fs) ≡ []
   left q [] s gone clear = refl
   left q (f ∷ fs) s gone clear =
@@ -192,7 +192,7 @@ module _ (header rows : List Row) where
         | strays n x e ↦ absurd (rw e at clear.0)
       ]
 
--- a tag of the table is none of the header's
+-- a tag of the table is not one of the header
 pub steps : (header rows : List Row) → ((t x : ℕ) → group_of t header ≡ Some x → group_of t rows ≡ None) → (s : State) (t h : ℕ) → group_of t rows ≡ Some h
     → step header rows s t ≡ step_in rows s t (Some h)
 steps header rows apart s t h its = by_header (group_of t header) refl

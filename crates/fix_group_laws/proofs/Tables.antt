@@ -31,7 +31,7 @@ use Rattle.fix_group_laws.proofs.Outer.{outer_run}
 use Rattle.fix_group_laws.proofs.Inner.{inner_run}
 use Rattle.fix_group_laws.proofs.Ties.{no_strays, tied}
 
--- the tags of the header are none of the table's
+-- the tags of the header are disjoint from those of the table
 abbrev pub AreApart : List Row → List Row → Type 0
 AreApart header rows = AllByRecursion (λ (r : Row). group_of r.tag rows ≡ None) header
 
@@ -78,17 +78,17 @@ led_of all (r ∷ rs) h tag around its =
           led_of all rs h.1 tag around (rw test at its)
     ]
 
--- the group of each row is 0, which stands for none, or a count that is named
+-- the group of each row is 0, for none, or a count that is named
 abbrev pub AreNamed : List Row → List Row → Type 0
 AreNamed all rows = AllByRecursion (λ (r : Row). ((r.group == 0) || is_some (group_of r.group all)) ≡ true) rows
 
--- a group around a group stands outside of groups
+-- a group around a group is outside of groups
 abbrev pub AreFlat : List Row → List Row → Type 0
 AreFlat all rows = AllByRecursion (λ (r : Row). some_or 0 (group_of (some_or 0 (group_of r.group all)) all) ≡ 0) rows
 
--- Tags that rows list.
+-- Tags listed by rows.
 
--- what a test of tag and group says of a tag
+-- the result of a test of tag and group for a tag
 abbrev by_group : (ℕ → ℕ → Bool) → ℕ → Option ℕ → Bool
 by_group test t None = false
 by_group test t (Some group) = test t group
@@ -178,7 +178,7 @@ pub table_of : (rows : List Row) → IsPlain rows → (tag around : ℕ) (g : Gr
 table_of rows p tag around g is_one count beyond of =
     record { apart = apart_of header_rows rows p.apart; none = p.none; count = count; beyond = beyond; counts = is_one; first = first_of_group rows rows p.firsts tag is_one; of = of }
 
--- where no tag stands twice, what is told of a list of fields is told behind that, and so it is where no count is wrong
+-- where no tag occurs twice, the fault is found after that test, and likewise where no count is wrong
 none_twice : (o : Option ℕ) (next : Option DictFault) → is_counted (or_else Twice o next) ≡ true → (o ≡ None) × (is_counted next ≡ true)
 none_twice None next h = (refl, h)
 none_twice (Some tag) next h = absurd (true≢false (sym h))
@@ -194,13 +194,13 @@ counted_of header rows ps fields h =
     let a = none_twice (twice [] ps) _ h in
     (a.0, none_wrong (miscounted rows ps ps) _ a.1)
 
--- the fields are those that are placed
+-- the fields are those that are located
 pub placed_fields : (header rows : List Row) (fs : List Entry) (s : State) → fields_of (located header rows s fs) ≡ fs
 placed_fields header rows [] s = refl
 placed_fields header rows (f ∷ fs) s = ap (λ (l : List Entry). f ∷ l) (placed_fields header rows fs (step header rows s f.0).state)
 
 module _ (fields : List Entry) (grouped : is_grouped (type_in fields) ≡ true) (counted : is_counted (fault_in fields) ≡ true) where
-  -- no field stands twice, and no count is wrong
+  -- no tag occurs twice, and no count is wrong
   right : (twice [] (placed_in fields) ≡ None) × (miscounted (rows_in fields) (placed_in fields) (placed_in fields) ≡ None)
   right =
       let stated : is_counted (located_fault header_rows (rows_in fields) (placed_in fields) fields) ≡ true = rw grouped at counted in
@@ -210,7 +210,7 @@ module _ (fields : List Entry) (grouped : is_grouped (type_in fields) ≡ true) 
   clear_of_strays : NoStrays (placed_in fields)
   clear_of_strays = no_strays (rows_in fields) (placed_in fields) (placed_in fields) right.1
 
-  -- such fields are a group by what each of them does to it
+  -- such fields are a group by the effect of each of them
   tied_in : (tag around home : ℕ) (g : Group) → IsTable header_rows (rows_in fields) tag around g → IsRun (rows_in fields) tag home g (placed_in fields) Shut 0
       → IsTied (rows_in fields) tag home g fields (placed_in fields)
   tied_in tag around home g table run =

@@ -10,7 +10,8 @@ use Rattle.fix_validation.specs.Positions.{group_of, first_tag, is_count}
 use Rattle.fix_group_laws.specs.Tied.{IsOfTable, is_within, is_sibling, stands_in}
 use Rattle.fix_group_laws.proofs.States.{none_some, same_some, some_number, unlike_numbers}
 
--- The table has no tag 0, its header's tags are others, the group's count stands in another group or in none, and its first tag in it.
+-- The table has no tag 0, its header's tags are disjoint, the group's count is in another group or in none, and its
+-- first tag in it.
 pub record IsTable (header rows : List Row) (tag around : ℕ) (g : Group) : Type 0 where
   pub apart : (t x : ℕ) → group_of t header ≡ Some x → group_of t rows ≡ None
   pub none : group_of 0 rows ≡ None
@@ -24,7 +25,7 @@ pub record IsTable (header rows : List Row) (tag around : ℕ) (g : Group) : Typ
 pub not_zero : (rows : List Row) → group_of 0 rows ≡ None → (t h : ℕ) → group_of t rows ≡ Some h → 0 ≡ t → ⊥
 not_zero rows none t h its zero = none_some h (sym none ∙ ap (λ (t : ℕ). group_of t rows) zero ∙ its)
 
--- both of two tests
+-- both of two tests hold
 pub both : (a b : Bool) → (a && not b) ≡ true → (a ≡ true) × (b ≡ false)
 both true false h = (refl, refl)
 both true true h = absurd (true≢false (sym h))
@@ -61,7 +62,7 @@ module _ (header rows : List Row) (tag around : ℕ) (g : Group) (table : IsTabl
   own_of : (t : ℕ) → is_own g t ≡ ((t == tag) || is_within rows tag (group_of t rows))
   own_of t = rw (table.of.count, member_of t) refl
 
-  -- the header and what the table does not name
+  -- the header, and tags that the table does not name
   pub unnamed : (t : ℕ) → group_of t rows ≡ None → is_named g t ≡ false
   unnamed t its =
       let unlike = unlike_numbers t tag (λ same. none_some around (sym its ∙ ap (λ (t : ℕ). group_of t rows) same ∙ table.count)) in
@@ -69,7 +70,7 @@ module _ (header rows : List Row) (tag around : ℕ) (g : Group) (table : IsTabl
       let ends : has g.outside.now t ≡ false = table.of.outside t ∙ ap (is_sibling rows tag t) its in
       rw (own, ends) refl
 
-  -- what is within the group
+  -- tags within the group
   named_within : (t : ℕ) → is_within rows tag (group_of t rows) ≡ true → is_named g t ≡ true
   named_within t within = rw (member_of t ∙ within) (by_test (t == g.count) (has g.outside.now t))
     where
@@ -77,7 +78,7 @@ module _ (header rows : List Row) (tag around : ℕ) (g : Group) (table : IsTabl
       by_test true b = refl
       by_test false b = refl
 
-  -- all that the table names
+  -- all tags that the table names
   named_of : (t : ℕ) → is_named g t ≡ is_some (group_of t rows)
   named_of t =
       elim (cases_eq t tag) [
@@ -111,11 +112,11 @@ module _ (header rows : List Row) (tag around : ℕ) (g : Group) (table : IsTabl
   pub no_group : is_within rows tag (Some 0) ≡ false
   no_group = let zero = unlike_numbers 0 tag some_tag in rw (zero, table.none, zero) refl
 
-  -- what stands in a group that is none of this group's, or outside of groups
+  -- a tag in another group, or outside of groups
   pub foreign : (t h : ℕ) → (t ≡ tag → ⊥) → group_of t rows ≡ Some h → is_within rows tag (Some h) ≡ false → is_own g t ≡ false
   foreign t h unlike its out = own_of t ∙ rw (unlike_numbers t tag unlike, its) out
 
-  -- a tag that stands in another group is not this group's first
+  -- a tag in another group is not this group's first
   pub no_first : (t h : ℕ) → group_of t rows ≡ Some h → (h ≡ tag → ⊥) → (t == first) ≡ false
   no_first t h its unlike = unlike_numbers t first (λ same. unlike (same_some h tag (sym its ∙ ap (λ (t : ℕ). group_of t rows) same ∙ table.first)))
 
@@ -135,7 +136,7 @@ module _ (header rows : List Row) (tag around : ℕ) (g : Group) (table : IsTabl
   pub first_stands : stands_in tag (group_of first rows) ≡ true
   first_stands = rw table.first self
 
-  -- what is no member is not the first tag, and stands not in the group; what is none of its own is not the count
+  -- a tag that is not a member is neither the first tag nor in the group; one that is not its own is not the count
   pub no_member_first : (t : ℕ) → is_member g t ≡ false → (t == first) ≡ false
   no_member_first t out = unlike_numbers t first (λ same. true≢false (sym first_member ∙ ap (is_member g) (sym same) ∙ out))
 
@@ -147,7 +148,7 @@ module _ (header rows : List Row) (tag around : ℕ) (g : Group) (table : IsTabl
   pub not_tag : (t : ℕ) → is_own g t ≡ false → (t == tag) ≡ false
   not_tag t out = rw (← table.of.count) (or_parts (t == g.count) (is_member g t) out).0
 
-  -- what stands in the group, and what stands in a group within it
+  -- a tag in the group, and a tag in a group within it
   pub inside : (t : ℕ) → group_of t rows ≡ Some tag → (t == first) ≡ false
       → (is_named g t ≡ true) × ((has g.others.now t ≡ true) × (stands_in tag (group_of t rows) ≡ true))
   inside t its later =
@@ -163,7 +164,7 @@ module _ (header rows : List Row) (tag around : ℕ) (g : Group) (table : IsTabl
       let member : has g.others.now t ≡ true = rw (table.of.others t, within, no_first t h its unlike) refl in
       (named_within t within, (member, rw (its, other) refl))
 
-  -- what is a member, and not the first tag, stands in the group or in one within it
+  -- a member other than the first tag is in the group or in one within it
   pub place_of : (t : ℕ) → has g.others.now t ≡ true → ((t == first) ≡ false) × ((group_of t rows ≡ Some tag) ⊎ ((h : ℕ) × ((group_of t rows ≡ Some h) × ((group_of h rows ≡ Some tag) × (h ≡ tag → ⊥)))))
   place_of t other =
       let tests = both (is_within rows tag (group_of t rows)) (t == first) (sym (table.of.others t) ∙ other) in
@@ -182,14 +183,14 @@ module _ (header rows : List Row) (tag around : ℕ) (g : Group) (table : IsTabl
                 inr (h, (its, (some_number tag some_tag (group_of h rows) same, unlike)))
           ]
 
-  -- it is not the count, nor is the first tag
+  -- it is neither the count nor the first tag
   pub other_unlike : (t : ℕ) → has g.others.now t ≡ true → t ≡ tag → ⊥
   other_unlike t other same = true≢false (sym other ∙ ap (has g.others.now) same ∙ (or_parts (tag == g.first) (has g.others.now tag) no_member).1)
 
   pub first_unlike : first ≡ tag → ⊥
   first_unlike same = true≢false (sym first_member ∙ ap (is_member g) same ∙ no_member)
 
-  -- what is not named stands nowhere
+  -- a tag that is not named is nowhere
   pub nowhere : (t : ℕ) → is_named g t ≡ false → group_of t rows ≡ None
   nowhere t unnamed = by_group (group_of t rows) (sym (named_of t) ∙ unnamed)
     where

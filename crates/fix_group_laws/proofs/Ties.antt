@@ -1,4 +1,4 @@
--- A table's group is the group that fields are.
+-- A group of a table is the group of the fields.
 use Rattle.std.proofs.Common.{◌≡◌, ℕ, ◌≤◌, ◌<◌, true, false, Bool, List, [], ◌∷◌, ◌++◌, map, length, refl, sym, ap, subst, ◌∙◌, arith, cond, ◌==◌, ◌&&◌, ◌||◌, not, Option, Some, None, inl, inr, ◌⊎◌, Ok, Err, Result}
 use Rattle.std.specs.List.{AllByRecursion}
 use Rattle.std.proofs.lemmas.Bool.Decides.{nat_tests}
@@ -24,7 +24,7 @@ use Rattle.fix_group_laws.proofs.Tags.{IsTable, named_count, no_member, first_me
 use Rattle.fix_group_laws.proofs.Runs.{Status, Shut, IsQuiet, skips, leaves, counts, starts, goes, IsRun}
 use Rattle.fix_group_laws.proofs.Chains.{fields_of, past, later_still, not_own, Behind, behind_count}
 
--- What a table that finds no fault says of placed fields.
+-- The facts of located fields in which a table finds no fault.
 
 next_none : (a b : Option ℕ) → or_next a b ≡ None → (a ≡ None) × (b ≡ None)
 next_none None b h = (refl, h)
@@ -42,7 +42,7 @@ no_strays rows all (p ∷ ps) h =
     let each = next_none (miscounts rows all p.0 p.1) (miscounted rows all ps) h in
     (stray_here rows all p.0 p.1 each.0, no_strays rows all ps each.1)
 
--- a count that stands in the part tells so many instances
+-- a count in the part is this number of instances
 abbrev IsCounted : ℕ → ℕ → ℕ → LocatedFields → Type 0
 IsCounted tag home many p = p.0.0 ≡ tag → p.1 ≡ InPart home → emits many p.0.1 ≡ true
 
@@ -65,7 +65,7 @@ counted rows tag home all (p ∷ ps) its_count h =
         let its : is_wrong rows all home tag p.0.1 ≡ false = rw same at right in
         right_count (is_count tag rows) (emits (length (begins (first_tag tag rows) home all)) p.0.1) its its_count
 
--- behind a field with the tag there is no other one
+-- after a field with the tag there is no other one
 abbrev pub IsOnce : ℕ → List Entry → Type 0
 IsOnce tag [] = Unit {0}
 IsOnce tag (f ∷ fs) = ((f.0 == tag) ≡ true → has_tag tag fs ≡ false) × IsOnce tag fs
@@ -79,11 +79,11 @@ part_append q (p ∷ ps) others = kept_in (is_in q p.1) p.0 (part q ps) (part q 
     kept_in false f fs gs all e = e
 
 module _ (header rows : List Row) (tag around home : ℕ) (g : Group) (table : IsTable header rows tag around g) where
-  -- the count stands in its part
+  -- the count is in its part
   abbrev pub IsHome : LocatedFields → Type 0
   IsHome p = p.0.0 ≡ tag → p.1 ≡ InPart home
 
-  -- so it is in a run
+  -- it is so in a run
   homes : (ps : List LocatedFields) (was : Status) (n : ℕ) → IsRun rows tag home g ps was n → AllByRecursion IsHome ps
   homes [] was n run = tt
   homes (p ∷ ps) was n run =
@@ -132,7 +132,7 @@ module _ (header rows : List Row) (tag around home : ℕ) (g : Group) (table : I
           absurd (true≢false (sym found ∙ other))
       by_tag new rest found found_on (inr other) = rw other (rest found_on)
 
-  -- The fields are some before the count, the count, instances one behind the other, and some behind them.
+  -- The fields are some before the count, the count, instances in order, and some after them.
   record Found (n many : ℕ) (ps : List LocatedFields) : Type 0 where
     front : List Entry
     count : Entry

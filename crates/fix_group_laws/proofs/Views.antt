@@ -1,4 +1,4 @@
--- What a field does to the groups that are open.
+-- The effect of a field on the open groups.
 use Rattle.std.proofs.Common.{◌≡◌, ℕ, ◌+◌, true, false, List, refl, sym, ap, ◌∙◌, arith, ◌==◌, Option, Some, None, inl, inr}
 use Rattle.std.proofs.lemmas.Bool.Decides.{nat_tests}
 use Rattle.std.proofs.lemmas.Bool.{cases_eq, cases_Bool}
@@ -13,7 +13,7 @@ use Rattle.fix_validation.specs.Positions.{group_of, first_tag, opened, opened_i
 abbrev pub begun_at : ℕ → OpenGroup → OpenGroup
 begun_at n p = record { group = p.group; around = p.around; instance = Some n }
 
--- what a field does: what it is, and the step that it makes
+-- the effect of a field: its role, and its step
 pub data View (header rows : List Row) (s : State) (t : ℕ) : Type 0 where
   aside : group_of t rows ≡ None → step header rows s t ≡ record { position = Unknown; state = s } → View header rows s t
   headed : (x : ℕ) → group_of t header ≡ Some x → step header rows s t ≡ record { position = InPart 0; state = s } → View header rows s t

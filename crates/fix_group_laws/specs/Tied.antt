@@ -11,24 +11,24 @@ use Rattle.fix_validation.specs.Positions.{LocatedFields, group_of, first_tag, i
 use Rattle.fix_validation.specs.Tables.{header_rows, rows_of}
 use Rattle.fix_decoder.specs.Messages.{placed_as, type_in}
 
--- Whether a tag stands in the group that is named by a count's tag, or in a group within it, by the group that the table puts it in:
--- none if the table does not name it, 0 outside of groups.
+-- Whether a tag is in the group named by a count's tag, or in a group within it, by the group that the table puts it
+-- in: none if the table does not name it, 0 outside of groups.
 abbrev pub is_within : List Row → ℕ → Option ℕ → Bool
 is_within rows tag None = false
 is_within rows tag (Some group) = (group == tag) || (some_or 0 (group_of group rows) == tag)
 
--- whether it stands in that group itself
+-- whether it is in that group itself
 abbrev pub stands_in : ℕ → Option ℕ → Bool
 stands_in tag None = false
 stands_in tag (Some group) = group == tag
 
--- whether the table names tag t, and it is none of the group's: not its count, and not within it
+-- whether the table names tag t, and it is not in the group: neither its count nor within it
 abbrev pub is_sibling : List Row → ℕ → ℕ → Option ℕ → Bool
 is_sibling rows tag t None = false
 is_sibling rows tag t (Some group) = not (is_within rows tag (Some group)) && not (t == tag)
 
--- The group of fields that the table tells of: its count, its first tag, the other tags that stand in it or in a group within it,
--- and all other tags of the table, without those of the header. How many instances it may have is not asked here.
+-- The group of fields of the table: its count, its first tag, the other tags in it or in a group within it, and all
+-- other tags of the table, without those of the header. The bounds on the number of instances are left open.
 pub record IsOfTable (rows : List Row) (tag : ℕ) (g : Group) : Type 0 where
   pub count : g.count ≡ tag
   pub first : g.first ≡ first_tag tag rows
@@ -39,7 +39,8 @@ pub record IsOfTable (rows : List Row) (tag : ℕ) (g : Group) : Type 0 where
 abbrev pub tags : (ℕ → ℕ → Bool) → List Row → List ℕ
 tags test rows = map (λ (r : Row). r.tag) (filter (λ (r : Row). test r.tag r.group) rows)
 
--- such a group, with the tags as the table lists them (its bounds, and where the lists lie in memory, mean nothing)
+-- such a group, with the tags as the table lists them (its bounds, and the places of the lists in memory, are
+-- arbitrary)
 abbrev pub group_in : List Row → ℕ → Group
 group_in rows tag = record {
   count = tag;
@@ -50,13 +51,13 @@ group_in rows tag = record {
   outside = record { ref_ptr = (0, 0); now = tags (λ t group. is_sibling rows tag t (Some group)) rows };
 }
 
--- what of an instance stands in the group itself, and not in a group within it
+-- the fields of an instance in the group itself, and not in a group within it
 abbrev pub in_itself : List Row → ℕ → List Entry → List Entry
 in_itself rows tag fields = filter (λ (f : Entry). stands_in tag (group_of f.0 rows)) fields
 
--- `q` is the part in which the group's count stands, 0 outside of groups. The fields have no tag of the group, and none of its instances
--- stands in part `q`; or they are the group, with some instances, and what of these stands in the group itself are its instances in
--- part `q`, in order.
+-- `q` is the part with the group's count, 0 outside of groups. Either the fields have no tag of the group, and none of
+-- its instances is in part `q`; or they are the group, with some instances, and the fields of these in the group itself
+-- are its instances in part `q`, in order.
 abbrev pub IsTied : List Row → ℕ → ℕ → Group → List Entry → List LocatedFields → Type 0
 IsTied rows tag q g fields ps =
     (HasNo (is_own g) fields × (instances (first_tag tag rows) q ps ≡ []))
@@ -70,12 +71,12 @@ stands_alone rows t = is_some (group_of t header_rows) || stands_in 0 (group_of 
 abbrev pub rows_in : List Entry → List Row
 rows_in fields = rows_of (type_in fields) 0
 
--- where the fields stand by that table
+-- the positions of the fields by that table
 abbrev pub placed_in : List Entry → List LocatedFields
 placed_in fields = placed_as (type_in fields) fields
 
--- No tag stands twice in its part and no count is wrong: the first fault, if there is one, is of another kind, which is told only where
--- there is none of these two.
+-- No tag occurs twice in its part and no count is wrong: the first fault, if there is one, is of another kind, which
+-- comes only after these two.
 abbrev pub is_counted : Option DictFault → Bool
 is_counted None = true
 is_counted (Some (Twice tag)) = false

@@ -1,4 +1,4 @@
-//! A law that joins what is said of fields and of messages: the contract of a function with no parameters.
+//! A law that joins the groups of fields and the groups of messages: the contract of a function with no parameters.
 ghost use Rattle.std.specs.Prelude.{◌≡◌, ℕ, ◌≤◌, ◌==◌, true, None, Some, List, [], ◌∷◌, length, filter, is_some};
 ghost use Rattle.fix_fields.specs.Fields.{Entry};
 ghost use Rattle.fix_fields.specs.Groups.{is_own, HasNo, IsNoGroup};
@@ -11,19 +11,21 @@ ghost use Rattle.fix_validation.specs.Positions.{group_of, first_tag, is_count, 
 ghost use Rattle.fix_decoder.specs.Messages.{fault_in, type_in};
 ghost use Rattle.fix_group_laws.specs.Tied.{IsOfTable, IsTied, is_counted, group_in, stands_alone, rows_in, placed_in};
 
-/// Of a message whose type has groups: where no tag of its fields stands twice in its part and no count is wrong, each
-/// group of its table is the group that the fields are by what `fix_fields` says of groups, and what of an instance
-/// stands in the group itself is the part that the places make of it, instance by instance; or no field has a tag of
-/// the group, and the places make no instance. This holds of a group outside of groups, and of one inside of a group
-/// that has one instance, part `q`. Where the fields have no fault, the instruments of a request for quotes, around its
-/// parties, are one instance. Where no tag stands twice and no count is wrong, what stands outside of groups is what
+/// Law call (docs/ARCHITECTURE.md), for a message whose type has groups.
+///
+/// Where no tag occurs twice in its part and no count is wrong, each group of the type's table is a group as
+/// `fix_fields` defines it. Instance by instance, the fields in the group itself are the part that their positions make
+/// of it; or no field has a tag of the group, and the positions make no instance. This holds of a group outside of
+/// groups, and of one inside of a group that has one instance, part `q`. The fields outside of groups are those that
 /// the header names or the table puts there. For each tag there is such a group, made of the table's rows.
 ///
-/// Conversely, where the first fault of the fields is the count of a group outside of groups, they are what
-/// `fix_fields` calls a wrong count: a field has a tag of the group, and the fields are not that group, whatever the
-/// instances. So it is for a group inside of one that has at most one instance. Wherever the group stands, a field has
-/// a tag of it, and the tag of the fault is a count that the table names. Where the first fault is a tag that stands
-/// twice, at least two fields of one part have it.
+/// Where the fields have no fault, the instruments of a request for quotes, around its parties, are one instance.
+///
+/// Conversely, where the first fault is the count of a group outside of groups, the fields are a wrong count in
+/// `fix_fields`: a field has a tag of the group, and the fields are not that group, whatever the instances. The same
+/// holds for a group inside of one that has at most one instance. In any group, a field has a tag of it, and the tag of
+/// the fault is a count that the table names. Where the first fault is a tag that occurs twice, at least two fields of
+/// one part have it.
 pub fn places_are_groups()
     ensures outside { (fields : List Entry) (tag : ℕ) (g : Group) → is_grouped (type_in fields) ≡ true → is_counted (fault_in fields) ≡ true
         → is_count tag (rows_in fields) ≡ true → group_of tag (rows_in fields) ≡ Some 0

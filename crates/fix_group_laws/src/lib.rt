@@ -1,5 +1,5 @@
-//! A law that joins what is said of fields and of messages: where the fields of a message have no fault, the groups that its type's
-//! table makes of them are groups of fields.
+//! A law that joins the groups of fields and the groups of messages: where the fields of a message have no fault, the
+//! groups that its type's table makes of them are groups of fields.
 #![tactic(auto)]
 
 mod laws;

@@ -1,4 +1,4 @@
--- Fields that are found by their tags: where each row holds, no kind of fault is among them.
+-- Fields found by their tags: where each row holds, they have no fault of any kind.
 use Rattle.std.proofs.Common.{◌≡◌, ℕ, zero, suc, ◌%◌, ◌≤◌, ◌<◌, true, false, Bool, List, [], ◌∷◌, ◌++◌, length, take, drop, refl, sym, ap, ◌∙◌, arith, rules, ◌==◌, ◌&&◌, ◌||◌, not, Option, Some, None, inl, inr, is_some, is_none, slice_index}
 use Rattle.std.proofs.Math.ListN.{set}
 use Rattle.std.specs.List.{AllByRecursion}
@@ -33,9 +33,9 @@ and_false : (a b : Bool) → b ≡ false → (a && b) ≡ false
 and_false true b h = h
 and_false false b h = refl
 
--- Places that are noted.
+-- Places of fields by their tags.
 
--- what stands behind fields without the tag has the same value for it
+-- the fields after those without the tag have the same value for it
 pub value_from : (tag n : ℕ) (fields : List Entry) → has_tag tag (take n fields) ≡ false → value_of tag (drop n fields) ≡ value_of tag fields
 value_from tag zero fields h = refl
 value_from tag (suc n) [] h = refl
@@ -43,7 +43,7 @@ value_from tag (suc n) (f ∷ fs) h =
     let parts = either_false (f.0 == tag) (has_tag tag (take n fs)) h in
     rw parts.0 (value_from tag n fs parts.1)
 
--- one more field, of another tag where the place lies behind all
+-- another field, of another tag where the place lies past all
 still_noted : (tag s n : ℕ) (fields : List Entry) (f : Entry) → n ≤ s → (length fields < n → (f.0 == tag) ≡ false)
     → has_tag tag (take s fields) ≡ false → has_tag tag (take n (fields ++ f ∷ [])) ≡ false
 still_noted tag s zero fields f le other h = refl
@@ -84,7 +84,7 @@ noted_set places fields f many counted h headroom past tag =
           ]) (h tag))
     ]
 
--- No tag stands twice.
+-- No tag occurs twice.
 
 pub twice_kept : (whole : Bool) (earlier fields : List Entry) (f : Entry) → whole ≡ any_twice earlier (f ∷ fields) → has_tag f.0 earlier ≡ false → whole ≡ any_twice (earlier ++ f ∷ []) fields
 twice_kept whole earlier fields f e h = e ∙ rw h refl

@@ -1,4 +1,4 @@
--- Rows of a header and of a table, one behind the other, and the faults of their fields.
+-- The rows of a header followed by those of a table, and the faults of their fields.
 use Rattle.std.proofs.Common.{◌≡◌, ℕ, List, [], ◌∷◌, ◌++◌, Option, Some, None, refl, cond, ◌==◌, true, false, Bool, ◌&&◌, not, ap}
 use Rattle.fix_validation.specs.declared.table.Form.{Form}
 use Rattle.fix_validation.specs.declared.table.Row.{Row}

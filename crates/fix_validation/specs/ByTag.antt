@@ -1,4 +1,4 @@
--- Fields that are found by their tags, and rows that have what they ask for.
+-- Fields found by their tags, and rows that have the fields they ask for.
 use Rattle.std.specs.Prelude.{◌≡◌, ℕ, ◌%◌, Bool, true, false, ◌&&◌, ◌||◌, not, List, [], ◌∷◌, ◌++◌, take, slice_index, Option, None, Some, is_none}
 use Rattle.fix_fields.specs.Fields.{Entry, value_of}
 use Rattle.fix_validation.specs.declared.table.Row.{Row}
@@ -10,7 +10,7 @@ abbrev pub any_twice : List Entry → List Entry → Bool
 any_twice earlier [] = false
 any_twice earlier (f ∷ fs) = has_tag f.0 earlier || any_twice (earlier ++ f ∷ []) fs
 
--- no field has a tag before the place that is noted for the tag's remainder
+-- no field has a tag before the place noted for the tag's remainder
 abbrev pub AreNoted : List ℕ → List Entry → Type 0
 AreNoted places fields = (tag : ℕ) → has_tag tag (take (slice_index places (tag % 128)) fields) ≡ false
 

@@ -29,7 +29,7 @@ abbrev pub missing : List Row → List Entry → Option ℕ
 missing [] fields = None
 missing (r ∷ rs) fields = if r.required && not (has_tag r.tag fields) then Some r.tag else missing rs fields
 
--- what is wrong with the value of a field, if its tag is named
+-- the fault of a field's value, if its tag is named
 abbrev pub fault_as : Option Form → List ℕ → Option ValueFault
 fault_as None bytes = None
 fault_as (Some form) bytes = value_fault form bytes
@@ -50,7 +50,7 @@ abbrev pub or_else : (ℕ → DictFault) → Option ℕ → Option DictFault →
 or_else fault None next = next
 or_else fault (Some tag) next = Some (fault tag)
 
--- the first field whose value has not its form, or else the first whose value lies outside its range
+-- the first field whose value lacks its form, or else the first whose value is outside its range
 abbrev pub misfit : List Row → List Entry → Option DictFault
 misfit rows fields = or_else Format (faulty value.Format rows fields) (or_else Range (faulty value.Range rows fields) None)
 

@@ -7,7 +7,7 @@ use Rattle.fix_validation.specs.Positions.{LocatedFields, part, begins}
 use Rattle.fix_validation.specs.GroupFaults.{miscounted, missing_in}
 use Rattle.fix_validation.specs.Holding.{Holds}
 
--- the rows of a group, by themselves; group 0 is what is outside of groups
+-- the rows of a group alone; group 0 is everything outside of groups
 abbrev pub members : ℕ → List Row → List Row
 members group [] = []
 members group (r ∷ rs) =

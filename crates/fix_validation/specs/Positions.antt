@@ -1,4 +1,4 @@
--- Where a field stands: outside of the groups, or in which instance of a group.
+-- The position of a field: outside of the groups, or in an instance of a group.
 use Rattle.std.specs.Prelude.{ℕ, ◌+◌, ◌==◌, Bool, false, ◌&&◌, if◌then◌else◌, List, [], ◌∷◌, map, Option, None, Some}
 use Rattle.std.specs.List.{list_any}
 use Rattle.fix_fields.specs.Fields.{Entry}
@@ -34,7 +34,7 @@ abbrev pub opened_in : List Row → ℕ → Option ℕ → Option OpenGroup
 opened_in rows tag None = None
 opened_in rows tag (Some part) = opened rows tag part
 
--- a member goes on in the instance, or is astray before the first one
+-- a member continues the instance, or is a stray before the first one
 abbrev pub goes_on : OpenGroup → Option ℕ → FieldPosition
 goes_on opening None = Misplaced opening.around
 goes_on opening (Some part) = InPart part
@@ -46,7 +46,7 @@ entered rows begun opening tag =
     then record { position = Begins (begun + 1) opening.around; opening = record { group = opening.group; around = opening.around; instance = Some (begun + 1) }; begun = begun + 1 }
     else record { position = goes_on opening opening.instance; opening = opening; begun = begun }
 
--- no group is open any more
+-- no group stays open
 abbrev pub misplaced : State → Stepped
 misplaced s = record { position = Misplaced 0; state = record { begun = s.begun; outer = None; inner = None } }
 
@@ -87,19 +87,18 @@ header_step rows s tag (Some group) = record { position = InPart 0; state = s }
 abbrev pub step : List Row → List Row → State → ℕ → Stepped
 step header rows s tag = header_step rows s tag (group_of tag header)
 
--- a field, and where it stands
+-- a field and its position
 abbrev pub LocatedFields : Type 0
 LocatedFields = Entry × FieldPosition
 
 abbrev pub start : State
 start = record { begun = 0; outer = None; inner = None }
 
--- each field with where it stands
 abbrev pub located : List Row → List Row → State → List Entry → List LocatedFields
 located header rows s [] = []
 located header rows s (f ∷ fs) = (f, (step header rows s f.0).position) ∷ located header rows (step header rows s f.0).state fs
 
--- the same without where it lies in memory
+-- the same without its place in memory
 abbrev pub place : code.LocatedField → LocatedFields
 place p = (entry p.field, p.position)
 
@@ -112,7 +111,7 @@ is_in part (InPart p) = p == part
 is_in part (Begins p around) = p == part
 is_in part (Misplaced p) = p == part
 
--- the fields that stand in a part
+-- the fields of a part
 abbrev pub part : ℕ → List LocatedFields → List Entry
 part q [] = []
 part q (p ∷ ps) = if is_in q p.1 then p.0 ∷ part q ps else part q ps
@@ -149,7 +148,7 @@ second_or_none [] = 0
 second_or_none (p ∷ []) = 0
 second_or_none (p ∷ q ∷ qs) = q
 
--- the part of the second one
+-- the part of the second instance
 abbrev pub second_begin : ℕ → List LocatedFields → ℕ
 second_begin first ps = second_or_none (begins first 0 ps)
 

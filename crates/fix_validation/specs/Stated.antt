@@ -1,4 +1,4 @@
--- What the value of a field tells.
+-- The values of fields as numbers and texts.
 use Rattle.std.specs.Prelude.{ℕ, ℤ, pos, ◌==◌, Bool, if◌then◌else◌, List, [], slice_index, Option, None, Some, Result, Ok, Err}
 use Rattle.fix_fields.specs.declared.value.ValueFault.{ValueFault}
 use Rattle.fix_fields.specs.Fields.{Entry, value_of}
@@ -22,7 +22,7 @@ stated read (Some bytes) = Some (read bytes)
 abbrev pub bytes_at : ℕ → List Entry → List ℕ
 bytes_at tag fields = some_or [] (value_of tag fields)
 
--- what a value of each form tells
+-- the number in a value of each form
 abbrev pub number_in : List ℕ → ℕ
 number_in bytes = ok_or 0 (integer_in 0 999_999_999 bytes)
 

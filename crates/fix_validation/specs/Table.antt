@@ -1,4 +1,4 @@
--- The form of each row of a table, and the fault that a value has in that form.
+-- The form of each row of a table, and the fault of a value in that form.
 use Rattle.std.specs.Prelude.{ℕ, Bool, true, false, if◌then◌else◌, List, Option, None, Some, Result, Ok, Err}
 use Rattle.fix_fields.specs.declared.value.ValueFault.{ValueFault}
 use Rattle.fix_fields.specs.declared.value.ValueFault.TheVariants.{Format, Range}
@@ -9,7 +9,7 @@ use Rattle.fix_validation.specs.declared.table.Row.{Row}
 use Rattle.fix_dictionary.specs.Values.{is_text, is_character, is_either, ends}
 use Rattle.sef_moment.specs.UtcTest.{is_utc}
 
--- a row that each message of the type has, and one that it may have
+-- a row required in each message of the type, and an optional one
 abbrev pub needs : ℕ → Form → Row
 needs tag form = record { tag = tag; required = true; form = form; group = 0 }
 
@@ -31,7 +31,7 @@ text_fault longest bytes = why (printable_of longest bytes)
 abbrev pub unless : Bool → ValueFault → Option ValueFault
 unless right fault = if right then None else Some fault
 
--- the one value that the form admits is `9`
+-- the only admitted value is `9`
 abbrev pub version_fault : List ℕ → Option ValueFault
 version_fault bytes = if is_text 64 bytes then unless (is_either 57 57 bytes) Range else text_fault 64 bytes
 
@@ -44,7 +44,7 @@ abbrev pub end_fault : ℕ → Result ℕ ValueFault → Option ValueFault
 end_fault begin (Ok end) = unless (ends begin end) Range
 end_fault begin (Err fault) = Some fault
 
--- what is wrong with a value
+-- the fault of a value
 abbrev pub value_fault : Form → List ℕ → Option ValueFault
 value_fault Kind bytes = unless (is_text 64 bytes) Format
 value_fault (Integer low high) bytes = why (integer_in low high bytes)

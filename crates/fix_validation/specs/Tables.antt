@@ -29,7 +29,7 @@ test_request_rows =
     needs 112 Identifier
     ∷ []
 
--- What 16 may be depends on 7: the number there, or 10^9 where it has none or a greater one.
+-- The form of 16 depends on 7: the number there, or 10^9 where it has none or a greater one.
 abbrev pub resend_request_rows : ℕ → List Row
 resend_request_rows begin =
     needs 7 (Integer 1 999_999_999)

@@ -1,4 +1,4 @@
-//! Whether fields are without fault, by a table whose rows find theirs by the tag.
+//! Whether fields are without fault, by a table whose rows find their fields by the tag.
 ghost use Rattle.std.specs.Prelude.{◌≡◌, ◌++◌, [], true, false, MatchOption, None, Some};
 ghost use Rattle.fix_fields.specs.Fields.{value_of};
 ghost use Rattle.fix_fields.specs.Views.{entries};
@@ -10,13 +10,13 @@ use crate::forms::value_fault;
 use crate::table::Row;
 use fix_fields::{Field, first_value};
 
-// For each remainder of a tag by 128, a place before which no field has a tag with it.
+// For each remainder of a tag by 128, a place before which no field has a tag with that remainder.
 type Noted = [u8; 128];
 
-// Of so many fields the places are noted.
+// The number of fields whose places are noted.
 const TYPICAL_FIELDS: usize = 64;
 
-// The places of the fields, where no tag stands twice and there are not more of them than usual.
+// The places of the fields, unless a tag occurs twice or there are more fields than usual.
 fn noted(fields: &[Field]) -> Option<Noted>
     ensures { MatchOption result (Unit {0}) (λ places. (any_twice [] (entries fields.now) ≡ false) × AreNoted places (entries fields.now)) }
 {
@@ -35,7 +35,6 @@ fn noted(fields: &[Field]) -> Option<Noted>
     Some(places)
 }
 
-// The value of the first field with the tag.
 fn value_at<'a>(places: &Noted, fields: &[Field<'a>], tag: u32) -> Option<&'a [u8]>
     requires { AreNoted places.now (entries fields.now) }
     ensures { MatchOption result (value_of tag (entries fields.now) ≡ None) (λ value. value_of tag (entries fields.now) ≡ Some value.now) }
@@ -69,7 +68,7 @@ fn rows_hold(rows: &[Row], places: &Noted, fields: &[Field]) -> bool
     true
 }
 
-/// Whether the fields are found to be without fault. Where a tag stands twice or there are many fields they are not.
+/// Whether the fields are found to be without fault; never where a tag occurs twice or there are many fields.
 pub(crate) fn are_faultless(header: &[Row], rows: &[Row], fields: &[Field]) -> bool
     ensures { result ≡ true → first_fault (header.now ++ rows.now) (entries fields.now) ≡ None }
 {

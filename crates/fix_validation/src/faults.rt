@@ -9,25 +9,25 @@ use crate::table::{Form, Row};
 use fix_fields::{Field, ValueFault};
 use thiserror::Error;
 
-/// Why fields are no message. Each fault names a tag.
+/// Why fields are not a message. Each fault names a tag.
 #[derive(Clone, Copy, Debug, PartialEq, Eq, Drop, Error)]
 pub enum DictFault {
-    /// 1: the tag stands twice outside of groups, or in one instance of a group.
+    /// 1: the tag occurs twice outside of groups, or in one instance of a group.
     #[error("tag {0} stands twice")]
     Twice(u32),
-    /// 2: the group of this count field has another number of instances, or a member stands outside of an instance.
+    /// 2: the group of this count field has another number of instances, or a member is outside of an instance.
     #[error("the group of tag {0} is miscounted")]
     Count(u32),
     /// 3: the required tag is absent.
     #[error("tag {0} is missing")]
     Missing(u32),
-    /// 4: the value of the tag has not its form.
+    /// 4: the value of the tag lacks its form.
     #[error("the value of tag {0} has not its form")]
     Format(u32),
-    /// 5: the value of the tag lies outside its range.
+    /// 5: the value of the tag is outside its range.
     #[error("the value of tag {0} is out of range")]
     Range(u32),
-    /// Memory ran out.
+    /// An allocation failed.
     #[error("out of memory")]
     NoMemory,
 }
@@ -44,7 +44,6 @@ fn form_of(tag: u32, rows: &[Row]) -> Option<Form>
     None
 }
 
-/// Whether a field has the tag.
 pub(crate) fn has_tag(tag: u32, fields: &[Field]) -> bool
     ensures { result ≡ has_tag tag (entries fields.now) }
 {
@@ -68,7 +67,7 @@ fn missing(rows: &[Row], fields: &[Field]) -> Option<u32>
     None
 }
 
-// What is wrong with a value, by the form that the tables give its tag.
+// The fault of a value, by the form that the tables give its tag.
 fn fault_as(form: Option<Form>, value: &[u8]) -> Option<ValueFault>
     ensures { result ≡ fault_as form value.now }
 {
@@ -89,8 +88,8 @@ fn form_in(header: &[Row], rows: &[Row], tag: u32) -> Option<Form>
     }
 }
 
-// The first field that is named and repeats the tag of an earlier one. Each named field looks at those before it, and
-// there are no more of them than rows until one repeats.
+// The first field that is named and repeats the tag of an earlier one. Each named field is compared with those before
+// it, and there are no more of them than rows until one repeats.
 fn repeated(header: &[Row], rows: &[Row], fields: &[Field]) -> Option<u32>
     ensures { result ≡ repeated (header.now ++ rows.now) [] (entries fields.now) }
 {
@@ -114,7 +113,7 @@ fn missing_in(header: &[Row], rows: &[Row], fields: &[Field]) -> Option<u32>
     }
 }
 
-/// The first field whose value has not its form, or else the first whose value lies outside its range.
+/// The first field whose value lacks its form, or else the first whose value is outside its range.
 pub(crate) fn misfit(header: &[Row], rows: &[Row], fields: &[Field]) -> Option<DictFault>
     ensures { result ≡ misfit (header.now ++ rows.now) (entries fields.now) }
 {
@@ -129,7 +128,7 @@ pub(crate) fn misfit(header: &[Row], rows: &[Row], fields: &[Field]) -> Option<D
     outside
 }
 
-// The first fault of the fields, looked for kind by kind.
+// The first fault of the fields, searched kind by kind.
 #[tactic(auto, unfolding(crate::specs::Faults::first_fault))]
 fn fault_by_kinds(header: &[Row], rows: &[Row], fields: &[Field]) -> Option<DictFault>
     ensures { result ≡ first_fault (header.now ++ rows.now) (entries fields.now) }
@@ -143,7 +142,7 @@ fn fault_by_kinds(header: &[Row], rows: &[Row], fields: &[Field]) -> Option<Dict
     misfit(header, rows, fields)
 }
 
-/// The first fault of the fields. Most have none, which is quicker to see than which is the first.
+/// The first fault of the fields. Most have none, and a quick check of that comes first.
 pub fn first_fault(header: &[Row], rows: &[Row], fields: &[Field]) -> Option<DictFault>
     ensures { result ≡ first_fault (header.now ++ rows.now) (entries fields.now) }
 {

@@ -1,4 +1,4 @@
-//! Whether a value has the form and the range that its tag asks for.
+//! Whether a value has the form and the range of its tag.
 ghost use Rattle.std.specs.Prelude.{◌≡◌, ℕ, ◌≤◌, ◌<◌};
 ghost use Rattle.fix_dictionary.specs.Values.{is_character, is_either};
 ghost use Rattle.sef_moment.specs.UtcTest.{is_utc};
@@ -11,7 +11,7 @@ use fix_fields::{
 };
 use sef_moment::read_utc;
 
-/// Whether this is one byte from 33 to 126.
+/// One byte from 33 to 126.
 pub(crate) fn is_character(bytes: &[u8]) -> bool
     ensures { result ≡ is_character bytes.now }
 {
@@ -21,7 +21,7 @@ pub(crate) fn is_character(bytes: &[u8]) -> bool
     }
 }
 
-/// Whether this is one byte, one of the two.
+/// One byte, one of the two.
 pub(crate) fn is_either(first: u8, second: u8, bytes: &[u8]) -> bool
     ensures { result ≡ is_either first second bytes.now }
 {
@@ -75,7 +75,7 @@ fn side_fault(bytes: &[u8]) -> Option<ValueFault>
     }
 }
 
-// What is wrong with the last number of a resend request.
+// The fault of the last number of a resend request.
 fn end_fault(begin: u32, end: Result<u64, ValueFault>) -> Option<ValueFault>
     ensures { result ≡ end_fault begin end }
 {
@@ -85,7 +85,6 @@ fn end_fault(begin: u32, end: Result<u64, ValueFault>) -> Option<ValueFault>
     }
 }
 
-/// What is wrong with a value.
 pub(crate) fn value_fault(form: Form, bytes: &[u8]) -> Option<ValueFault>
     ensures { result ≡ value_fault form bytes.now }
 {

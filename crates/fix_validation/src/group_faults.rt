@@ -34,7 +34,7 @@ fn repeats(tag: u32, position: FieldPosition, earlier: &[LocatedField]) -> bool
     }
 }
 
-// The first field whose tag stands before in its part.
+// The first field whose tag occurs earlier in its part.
 fn twice(located: &[LocatedField]) -> Option<u32>
     ensures { result ≡ twice [] (places located.now) }
 {
@@ -46,7 +46,7 @@ fn twice(located: &[LocatedField]) -> Option<u32>
     None
 }
 
-// How many instances of a group stand in a part, by the first tag of the group.
+// The number of instances of a group in a part, by the first tag of the group.
 fn number_of(first: u32, place: usize, located: &[LocatedField]) -> usize
     ensures { result ≡ length (begins first place (places located.now)) }
 {
@@ -61,7 +61,7 @@ fn number_of(first: u32, place: usize, located: &[LocatedField]) -> usize
     number
 }
 
-// Whether a text tells the number.
+// Whether a text spells the number.
 fn emits(text: &[u8], number: usize) -> bool
     ensures { result ≡ emits number text.now }
 {
@@ -81,7 +81,7 @@ fn is_wrong(rows: &[Row], all: &[LocatedField], place: usize, field: &Field) -> 
         )
 }
 
-// The group that a field shows to be miscounted: a stray's, or its own.
+// The group that a field shows to be miscounted: that of a stray member, or the field's own.
 fn miscounts(
     rows: &[Row],
     all: &[LocatedField],
@@ -115,7 +115,7 @@ fn miscounted(rows: &[Row], located: &[LocatedField]) -> Option<u32>
     None
 }
 
-// Whether an instance that begins with the first field has not the tag.
+// Whether an instance that begins with the first field lacks the tag.
 fn lacks(first: u32, tag: u32, begin: &LocatedField, onwards: &[LocatedField]) -> bool
     ensures { result ≡ lacks first tag begin.now.field.tag begin.now.position (places onwards.now) }
 {
@@ -126,7 +126,7 @@ fn lacks(first: u32, tag: u32, begin: &LocatedField, onwards: &[LocatedField]) -
     }
 }
 
-// Whether an instance of a group, by the group's first tag, has not the tag.
+// Whether an instance of a group, by the group's first tag, lacks the tag.
 fn lacking(first: u32, tag: u32, located: &[LocatedField]) -> bool
     ensures { result ≡ lacking first tag (places located.now) }
 {
@@ -138,7 +138,7 @@ fn lacking(first: u32, tag: u32, located: &[LocatedField]) -> bool
     false
 }
 
-// Whether a row has no field where it should have one.
+// Whether a row lacks a field.
 fn is_lacking(rows: &[Row], row: &Row, located: &[LocatedField]) -> bool
     ensures { result ≡ is_lacking rows.now row.now (places located.now) }
 {
@@ -149,7 +149,7 @@ fn is_lacking(rows: &[Row], row: &Row, located: &[LocatedField]) -> bool
     }
 }
 
-// The first of some rows that is required and has no field somewhere.
+// The first of some rows that is required and lacks a field.
 fn missing_in(rows: &[Row], some: &[Row], located: &[LocatedField]) -> Option<u32>
     ensures { result ≡ missing_in rows.now some.now (places located.now) }
 {
@@ -161,7 +161,7 @@ fn missing_in(rows: &[Row], some: &[Row], located: &[LocatedField]) -> Option<u3
     None
 }
 
-/// The first fault of the fields, which stand as placed.
+/// The first fault of the fields, by their positions.
 #[tactic(auto, unfolding(crate::specs::GroupFaults::located_fault))]
 pub fn located_fault(
     header: &[Row],

@@ -1,4 +1,4 @@
-//! The tables of the message types: where the fields of a body stand in them, and the first fault that they show.
+//! The tables of the message types: the positions of a body's fields in them, and the first fault that they show.
 #![tactic(auto)]
 
 // tables

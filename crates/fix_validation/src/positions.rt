@@ -1,4 +1,4 @@
-//! Where the fields of a message with repeating groups stand.
+//! The positions of the fields of a message with repeating groups.
 ghost use Rattle.std.specs.Prelude.{◌≡◌, ◌≤◌, ◌<◌, ◌+◌, length, IfOk};
 ghost use Rattle.fix_fields.specs.Views.{entries};
 ghost use Rattle.fix_validation.specs.Positions.{group_of, first_tag, is_count, opened, opened_in, goes_on, entered, misplaced, unopened, outer_step, inner_step, step_in, header_step, step, start, located, places, is_in, part, begins, first_begin, second_begin};
@@ -8,50 +8,50 @@ use fix_fields::Field;
 use smallvec::SmallVec;
 use std::alloc::{AllocError, Global};
 
-/// Where a field stands. Part 0 of a message is what is outside of its groups; each instance of a group is a part, numbered
-/// in the order in which they begin.
+/// The position of a field. Part 0 of a message is everything outside of its groups; each instance of a group is a
+/// part, numbered in the order in which they begin.
 #[derive(Clone, Copy, Default)]
 pub enum FieldPosition {
-    /// nowhere: its tag is not named
+    /// none: its tag is not named
     #[default]
     Unknown,
     /// in this part
     InPart(usize),
-    /// at the begin of this part, an instance of a group of another part
+    /// at the beginning of this part, an instance of a group of another part
     Begins(usize, usize),
     /// in this part, though it is a member of one of its groups
     Misplaced(usize),
 }
 
-/// A group whose count field has come.
+/// A group whose count field was read.
 #[derive(Clone, Copy)]
 pub struct OpenGroup {
     /// the tag of the count field
     pub group: u32,
-    /// the part of the count field
+    /// the part with the count field
     pub around: usize,
     /// the instance that began last
     pub instance: Option<usize>,
 }
 
-/// What the fields so far leave open.
+/// The open groups after some fields.
 #[derive(Clone, Copy)]
 pub struct State {
-    /// how many instances have begun
+    /// the number of instances that have begun
     pub begun: usize,
     pub outer: Option<OpenGroup>,
     /// a group within an instance of the outer one
     pub inner: Option<OpenGroup>,
 }
 
-/// Where one field stands, and what it leaves open.
+/// The position of one field, and the state after it.
 #[derive(Clone, Copy)]
 pub struct Stepped {
     pub position: FieldPosition,
     pub state: State,
 }
 
-/// Where a member of an open group stands, and how it leaves the group.
+/// The position of a member of an open group, and the group after it.
 #[derive(Clone, Copy)]
 pub struct Membership {
     pub position: FieldPosition,
@@ -59,20 +59,20 @@ pub struct Membership {
     pub begun: usize,
 }
 
-/// A field, and where it stands.
+/// A field and its position.
 #[derive(Clone, Copy, Default)]
 pub struct LocatedField<'a> {
     pub field: Field<'a>,
     pub position: FieldPosition,
 }
 
-/// The fields of a message, with where they stand. Up to 64 take no memory.
+/// The fields of a message with their positions. Up to 64 are kept without allocating.
 pub type LocatedFields<'a> = SmallVec<LocatedField<'a>, 64>;
 
-/// The fields of a part. Up to 24 take no memory.
+/// The fields of a part. Up to 24 are kept without allocating.
 pub type Part<'a> = SmallVec<Field<'a>, 24>;
 
-/// Parts, by their numbers. Up to 16 take no memory.
+/// Part numbers. Up to 16 are kept without allocating.
 pub type PartNumbers = SmallVec<usize, 16>;
 
 // The group that a table puts a tag in, 0 for none, if it names the tag.
@@ -281,7 +281,7 @@ fn step_in(rows: &[Row], state: State, tag: u32, group: Option<u32>) -> Stepped
     }
 }
 
-// Where the next field stands. The header's are outside of groups, and leave them open.
+// The position of the next field. The header's fields are outside of groups, and leave them open.
 fn step(header: &[Row], rows: &[Row], state: State, tag: u32) -> Stepped
     requires { state.begun < 18446744073709551615 }
     ensures value { result ≡ step header.now rows.now state tag }
@@ -296,7 +296,6 @@ fn step(header: &[Row], rows: &[Row], state: State, tag: u32) -> Stepped
     }
 }
 
-/// Each field with where it stands.
 pub fn located<'a>(
     alloc: Global,
     header: &[Row],
@@ -333,7 +332,7 @@ pub(crate) fn is_in(part: usize, position: FieldPosition) -> bool
     }
 }
 
-/// The fields that stand in a part.
+/// The fields of a part.
 pub fn part<'a>(
     alloc: Global,
     located: &[LocatedField<'a>],

@@ -5,7 +5,7 @@ ghost use Rattle.fix_dictionary.specs.Kinds.{type_of, is_session, is_grouped, is
 
 use fix_dictionary::MessageType;
 
-/// How a value is written.
+/// The form of a value.
 #[derive(Clone, Copy)]
 pub enum Form {
     /// a message type
@@ -18,7 +18,7 @@ pub enum Form {
     Quantity,
     Amount,
     Identifier,
-    /// the identifier `9`, which stands for the version of the application messages
+    /// the identifier `9`, the version of the application messages
     Version,
     Character,
     /// the character 1 or 2
@@ -37,7 +37,7 @@ pub struct Row {
     pub group: u32,
 }
 
-// A row that each message of the type has.
+// A row required in each message of the type.
 macro_rules! needs {
     ($tag:expr, $form:expr) => {
         Row {
@@ -49,7 +49,7 @@ macro_rules! needs {
     };
 }
 
-// A row that a message of the type may have.
+// A row optional in a message of the type.
 macro_rules! takes {
     ($tag:expr, $form:expr) => {
         Row {
@@ -61,7 +61,7 @@ macro_rules! takes {
     };
 }
 
-// A row that each instance of a group has.
+// A row required in each instance of a group.
 macro_rules! needs_inside {
     ($group:expr, $tag:expr, $form:expr) => {
         Row {
@@ -73,7 +73,7 @@ macro_rules! needs_inside {
     };
 }
 
-// A row that an instance of a group may have.
+// A row optional in an instance of a group.
 macro_rules! takes_inside {
     ($group:expr, $tag:expr, $form:expr) => {
         Row {
@@ -278,7 +278,7 @@ const BUSINESS_MESSAGE_REJECT: [Row; 4] = [
     takes!(58, Form::Printable),
 ];
 
-/// The rows of the header, which each message has.
+/// The rows of the header of each message.
 pub fn header() -> &'static [Row]
     ensures { result.now ≡ header_rows }
 {
@@ -295,7 +295,7 @@ pub fn resend_request_rows(begin: u32) -> [Row; 2]
     ]
 }
 
-/// The rows of a type, other than a resend request.
+/// The rows of a type other than a resend request.
 pub fn rows_of(kind: MessageType) -> &'static [Row]
     ensures flat { (begin : ℕ) → is_resend_request kind ≡ false → result.now ≡ rows_of kind begin }
     ensures grouped { is_grouped kind ≡ true → result.now ≡ rows_of kind 0 }
@@ -327,7 +327,7 @@ pub fn rows_of(kind: MessageType) -> &'static [Row]
     }
 }
 
-/// The type that the text of a type stands for.
+/// The type of the text of a type.
 pub fn type_of(kind: &[u8]) -> MessageType
     ensures { result ≡ type_of kind.now }
 {
@@ -359,7 +359,6 @@ pub fn type_of(kind: &[u8]) -> MessageType
     }
 }
 
-/// Whether this is a type of the session's own messages.
 pub fn is_session(kind: MessageType) -> bool
     ensures { result ≡ is_session kind }
 {
@@ -375,7 +374,6 @@ pub fn is_session(kind: MessageType) -> bool
     )
 }
 
-/// Whether messages of the type have repeating groups.
 pub fn is_grouped(kind: MessageType) -> bool
     ensures { result ≡ is_grouped kind }
 {

@@ -21,7 +21,7 @@ both : (a b : Bool) → a ≡ true → b ≡ true → (a && b) ≡ true
 both true b h k = k
 both false b h k = absurd (true≢false (sym h))
 
--- what is there and is no value that is no number, is a number
+-- a stated value that is not a bad number is a number
 number_there : (low high : ℕ) (o : Option Data) → is_none o ≡ false → is_no_number low high o ≡ false → (nat_le low (number_in o) && nat_le (number_in o) high) ≡ true
 number_there low high None h k = absurd (true≢false h)
 number_there low high (Some (integer z)) h k = not-false (nat_le low (nat_abs z) && nat_le (nat_abs z) high) (or_parts (int_lt z (pos 0)) (not (nat_le low (nat_abs z) && nat_le (nat_abs z) high)) k).1
@@ -32,7 +32,7 @@ number_there low high (Some (datetime d)) h k = absurd (true≢false k)
 number_there low high (Some (array ds)) h k = absurd (true≢false k)
 number_there low high (Some (table ms)) h k = absurd (true≢false k)
 
--- and so a number that may be left out
+-- likewise a number that may be absent
 number_left_out : (low high usual : ℕ) (o : Option Data) → (nat_le low usual && nat_le usual high) ≡ true → is_no_number low high o ≡ false → (nat_le low (stated_or usual o) && nat_le (stated_or usual o) high) ≡ true
 number_left_out low high usual None u k = u
 number_left_out low high usual (Some (integer z)) u k = not-false (nat_le low (nat_abs z) && nat_le (nat_abs z) high) (or_parts (int_lt z (pos 0)) (not (nat_le low (nat_abs z) && nat_le (nat_abs z) high)) k).1
@@ -79,7 +79,7 @@ symbols_of (d ∷ ds) h =
     let here = and_parts (is_instrument (row_of d)) (list_all is_instrument (map row_of ds)) h in
     both (is_symbol (text_at (codes "symbol") d)) (list_all (λ e. is_symbol (text_at (codes "symbol") e)) ds) (and_parts (is_symbol (text_at (codes "symbol") d)) _ here.0).0 (symbols_of ds here.1)
 
--- what a document without the first three faults has
+-- the facts of a document without the first three faults
 pub record Sound (file : Data) : Type 0 where
   pub some : nat_le 1 (length (rows file)) ≡ true
   pub few : nat_le (length (rows file)) most_instruments ≡ true
@@ -114,7 +114,7 @@ sound file missing bad many =
 pub rows-read : (file : Data) (xs : List Instrument) → Sound file → xs ≡ rows file → rows_of xs ≡ read_of file
 rows-read file xs s e = ap rows_of e ∙ sym s.read
 
--- what is read of a document is read of its text
+-- the reading of a document is that of its text
 
 pub Reads-ok : (text : List ℕ) (document : Members) (d : Data) (r : Result (List Instrument) FileFault) → d ≡ table document → IsUtf8 text → parse_document text ≡ Some document → IfOk r (λ rows. read_of d ≡ Ok rows) → IfOk r (λ rows. Reads text (Ok rows))
 Reads-ok text document d (Ok xs) same utf8 parsed h = (document, utf8, parsed, ap read_of (sym same) ∙ h)

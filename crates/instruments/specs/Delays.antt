@@ -20,11 +20,11 @@ with_delays (x ∷ xs) (d ∷ ds) = with_delay x d ∷ with_delays xs ds
 abbrev pub are_delays : List ℕ → Bool
 are_delays ds = list_all is_delay ds
 
--- what becomes of a file with these delays: the first fault, else its rows with them
+-- the file with these delays: the first fault, else its rows with them
 abbrev pub delayed : List Instrument → List ℕ → Result (List Instrument) DelayFault
 delayed xs ds = elim (length ds == length xs) [ false ↦ Err Count | true ↦ elim (are_delays ds) [ false ↦ Err Range | true ↦ Ok (with_delays xs ds) ] ]
 
--- what became of the delays is this fault; `NoMemory` says nothing of them
+-- the result is this fault; `NoMemory` says nothing of the delays
 abbrev pub RefusesDelays : Result (List Instrument) DelayFault → DelayFault → Type 0
 RefusesDelays read Count = read ≡ Err Count
 RefusesDelays read Range = read ≡ Err Range

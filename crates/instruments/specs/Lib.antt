@@ -1,12 +1,12 @@
--- what a symbol may be
+-- the form of symbols
 pub mod Symbols
--- what rows a file may have
+-- the rules of the rows of a file
 pub mod Rows
--- what the instrument file says of an instrument
+-- the values of an instrument in the file
 pub mod Listing
 -- other delays for the instruments of a file
 pub mod Delays
--- what numbers a TOML document has at its keys
+-- the numbers of a TOML document at its keys
 pub mod Numbers
--- what a file says, and its faults
+-- the reading of a file, and its faults
 pub mod Reading

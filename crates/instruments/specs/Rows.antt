@@ -4,7 +4,7 @@ use Rattle.config_format.specs.Rows.{are_distinct_by}
 use Rattle.instruments.specs.declared.instruments.Instrument.{Instrument}
 use Rattle.instruments.specs.Symbols.{is_symbol}
 
--- how many instruments a file may list
+-- the most instruments of a file
 abbrev pub most_instruments : ℕ
 most_instruments = 256
 
@@ -30,10 +30,10 @@ is_instrument x = is_symbol x.symbol && (is_tick x.tick && (is_least x.least && 
 abbrev pub is_same_symbol : Instrument → Instrument → Bool
 is_same_symbol x y = bytes_eq x.symbol y.symbol
 
--- no symbol stands twice
+-- no symbol occurs twice
 abbrev pub are_distinct : List Instrument → Bool
 are_distinct xs = are_distinct_by is_same_symbol xs
 
--- the rules of an instrument file: 1 to 256 instruments, of which no two have one symbol
+-- the rules of an instrument file: 1 to 256 instruments with distinct symbols
 abbrev pub is_instrument_file : List Instrument → Bool
 is_instrument_file xs = nat_le 1 (length xs) && (nat_le (length xs) most_instruments && (list_all is_instrument xs && are_distinct xs))

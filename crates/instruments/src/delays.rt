@@ -22,7 +22,6 @@ fn are_delays(delays: &[u64]) -> bool
     delays.iter().all(|ms| is_delay(*ms))
 }
 
-/// The same instrument with this delay.
 fn with_delay(alloc: Global, row: &Instrument, ms: u64) -> Result<Instrument, AllocError>
     ensures { IfOk result (λ made. made ≡ with_delay row.now ms) }
 {

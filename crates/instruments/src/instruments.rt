@@ -21,7 +21,7 @@ pub struct Instrument {
     pub tick: u64,
     /// the least quantity of an order or a request: 1 to 10^15
     pub least: u64,
-    /// how long a request for quotes stays open, in seconds: 1 to 86,400
+    /// the time for which a request for quotes stays open, in seconds: 1 to 86,400
     pub request_life: u64,
     /// the delay between the entries of linked orders, in milliseconds: 1,000 to 3,600,000
     pub delay: u64,
@@ -32,7 +32,7 @@ pub struct Instruments {
     rows: Vec<Instrument>,
 }
 
-// Written out, so that a proof sees one call where it is dropped, and not the drop of each part.
+// Written-out drop (docs/ARCHITECTURE.md).
 impl Drop for Instruments {
     fn drop(self) {
         let Instruments { rows: _rows } = self;
@@ -51,7 +51,7 @@ impl Model for Instruments {
     ghost invariant = { λ a. is_instrument_file a.rows.items ≡ true };
 }
 
-/// The first place of a symbol, or their count where it is not there.
+/// The first place of a symbol, or the number of rows where it is absent.
 fn place_of(rows: &[Instrument], symbol: &[u8]) -> usize
     ensures { result ≡ position_or_len (λ row. bytes_eq symbol.now row.symbol) rows.now }
 {
@@ -64,7 +64,7 @@ fn place_of(rows: &[Instrument], symbol: &[u8]) -> usize
 }
 
 impl Instruments {
-    /// The file of these rows, which keep its rules. It takes no memory, and so is never refused.
+    /// The file of these rows, which must keep its rules. It does not allocate, so it never fails.
     pub fn from_rows(_alloc: Global, rows: Vec<Instrument>) -> Result<Instruments, AllocError>
         requires { is_instrument_file rows.items ≡ true }
         ensures { result ≡ Ok rows.items }
@@ -72,7 +72,7 @@ impl Instruments {
         Ok(Instruments { rows })
     }
 
-    /// Reads an instrument file, or tells its first fault.
+    /// Reads an instrument file, or returns its first fault.
     pub fn read(alloc: Global, text: &[u8]) -> Result<Instruments, FileFault>
         ensures rows { IfOk result (λ file. Reads text.now (Ok file)) }
         ensures fault { IfErr result (IsFaultOf text.now) }
@@ -89,7 +89,6 @@ impl Instruments {
         }
     }
 
-    /// The rows, in the file's order.
     pub(crate) fn as_slice(&self) -> &[Instrument]
         ensures rows { result.now ≡ self.now }
         ensures rule { is_instrument_file result.now ≡ true }
@@ -97,7 +96,7 @@ impl Instruments {
         &self.rows
     }
 
-    /// How many instruments there are: 1 to 256.
+    /// The number of instruments: 1 to 256.
     pub fn len(&self) -> usize
         ensures count { result ≡ length self.now }
         ensures rule { is_instrument_file self.now ≡ true }
@@ -105,7 +104,7 @@ impl Instruments {
         self.rows.len()
     }
 
-    /// The instrument of this symbol, by its place in the file, from 0.
+    /// The place of the instrument with this symbol in the file, from 0.
     pub fn find(&self, symbol: &[u8]) -> Option<u32>
         ensures { result ≡ position (λ row. bytes_eq symbol.now row.symbol) self.now }
     {
@@ -117,7 +116,6 @@ impl Instruments {
         }
     }
 
-    /// The row at a place.
     pub fn get(&self, instrument: u32) -> &Instrument
         requires { instrument < length self.now }
         ensures row { slice_get self.now instrument ≡ Some result.now }

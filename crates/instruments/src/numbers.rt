@@ -1,4 +1,4 @@
-//! The numbers that a TOML document has at its keys.
+//! The numbers of a TOML document at its keys.
 
 ghost use Rattle.std.specs.Prelude.{◌≡◌, ◌||◌, ◌&&◌, not, pos, nat_abs, nat_le, int_lt};
 ghost use Rattle.toml.specs.Data.{get};
@@ -13,7 +13,7 @@ fn is_out_of(number: i64, low: u64, high: u64) -> bool
     number < 0 || !(low <= number.unsigned_abs() && number.unsigned_abs() <= high)
 }
 
-/// Whether a value is stated that is no whole number from low to high.
+/// Whether a value is stated that is not a whole number from low to high.
 pub(crate) fn is_no_number(entry: &Value, key: &str, low: u64, high: u64) -> bool
     ensures { result ≡ is_no_number low high (get key.now (view entry.now)) }
 {
@@ -24,7 +24,7 @@ pub(crate) fn is_no_number(entry: &Value, key: &str, low: u64, high: u64) -> boo
     }
 }
 
-/// The number at a key; 0 where there is none.
+/// The number at a key, or 0 where there is none.
 pub(crate) fn number_at(entry: &Value, key: &str) -> u64
     ensures { result ≡ number_at key.now (view entry.now) }
 {
@@ -34,7 +34,7 @@ pub(crate) fn number_at(entry: &Value, key: &str) -> u64
     }
 }
 
-/// The number at a key; the usual one where none is stated.
+/// The number at a key, or the usual one where none is stated.
 pub(crate) fn number_or(entry: &Value, usual: u64, key: &str) -> u64
     ensures { result ≡ number_or usual key.now (view entry.now) }
 {

@@ -18,13 +18,13 @@ use config_format::{
 use std::alloc::{AllocError, Global};
 use toml::Value;
 
-/// How many instruments a file may list.
+/// The most instruments of a file.
 const MAX_INSTRUMENTS: usize = 256;
 
 /// The delay between linked orders where the file states none, in milliseconds (17 CFR 37.9(b)(1)).
 const DEFAULT_DELAY: u64 = 15_000;
 
-/// Whether a key is absent that has to be there, or the list has no entry.
+/// Whether a required key is absent, or the list has no entry.
 pub(crate) fn is_missing(file: &Value) -> bool
     ensures { result ≡ is_missing (view file.now) }
 {
@@ -59,21 +59,19 @@ fn has_bad_instrument(file: &Value) -> bool
     any_bad_instrument(entries(file, "instrument"))
 }
 
-/// Whether a value is stated that may not stand there.
+/// Whether a stated value is invalid.
 pub(crate) fn has_bad_value(file: &Value) -> bool
     ensures { result ≡ has_bad_value (view file.now) }
 {
     is_no_list(file, "instrument") || has_bad_instrument(file)
 }
 
-/// Whether there are too many instruments.
 pub(crate) fn has_too_many(file: &Value) -> bool
     ensures { result ≡ has_too_many (view file.now) }
 {
     entries(file, "instrument").len() > MAX_INSTRUMENTS
 }
 
-/// The row of an entry.
 fn row_of(alloc: Global, entry: &Value) -> Result<Instrument, AllocError>
     requires { is_symbol (text_at (codes "symbol") (view entry.now)) ≡ true }
     ensures { IfOk result (λ row. row ≡ row_of (view entry.now)) }
@@ -88,7 +86,6 @@ fn row_of(alloc: Global, entry: &Value) -> Result<Instrument, AllocError>
     })
 }
 
-/// The rows of the entries.
 fn rows_in(alloc: Global, list: &[Value]) -> Result<Vec<Instrument>, AllocError>
     requires { list_all (λ entry. is_symbol (text_at (codes "symbol") (view entry))) list.now ≡ true }
     ensures { IfOk result (λ rows. rows.items ≡ map (λ entry. row_of (view entry)) list.now) }
@@ -108,7 +105,6 @@ fn is_listed(rows: &[Instrument], row: &Instrument) -> bool
         .any(|other| other.symbol.is(row.symbol.as_slice()))
 }
 
-/// Whether no symbol stands twice.
 fn are_distinct(rows: &[Instrument]) -> bool
     ensures { result ≡ are_distinct rows.now }
 {
@@ -120,7 +116,7 @@ fn are_distinct(rows: &[Instrument]) -> bool
     true
 }
 
-/// A file of these rows, if no symbol stands twice.
+/// A file of these rows, if no symbol occurs twice.
 fn rows_of(alloc: Global, rows: Vec<Instrument>) -> Result<Instruments, FileFault>
     requires some { nat_le 1 (length rows.items) ≡ true }
     requires few { nat_le (length rows.items) most_instruments ≡ true }
@@ -137,7 +133,7 @@ fn rows_of(alloc: Global, rows: Vec<Instrument>) -> Result<Instruments, FileFaul
     Ok(file)
 }
 
-/// What is read of a document, or its first fault.
+/// Reads a document, or returns its first fault.
 pub(crate) fn read_document(alloc: Global, file: &Value) -> Result<Instruments, FileFault>
     ensures rows { IfOk result (λ rows. read_of (view file.now) ≡ Ok rows) }
     ensures fault { IfErr result (Refuses (read_of (view file.now))) }

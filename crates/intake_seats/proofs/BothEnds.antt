@@ -1,4 +1,4 @@
--- What the two ends of a seat know, side by side.
+-- The knowledge of a seat's two ends, compared.
 use Rattle.std.proofs.Common.{ℕ, List, refl, sym, ◌∙◌, subst, append-nil}
 use mathlib.Core.Option as maybe
 use lib.ListN.{get_elem?}

@@ -52,7 +52,7 @@ none_here [] i = refl
 none_here (f ∷ fs) zero = refl
 none_here (f ∷ fs) (suc i) = none_here fs i
 
--- the places from i + 1 on stay full, and those before are empty, once the place i was emptied
+-- the places from i + 1 on stay full, and those before are empty, once place i was emptied
 pub still_filled : (fs : List Bool) (i n : ℕ) → Filled fs i n → Filled (set fs i false) (i + 1) n
 still_filled fs i n whole k low high = get_or-set_other fs i k false false (λ e. omega arith) ∙ whole k (omega arith) high
 
@@ -60,7 +60,7 @@ pub now_empty : (fs : List Bool) (i : ℕ) → ((k : ℕ) → k < i → get_or f
 now_empty fs i before k low = dite (ℕ_discrete k i) (λ e. subst (λ (j : ℕ). get_or (set fs i false) j false ≡ false) (sym e) (none_here fs i)) (λ ne. get_or-set_other fs i k false false ne ∙ before k (omega arith))
 
 module _ {M : Type 0} where
-  -- one more hander's end, from the back of the list
+  -- one further hander's end, from the back of the list
   pub hands_more : (hands : List (HandEnd M)) (h : HandEnd M) (v : View M) → with_handers hands (united v (handing h)) ≡ with_handers (hands ++ h ∷ []) v
   hands_more hands h v = ap (λ (l : List (Hander M)). record { handers = l; takers = v.takers }) (go hands)
     where

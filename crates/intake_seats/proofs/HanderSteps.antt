@@ -16,7 +16,7 @@ use Rattle.intake_seats.specs.Rule.{Stage, empty, filling, full, taking, Account
 use Rattle.intake_seats.specs.Steps.{looked, hander_looked, claimed, handed}
 use Rattle.intake_seats.proofs.Moves.{Home, Board, hander_alone, hander_moves}
 
--- what the word says of the number of messages that were given, where nothing is claimed
+-- what the word says of the count of messages given, where nothing is claimed
 abbrev CountsGiven : ℕ → ℕ → Type 0
 CountsGiven word given = (word % 4 ≡ 0 → word ≡ 4 * given) × (word % 4 ≢ 0 → given ≡ word / 4 + 1) × (given ≤ 2 ^ 60)
 

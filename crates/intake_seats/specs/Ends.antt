@@ -7,11 +7,12 @@ use Rattle.intake_seats.specs.declared.views.Taker.{Taker}
 use Rattle.intake_seats.specs.declared.views.View.{View}
 use Rattle.intake_seats.specs.Given.{HandEnd, TakeEnd}
 
--- a word that lets no message in: the seat is not empty, and one message more was given than the word counts; or it is empty, and 2^60 were given
+-- a word that lets no message in: the seat is not empty, and one message more was given than the word counts; or it is
+-- empty, and 2^60 were given
 abbrev pub IsShut : {M : Type 0} → List M → ℕ → Type 0
 IsShut given word = ((word % 4 ≢ 0) × (length given ≡ word / 4 + 1)) ⊎ ((word ≡ 4 * length given) × (length given ≡ 2 ^ 60))
 
--- what is out with a taker: the slot of its seat, emptied, while a message is in hand
+-- what a taker has: the slot of its seat, emptied, while a message is in hand
 abbrev pub carried : {M : Type 0} → ℕ → Bool → List (ℕ × Option M)
 carried number false = []
 carried number true = (number, None) ∷ []
@@ -64,7 +65,7 @@ module _ {M : Type 0} where
   abbrev pub IsSameTaker : TakeEnd M → TakeEnd M → Type 0
   IsSameTaker old new = (new.board ≡ old.board) × (new.number ≡ old.number)
 
-  -- the ends of so many seats, from this number on
+  -- the ends of this count of seats, from this number on
   abbrev pub new_handers : ℕ → ℕ → List (Hander M)
   new_handers from zero = []
   new_handers from (suc n) = new_hander from ∷ new_handers (suc from) n
@@ -111,7 +112,7 @@ module _ {M : Type 0} where
   abbrev pub AreUnusedTakes : List (TakeEnd M) → Type 0
   AreUnusedTakes takes = (k : ℕ) (t : TakeEnd M) → slice_get takes k ≡ Some t → (t.taken ≡ []) × (t.last ≡ 0) × (t.looks ≡ 0)
 
-  -- seat by seat, what was given is what was taken, and then what is left
+  -- seat by seat, the messages given are those taken, then the one left
   abbrev pub IsLeft : List (HandEnd M) → List (TakeEnd M) → List (Option M) → Type 0
   IsLeft hands takes left = (k : ℕ) (h : HandEnd M) (t : TakeEnd M) (x : Option M) → slice_get hands k ≡ Some h → slice_get takes k ≡ Some t → slice_get left k ≡ Some x → h.given ≡ t.taken ++ option_to_list x
 

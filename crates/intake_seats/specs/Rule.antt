@@ -1,5 +1,5 @@
--- The rule of a board: what its words, its slots and the views of its threads have to do with each other, between any two steps.
--- The word of a seat is 4 k + s: k messages were taken, and s is the state, from empty by filling and full to taking.
+-- The rule of a board, which relates its words, its slots and the views of its threads between any two steps. The word
+-- of a seat is 4 k + s: k messages were taken, and s is the state, from empty by filling and full to taking.
 use Rattle.std.specs.Prelude.{◌≡◌, ℕ, ◌+◌, ◌*◌, ◌^◌, ◌<◌, ◌≤◌, Bool, true, false, List, [], ◌∷◌, ◌++◌, length, slice_index, Option, None, Some}
 use mathlib.Core.Option.{none, some}
 use mathlib.Core.Option as maybe
@@ -43,7 +43,8 @@ module _ {M : Type 0} where
   in_hand_at (full x) = None
   in_hand_at (taking x) = Some x
 
-  -- what was given is what was taken, and then what is in the seat or in hand; home is the value of the slot, or none while it is out with an end
+  -- the messages given are those taken, then the one in the seat or in hand; home is the value of the slot, or none
+  -- while an end has it
   abbrev pub FitsStage : maybe.Option (maybe.Option (Option M)) → List M → List M → Stage M → Type 0
   FitsStage home given taken empty = (given ≡ taken) × (home ≡ some (some None))
   FitsStage home given taken filling = (given ≡ taken) × (home ≡ some none)
@@ -69,7 +70,8 @@ pub record IsBoard {M : Type 0} (n : ℕ) (s : State (Option M) (View M)) : Type
   pub each_hander : (id : ℕ) (v : View M) (p : ℕ) (h : Hander M) → get_elem? s.views id ≡ some v → get_elem? v.handers p ≡ some h → KnowsGiven n id h (account h.number)
   pub each_taker : (id : ℕ) (v : View M) (p : ℕ) (t : Taker M) → get_elem? s.views id ≡ some v → get_elem? v.takers p ≡ some t → KnowsTaken n id t (account t.number)
 
--- whatever views have the two ends of a seat, what was given is what was taken, and then one message at most: the one in hand, if there is one
+-- whatever views have the two ends of a seat, the messages given are those taken, then one at most: the one in hand, if
+-- any
 abbrev pub AreAhead : {M : Type 0} → State (Option M) (View M) → Type 0
 AreAhead {M} s = (i j p q : ℕ) (v w : View M) (h : Hander M) (t : Taker M)
     → get_elem? s.views i ≡ some v → get_elem? v.handers p ≡ some h → get_elem? s.views j ≡ some w → get_elem? w.takers q ≡ some t → h.number ≡ t.number → IsAhead h.given t.taken t.in_hand

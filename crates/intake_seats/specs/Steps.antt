@@ -1,4 +1,5 @@
--- What each step on the board tells its thread: of the view and the slots before, the word found, and the view and the slots after.
+-- What each step on the board says to its thread: the view and the slots before, the word found, and the view and the
+-- slots after.
 use Rattle.std.specs.Prelude.{◌≡◌, ◌≢◌, ℕ, ◌+◌, ◌*◌, ◌/◌, ◌%◌, ◌^◌, ◌≤◌, true, false, List, [], ◌∷◌, ◌++◌, map, length, Option, None, Some}
 use Rattle.atomic_table.specs.Table.{Me, Step, rest}
 use Rattle.intake_seats.specs.declared.views.Hander.{Hander}
@@ -62,7 +63,8 @@ module _ {M : Type 0} where
   abbrev pub with_taken : View M → View M
   with_taken v = record v { takers = map (λ (t : Taker M). record t { taken = t.taken ++ option_to_list t.in_hand; in_hand = None }) v.takers }
 
-  -- a hander that doesn't claim finds what counts all that it gave in an empty seat, and all but the last in any other
+  -- a hander that does not claim finds a word that counts all that it gave in an empty seat, and all but the last in
+  -- any other
   abbrev pub hander_looked : Step (Option M) → Own M → ℕ → Own M → Type 0
   hander_looked st m found m' =
       (m' ≡ (looked found m.0, m.1))
@@ -70,7 +72,7 @@ module _ {M : Type 0} where
       × (found % 4 ≢ 0 → length (given_of m.0) ≡ found / 4 + 1)
       × (length (given_of m.0) ≤ 2 ^ 60)
 
-  -- a taker finds what counts all that it took, whatever the state
+  -- a taker finds a word that counts all that it took, whatever the state
   abbrev pub taker_looked : Step (Option M) → Own M → ℕ → Own M → Type 0
   taker_looked st m found m' = (m' ≡ (looked found m.0, m.1)) × (found / 4 ≡ length (taken_of m.0))
 

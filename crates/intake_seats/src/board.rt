@@ -1,4 +1,4 @@
-//! The board's rule, and the board.
+//! The board and its rule.
 ghost use Rattle.std.specs.Prelude.{◌≡◌, ◌≤◌, [], IfOk, vec_capacity};
 ghost use Rattle.intake_seats.specs.Ends.{opening_view, takers_alone, new_hands, new_takes, AreHands, AreTakes, AreUnusedHands, AreUnusedTakes};
 
@@ -10,18 +10,18 @@ use atomic_table::{Seat, Table, TableRule};
 use std::alloc::{AllocError, Global};
 use std::marker::Model;
 
-/// A board has at most so many seats.
+/// The greatest count of seats of a board.
 pub const MAX_SEATS: usize = 32;
 
-/// The word of a seat is 4 times the number of messages that were taken, plus its state: empty 0, filling 1, full 2 or taking 3.
+/// The word of a seat is 4 times the count of messages taken, plus its state: empty 0, filling 1, full 2 or taking 3.
 pub(crate) const EMPTY: u64 = 0;
 
 pub(crate) const FULL: u64 = 2;
 
-/// A hander gives no more messages than these.
+/// The greatest count of messages that one hander gives.
 pub(crate) const MAX_GIVEN: u64 = 1 << 60;
 
-/// What holds of the words, the slots and the views between any two steps.
+/// The invariant of the words, the slots and the views between any two steps.
 pub struct BoardRule;
 
 impl<M> TableRule<Option<M>, View<M>, usize> for BoardRule {
@@ -33,7 +33,7 @@ impl<M> TableRule<Option<M>, View<M>, usize> for BoardRule {
     ghost first = { opening_view };
 }
 
-/// Seats between handers and takers. A contract sees which board it is.
+/// Seats (single-slot mailboxes) between handers and takers. A contract sees which board it is.
 #[derive(Drop)]
 pub struct Board<M> {
     pub(crate) table: Table<Option<M>, View<M>, usize, BoardRule, Global>,
@@ -53,7 +53,8 @@ impl<M> Model for Board<M> {
 }
 
 impl<M> Board<M> {
-    /// A board of so many seats, with the two ends of each, in their order. All are empty, and nothing was given or taken. `AllocError`: there was no memory.
+    /// A board of `seats` seats, with the two ends of each, in order. All are empty, and nothing was given or taken.
+    /// `AllocError`: an allocation failed.
     pub fn new(
         alloc: Global,
         seats: usize,
@@ -75,7 +76,7 @@ impl<M> Board<M> {
         Ok((board, hands, takes))
     }
 
-    /// How many seats the board has.
+    /// The count of seats, 1 to 32.
     pub fn seats(&self) -> usize
         ensures count { result ≡ self.now.words }
         ensures range { (1 ≤ result) × (result ≤ 32) }

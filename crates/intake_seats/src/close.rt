@@ -1,4 +1,4 @@
-//! The end of a board.
+//! The end of a board: its ends united, and what is left in the seats.
 ghost use Rattle.std.specs.Prelude.{◌≡◌, ◌≤◌, [], All, None, IfOk, IfErr, vec_len, vec_capacity};
 ghost use Rattle.std.specs.Slots.{slots_items, slots_len, IsFull};
 ghost use Rattle.intake_seats.specs.Ends.{AreHands, AreTakes, IsLeft, with_handers, with_takers};
@@ -11,7 +11,7 @@ use crate::views::View;
 use atomic_table::{Closed, Seat};
 use std::alloc::Global;
 
-/// There was no memory for the list of what is left, and all come back as they were.
+/// The error of a close without memory for the list of what is left. All come back as they were.
 #[derive(Drop)]
 pub struct Unclosed<M> {
     /// The board, still open.
@@ -23,7 +23,8 @@ pub struct Unclosed<M> {
 }
 
 impl<M> Board<M> {
-    /// What is left in each seat, in their order. The two lists are all ends of the board in the order in which `new` gave them, and no taker has a message in hand. The list is reserved before any two ends are united.
+    /// The message left in each seat, in order. The two lists have to be all ends of the board in the order in which
+    /// `new` gave them, and no taker may have a message in hand. The list is reserved before any two ends are united.
     pub fn close(
         self,
         alloc: Global,
@@ -86,7 +87,7 @@ fn join_takes<M>(
     }
 }
 
-// Moves what the slots have to the list, which has room.
+// Moves the messages in the slots to the list, whose capacity is enough.
 fn empty_slots<M>(mut closed: Closed<Option<M>, Global>, left: &mut Vec<Option<M>>)
     requires full { IsFull closed.slots }
     requires headroom { (left.old.items ≡ []) × (slots_len closed.slots ≤ vec_capacity left.old) }

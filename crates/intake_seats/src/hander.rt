@@ -1,4 +1,4 @@
-//! The end of a seat that hands messages.
+//! The hander's end of a seat.
 ghost use Rattle.std.specs.Prelude.{◌≡◌, ◌+◌, ◌*◌, ◌<◌, [], ◌∷◌, ◌++◌, length, MatchResult};
 ghost use Rattle.intake_seats.specs.Ends.{handing, IsSameHander, IsShut};
 
@@ -8,7 +8,7 @@ use crate::views::View;
 use atomic_table::Seat;
 use std::marker::Model;
 
-/// The hander's end of one seat of a board. It has what was given.
+/// The hander's end of one seat of a board. Its model has the messages given.
 pub struct HandSeat<M> {
     pub(crate) seat: Seat<Option<M>, View<M>>,
     pub(crate) number: usize,
@@ -28,7 +28,7 @@ impl<M> Model for HandSeat<M> {
 }
 
 impl<M> HandSeat<M> {
-    /// Hands a message over. It comes back only where a look in this call found that the seat is not empty, or that 2^60 messages were given.
+    /// Hands a message over. It comes back only where this call found the seat not empty, or 2^60 messages given.
     pub fn hand(&mut self, board: &Board<M>, message: M) -> Result<(), M>
         requires own { self.old.board ≡ board.now }
         ensures same { IsSameHander self.old self.new }
@@ -47,7 +47,7 @@ impl<M> HandSeat<M> {
         {
             return Err(message);
         }
-        // The slot had nothing in it, so no message is lost.
+        // The slot was empty, so no message is lost.
         match steps.exchange(&mut self.seat, self.number, Some(message)) {
             None => {}
             Some(_) => unreachable!(),

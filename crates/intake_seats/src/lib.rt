@@ -1,5 +1,5 @@
-//! A board of seats between session threads and one worker. A seat holds one message or none: the hander puts a message there, and the taker takes it.
-//! No call waits.
+//! A board of seats between session threads and one worker. A seat is a single-slot mailbox: the hander puts a message
+//! there, and the taker takes it. No call waits.
 #![tactic(auto)]
 
 mod atomic_steps;

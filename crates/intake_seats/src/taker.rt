@@ -1,4 +1,4 @@
-//! The end of a seat that takes messages.
+//! The taker's end of a seat.
 ghost use Rattle.std.specs.Prelude.{◌≡◌, ◌+◌, ◌*◌, ◌/◌, ◌%◌, ◌<◌, true, false, [], ◌++◌, length, Option, None, Some, IsSome, IfSome, MatchOption, MatchResult};
 ghost use mathlib.Core.Logic.{◌↔◌};
 ghost use Rattle.std.specs.Option.{is_some, option_to_list};
@@ -10,7 +10,7 @@ use crate::views::View;
 use atomic_table::Seat;
 use std::marker::Model;
 
-/// The taker's end of one seat of a board. It has what was taken, and what is in hand.
+/// The taker's end of one seat of a board. Its model has the messages taken, and the one in hand.
 pub struct TakeSeat<M> {
     pub(crate) seat: Seat<Option<M>, View<M>>,
     pub(crate) number: usize,
@@ -33,7 +33,7 @@ impl<M> Model for TakeSeat<M> {
 }
 
 impl<M> TakeSeat<M> {
-    /// Takes the message that is in the seat. There is none only where a look in this call found that the seat is not full.
+    /// Takes the message in the seat. None only where this call found the seat not full.
     pub fn take(&mut self, board: &Board<M>) -> Option<M>
         requires own { self.old.board ≡ board.now }
         ensures same { IsSameTaker self.old self.new × (self.new.taken ≡ self.old.taken) }
@@ -64,7 +64,7 @@ impl<M> TakeSeat<M> {
         self.holds
     }
 
-    /// The message in hand counts as taken, and the seat is empty. It is false where nothing was in hand.
+    /// Counts the message in hand as taken, and leaves the seat empty. False where nothing was in hand.
     pub fn clear(&mut self, board: &Board<M>) -> bool
         requires own { self.old.board ≡ board.now }
         ensures same { IsSameTaker self.old self.new × (self.new.in_hand ≡ None) }
@@ -83,7 +83,7 @@ impl<M> TakeSeat<M> {
         true
     }
 
-    /// Puts the message in hand back into the seat, which is full again. The message comes back only where nothing was in hand.
+    /// Puts the message in hand back into the seat, which is full again. It comes back only where nothing was in hand.
     pub fn put_back(&mut self, board: &Board<M>, message: M) -> Result<(), M>
         requires own { self.old.board ≡ board.now }
         requires taken { IfSome self.old.in_hand (λ held. held ≡ message) }

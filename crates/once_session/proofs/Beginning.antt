@@ -1,4 +1,4 @@
--- A line that comes up, where all other participants are cut.
+-- Opening a line, with all other participants cut.
 use Rattle.std.proofs.Common.{◌≡◌, ◌≤◌, ◌<◌, ◌+◌, ◌-◌, ℕ, suc, zero, List, [], ◌∷◌, ◌++◌, length, map, refl, sym, subst, arith}
 use Rattle.fix_session.specs.declared.comp_ids.CompIds.{CompIds}
 use Rattle.fix_session.specs.Reader.{Reader}
@@ -14,7 +14,7 @@ use Rattle.once_session.specs.Stream.{cuts_behind, opened}
 use Rattle.once_session.proofs.First.{of-at}
 use Rattle.once_session.proofs.Going.{after-append}
 
--- one more is cut
+-- a further participant is cut
 pub cut-more : (r : Reader) (a b : Seen) (w0 : WorldState) (k : ℕ) → Shows a (after_all r w0 (cuts_behind k)) → Done r (Alone (suc k) Cuts) a b → Shows b (after_all r w0 (cuts_behind (suc k)))
 cut-more r a b w0 k shows done =
     subst (Shows b) (sym (after-append r w0 (cuts_behind k) (Alone (suc k) Cuts ∷ []))) (done (after_all r w0 (cuts_behind k)) shows).shows
@@ -34,7 +34,7 @@ pub comes-up : (r : Reader) (t : ℕ) (a b : Seen) (w0 : WorldState) (k : ℕ) �
 comes-up r t a b w0 k shows done =
     subst (Shows b) (sym (after-append r w0 (cuts_behind k) (Alone 0 (Resumes t) ∷ []))) (done (after_all r w0 (cuts_behind k)) shows).shows
 
--- The first side is as it was, until its line comes up.
+-- The first side is unchanged until its line comes up.
 
 abbrev IsFresh : Side → Type 0
 IsFresh s = (ids : CompIds) × (s ≡ fresh_side ids)

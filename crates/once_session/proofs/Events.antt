@@ -1,4 +1,4 @@
--- What each event makes of the first participant's side.
+-- The effect of each event on the first participant's side.
 use Rattle.std.proofs.Common.{◌≡◌, ◌≤◌, ◌<◌, ◌-◌, ◌⊎◌, ℕ, suc, zero, List, [], ◌∷◌, ◌++◌, length, max, Bool, true, false, if◌then◌else◌, Option, Some, None, refl, sym, ap, ◌∙◌, subst, inl, slice_get, arith}
 use Rattle.fix_dictionary.specs.declared.messages.App.{App}
 use Rattle.fix_dictionary.specs.declared.messages.Item.{Item}
@@ -118,7 +118,7 @@ take-first P r t old new place done p =
     (subst (OfBoth Took w.sides) (sym d.shows.sides)
     (takes_first P w at_t (is_due w.market w.items at_t) (seat_at 0 w.sides) (subst (OfFirst P) place.1.sides p) refl d.allowed))
 
--- both: what was ready is taken
+-- both: the ready message is taken
 pub taken-first : (old mid new : List Side) → OfBoth (λ s s'. IsHeard s × Handed s s') old mid → OfBoth Took mid new → OfBoth TakesReady old new
 taken-first old mid new hands took =
     both-then (λ s s'. IsHeard s × Handed s s') Took TakesReady old mid new hands took
@@ -204,7 +204,7 @@ answered_is s sent = record {
 pub written_kept : (s : Side) → IsKept s (wire_taken s)
 written_kept s = kept-same s (wire_taken s) refl refl
 
--- Bytes come.
+-- Bytes arrive.
 
 record Unpushed (s s' : State) : Type 0 where
   pub ready : s'.ready ≡ s.ready
@@ -220,7 +220,7 @@ piece-first r bytes old new is answered =
     (λ s a. let kept = pushed_if s.session.line.up s.session (settled r (s.session.unread ++ bytes)) in
     record { none_ready = kept.ready ∙ a.none_ready; none_in_seat = a.none_in_seat; none_queued = a.none_queued; no_reply = a.no_reply; all_written = kept.wire ∙ a.all_written })
 
--- A frame is heard.
+-- A frame is processed.
 
 pub record Stepped (answer : Step) (s s' : Side) : Type 0 where
   pub heard : IsHeard s'
@@ -280,7 +280,7 @@ ends_kept Did s s' kept e = λ r. tt
 ends_kept (Ready n) s s' kept e = λ r. tt
 ends_kept (Dropped why) s s' kept e = λ r. tt
 
--- one frame, from its step to what is written
+-- one frame, from its step to the write
 pub frame-first : (answer : Step) (old heard taken sent new : List Side) → OfBoth (Stepped answer) old heard
     → OfBoth TakesReady heard taken → OfBoth Replies taken sent → OfFirst IsEmptied sent → new ≡ at 0 wire_taken sent
     → OfBoth (Answers answer) old new
@@ -312,7 +312,7 @@ alone-first who x old new is done r = subst (λ (n : ℕ). Done r (Alone n x) ol
 pub takes-of-first : (who t : ℕ) (old new : Seen) → who ≡ 0 → ((r : Reader) → Done r (Takes who t) old new) → (r : Reader) → Done r (Takes 0 t) old new
 takes-of-first who t old new is done r = subst (λ (n : ℕ). Done r (Takes n t) old new) is (done r)
 
--- What is given is what was on the wire.
+-- The bytes given are those that were on the wire.
 
 pub wire-first : (bytes : List ℕ) (sides : List Side) → 0 < length sides → ((s : Side) → slice_get sides 0 ≡ Some s → bytes ≡ s.session.wire) → wire_of (slice_get sides 0) ≡ bytes
 wire-first bytes [] some is = absurd (omega (arith, some))
@@ -321,7 +321,7 @@ wire-first bytes (s ∷ sides) some is = sym (is s refl)
 pub given-first : (w : WorldState) (old : Seen) (bytes : List ℕ) → Shows old w → wire_of (slice_get old.sides 0) ≡ bytes → given_by 0 w (Alone 0 Writes) ≡ bytes
 given-first w old bytes shows is = ap (λ (l : List Side). wire_of (slice_get l 0)) (sym shows.sides) ∙ is
 
--- What waits, and what is unread.
+-- Replies that wait, and unread bytes.
 
 pub waits-first : (n : ℕ) (sides : List Side) → ((s : Side) → slice_get sides 0 ≡ Some s → n ≡ length s.queue) → 0 < length sides → n ≡ waiting sides
 waits-first n [] is some = absurd (omega (arith, some))
@@ -341,12 +341,12 @@ fewer-unread answer [] new a some = absurd a
 fewer-unread answer (s ∷ old) [] a some = absurd a
 fewer-unread answer (s ∷ old) (s' ∷ new) a some = shorter_unless answer (length s.session.unread) (length s'.session.unread) some a.shorter
 
--- A frame may be heard where all before it were answered.
+-- A frame may be processed once all before it were answered.
 
 pub may-step : (r : Reader) (t : ℕ) (w : WorldState) (old : Seen) → Shows old w → OfFirst IsAnswered old.sides → MayCome r t w (Alone 0 (Steps t))
 may-step r t w old shows answered = (refl, subst (OfFirst IsAnswered) shows.sides answered)
 
--- Bytes may come where all frames were heard and answered.
+-- Bytes may arrive once all frames were processed and answered.
 
 pub may-come : (r : Reader) (t : ℕ) (bytes : List ℕ) (w : WorldState) (old : Seen) → Shows old w → OfFirst IsAnswered old.sides → OfFirst IsAllHeard old.sides → MayCome r t w (Alone 0 (Pieces bytes))
 may-come r t bytes w old shows answered heard =

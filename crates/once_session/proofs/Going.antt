@@ -76,7 +76,7 @@ wrote-went t a b c x y held held' p q = record {
 pub wrote-kept : (t : ℕ) (a b : Seen) (x : List ℕ) (held mid held' : Option (List ℕ)) → Wrote t a b x held mid → Keeps mid held' → Wrote t a b x held held'
 wrote-kept t a b x held mid held' p kept = record { given = p.given; went = p.went; written = Appends-kept held mid held' p.given p.written kept }
 
--- where nothing more comes
+-- where no further bytes arrive
 pub wrote-still : (t : ℕ) (a b c : Seen) (x : List ℕ) (held mid held' : Option (List ℕ)) → Wrote t a b x held mid → Wrote t b c [] mid held' → Wrote t a c x held held'
 wrote-still t a b c x held mid held' p q = subst (λ (l : List ℕ). Wrote t a c l held held') (append-nil x) (wrote-then t a b c x [] held mid held' p q)
 

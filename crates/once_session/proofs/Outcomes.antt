@@ -1,4 +1,4 @@
--- Facts of a result, whatever it is.
+-- Facts about any result.
 use Rattle.std.proofs.Common.{Result, Ok, Err, OnOk, IfErr, Option, Some, None, IfSome}
 use Rattle.once_session.specs.Outcome.{UnlessOutput}
 use Rattle.once_session.specs.declared.fault.OnceFault.{OnceFault}

@@ -1,4 +1,4 @@
--- A stream that is read piece by piece, and its end.
+-- A stream read piece by piece, and its end.
 use Rattle.std.proofs.Common.{◌≤◌, ℕ, List, [], ◌++◌, length, Option, IfSome, sym, subst, append-nil}
 use Rattle.std.specs.Io.KnownBytes.{Consumes, IsAtEnd, Keeps}
 use Rattle.std.proofs.KnownBytes.{Consumes-nil, Consumes-trans, Consumes-whole}
@@ -11,7 +11,7 @@ use Rattle.once_session.proofs.Going.{wrote-kept, wrote-nil, wrote-still, wrote-
 pub so-far-none : (t : ℕ) (a : Seen) (left held : Option (List ℕ)) → IsSoFar t a a left left held held
 so-far-none t a left held = record { came = []; consumed = Consumes-nil left; wrote = wrote-nil t a held }
 
--- a piece more
+-- a further piece
 pub so-far-more : (t : ℕ) (a b c d : Seen) (left mid left' held held1 held2 : Option (List ℕ)) → IsSoFar t a b left mid held held1 → Wrote t b c [] held1 held2 → IsMore c d mid left'
     → IsSoFar t a d left left' held held2
 so-far-more t a b c d left mid left' held held1 held2 so_far answers more = record {
@@ -39,7 +39,7 @@ so-far-ended t a b c d left mid left' held held1 held2 held' so_far answers end 
     let wrote = wrote-kept t a c so_far.came held held2 held' (wrote-still t a b c so_far.came held held1 held2 so_far.wrote answers) kept in
     Consumes-whole left left' so_far.came (λ input. Wrote t a d input held held') consumed end.ends (subst (λ (x : Seen). Wrote t a x so_far.came held held') (sym end.same) wrote)
 
--- where a run stops behind what came
+-- a stop after the bytes so far
 pub so-far-halts : (t : ℕ) (a b then : Seen) (left mid left' held held1 held' : Option (List ℕ)) (lost : List ℕ) → IsSoFar t a b left mid held held1 → Wrote t b then [] held1 held'
     → Consumes mid left' lost → length lost ≤ longest_piece → Halts t a left left' held held'
 so-far-halts t a b then left mid left' held held1 held' lost so_far answers consumed short = record {

@@ -1,4 +1,4 @@
--- What was queued on the first participant's wire is what was given.
+-- The bytes queued on the first participant's wire are those given.
 use Rattle.std.proofs.Common.{◌≡◌, ◌-◌, ◌||◌, ℕ, suc, zero, List, [], ◌∷◌, ◌++◌, length, max, Bool, false, if◌then◌else◌, Option, Some, None, option_to_list, refl, sym, ap, ◌∙◌, subst, append-nil, append_assoc, slice_get}
 use Rattle.std.proofs.Math.Dec.{eqb-suc-zero}
 use Rattle.fix_dictionary.specs.declared.messages.App.{App}
@@ -74,7 +74,7 @@ opening-leaves r w h k t bare =
     ∙ append-nil up in
     ap (left r h) all ∙ up-leaves r h t (slice_get there.sides 0) bare
 
--- What leaves it in an act that may come is what the act gives.
+-- What leaves it in a possible act is what the act gives.
 
 pops-leave : (r : Reader) (h : session.History) (seat : Option Item) → left r h (pops seat) ≡ []
 pops-leave r h None = refl
@@ -85,7 +85,7 @@ sends-leave r h t None uncut = refl
 sends-leave r h t (Some (Reply app)) uncut = refl
 sends-leave r h t (Some Cut) uncut = absurd (uncut refl)
 
--- the session is that of the side, and no mark waits for it
+-- the session is that of the side, and no sentinel waits for it
 record IsOf (h : session.History) (side : Option Side) : Type 0 where
   pub same : (s : Side) → side ≡ Some s → h.session ≡ s.session
   pub uncut : (s : Side) → side ≡ Some s → s.reply ≡ Some Cut → ⊥
@@ -134,7 +134,7 @@ one-leaves r t w h (Alone (suc k) x) may of = absurd may
 one-leaves r t w h (Takes k u) may of = refl
 one-leaves r t w h (VenueTicks u) may of = absurd may
 
--- Wherever acts led, by the headline.
+-- In any state, by the headline.
 
 abbrev behind : List Outgoing → List Outgoing
 behind [] = []
@@ -191,7 +191,7 @@ run-leaves law r m t acts leads =
     ∙ ap (λ (l : List ℕ). l ++ left r (session.run r first h) rest) (opening-leaves r (fresh_world m) h k t refl)
     ∙ acts-leave law r m t up acts (opening-uncut m t) leads
 
--- all that was queued was given, where nothing waits
+-- all queued bytes were given, where none waits
 pub all-queued : KeepsItsWord → (r : Reader) (m : Market) (t : ℕ) (acts : List WorldEvent) (sides : List Side) → Leads r t (opened r m t) acts
     → OfFirst IsAnswered sides → WiresLoseNothing sides r m (run_of m t acts) → in_acts queued r m 0 (run_of m t acts) ≡ given_from r 0 (opened r m t) acts
 all-queued law r m t acts [] leads answered lose = absurd answered

@@ -1,4 +1,4 @@
--- What a step of the session makes ready.
+-- The messages that a step of the session makes ready.
 use Rattle.std.proofs.Common.{ℕ, ◌+◌, ◌≤◌, List, length, max, Bool, true, false, if◌then◌else◌, Option, Some, None, length-append, arith}
 use Rattle.fix_session.specs.Body.{frame_in, kind_in}
 use Rattle.fix_session.specs.Machine.{heard_frame, item_of, moved, plan_for, step, step_on}

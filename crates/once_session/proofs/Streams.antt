@@ -1,4 +1,4 @@
--- What a whole run is.
+-- A whole run.
 use Rattle.std.proofs.Common.{◌≡◌, ◌≤◌, ◌-◌, ◌==◌, ℕ, suc, zero, List, [], ◌∷◌, ◌++◌, length, max, Bool, true, false, if◌then◌else◌, Option, Some, None, option_to_list, refl, sym, ap, ◌∙◌, subst, append-nil, arith}
 use Rattle.std.specs.Io.KnownBytes.{Appends, Consumes}
 use Rattle.std.proofs.KnownBytes.{Appends-nil, Consumes-nil}
@@ -31,7 +31,7 @@ use Rattle.once_session.proofs.Going.{after-append}
 use Rattle.once_session.proofs.Queued.{all-queued}
 use Rattle.once_session.proofs.Uncut.{KeepsItsWord, run-uncut}
 
--- All that was taken came from the first participant, at t.
+-- All items taken came from the first participant, at t.
 
 record AtMoment (t : ℕ) (w : WorldState) : Type 0 where
   pub moment : w.moment ≤ t
@@ -164,7 +164,7 @@ answers-stream law wires r m t old new input held held' opens is_answered is_hea
       wrote.written,
     )
 
--- where a run stops
+-- a stopped run
 pub stopped-at : (r : Reader) (m : Market) (t : ℕ) (old : Seen) (left left' held held' : Option (List ℕ)) → Shows old (opened r m t) → Halts t old left left' held held' → Stopped r m t left left' held held'
 stopped-at r m t old left left' held held' opens h =
     let w : WorldState = opened r m t in

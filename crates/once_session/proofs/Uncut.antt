@@ -12,7 +12,7 @@ use Rattle.venue_world.specs.World.{WorldState, after_act, after_all, fresh_worl
 use Rattle.once_session.specs.Acts.{Leads, MayCome}
 use Rattle.once_session.specs.Stream.{cuts_behind, opened, opening, run_of}
 
--- what each world keeps
+-- the headline's law
 abbrev pub KeepsItsWord : Type 0
 KeepsItsWord = (r : Reader) (m : Market) (acts : List WorldEvent) → Headline (after_all r (fresh_world m) acts).sides (after_all r (fresh_world m) acts).moment r m acts
 

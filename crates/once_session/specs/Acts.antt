@@ -1,4 +1,4 @@
--- The acts of a run over one stream: which may come where.
+-- The acts of a run over one stream, and their order.
 use Rattle.std.specs.Prelude.{ℕ, suc, zero, ◌≡◌, ◌⊎◌, List, [], ◌∷◌, ◌++◌, false, None}
 use Rattle.fix_session.specs.Reader.{Reader}
 use Rattle.venue_world.specs.declared.world_event.WorldEvent.{WorldEvent}
@@ -8,7 +8,7 @@ use Rattle.venue_world.specs.declared.world_event.SessionEvent.TheVariants.{Piec
 use Rattle.venue_world.specs.Side.{Side}
 use Rattle.venue_world.specs.World.{WorldState, after_act}
 
--- the side of the first participant is so
+-- a property of the first participant's side
 abbrev pub OfFirst : (Side → Type 0) → List Side → Type 0
 OfFirst P [] = ⊥
 OfFirst P (s ∷ sides) = P s
@@ -25,8 +25,8 @@ pub record IsAnswered (s : Side) : Type 0 where
 abbrev pub IsHeardOut : Reader → Side → Type 0
 IsHeardOut r s = (s.session.line.up ≡ false) ⊎ ((r.front s.session.unread).found ≡ None)
 
--- What the first participant's side may do: bytes come only where all frames before them were heard and answered, a frame is heard
--- only where those before it were answered, and every moment is t.
+-- The acts of the first participant's side: bytes arrive only after all frames before them were processed and answered,
+-- a frame is processed only after those before it were answered, and every moment is t.
 abbrev pub MayDo : Reader → ℕ → List Side → SessionEvent → Type 0
 MayDo r t sides (Pieces bytes) = OfFirst IsAnswered sides × OfFirst (IsHeardOut r) sides
 MayDo r t sides (Steps at) = (at ≡ t) × OfFirst IsAnswered sides
@@ -39,7 +39,7 @@ MayDo r t sides Breaks = ⊥
 MayDo r t sides (Resumes at) = ⊥
 MayDo r t sides Cuts = ⊥
 
--- the act that may come: the first participant's, or that the venue takes its message
+-- a possible next act: the first participant's, or the take of its message
 abbrev pub MayCome : Reader → ℕ → WorldState → WorldEvent → Type 0
 MayCome r t w (Alone zero x) = MayDo r t w.sides x
 MayCome r t w (Alone (suc k) x) = ⊥
@@ -47,12 +47,12 @@ MayCome r t w (Takes zero at) = at ≡ t
 MayCome r t w (Takes (suc k) at) = ⊥
 MayCome r t w (VenueTicks at) = ⊥
 
--- each of these acts may come where those before it led
+-- each of these acts is a possible next one after those before it
 abbrev pub Leads : Reader → ℕ → WorldState → List WorldEvent → Type 0
 Leads r t w [] = Unit {0}
 Leads r t w (a ∷ acts) = MayCome r t w a × Leads r t (after_act r w a) acts
 
--- the bytes that came on the line, in order
+-- the bytes received on the line, in order
 abbrev pub pieces_by : WorldEvent → List ℕ
 pieces_by (Alone k (Pieces bytes)) = bytes
 pieces_by a = []

@@ -1,12 +1,12 @@
--- a whole run: to be read first
+-- a whole run: the first to read
 pub mod Stream
 -- the acts of a run
 pub mod Acts
--- what holds of a run that stopped
+-- facts about a stopped run
 pub mod Outcome
--- why an event that is refused stops a run
+-- why an event's fault stops a run
 pub mod Faults
 -- a part of a run
 pub mod Course
--- a stream that is read
+-- reading a stream
 pub mod Reading

@@ -1,4 +1,4 @@
--- What holds of a run that stopped.
+-- Facts about a stopped run.
 use Rattle.once_session.specs.declared.fault.OnceFault.{OnceFault}
 use Rattle.once_session.specs.declared.fault.OnceFault.TheVariants.{Memory, Input, Output}
 

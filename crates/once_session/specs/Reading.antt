@@ -1,14 +1,14 @@
--- A stream that is read to its end, or up to where a run stops.
+-- A stream that is read to its end, or up to a stop.
 use Rattle.std.specs.Prelude.{◌≡◌, ◌≤◌, ℕ, List, [], ◌++◌, Option, Bool, true, false, length}
 use Rattle.std.specs.Io.KnownBytes.{Consumes, IsAtEnd}
 use Rattle.venue_world.specs.Seen.{Seen}
 use Rattle.once_session.specs.Course.{Went, Wrote}
 
--- how many bytes are read at once
+-- the most bytes read at once
 abbrev pub longest_piece : ℕ
 longest_piece = 4096
 
--- a piece was read, and came on the line
+-- a piece was read onto the line
 pub record IsMore (old new : Seen) (left left' : Option (List ℕ)) : Type 0 where
   pub piece : List ℕ
   pub consumed : Consumes left left' piece
@@ -20,24 +20,24 @@ pub record IsEnd (old new : Seen) (left left' : Option (List ℕ)) : Type 0 wher
   pub consumed : Consumes left left' []
   pub ends : IsAtEnd left'
 
--- what was read, where there is more, and where there is not
+-- the result of a read, with and without a piece
 abbrev pub IsRead : Seen → Seen → Option (List ℕ) → Option (List ℕ) → Bool → Type 0
 IsRead old new left left' true = IsMore old new left left'
 IsRead old new left left' false = IsEnd old new left left'
 
--- a piece was read, and did not come on the line
+-- a piece was read, and did not get onto the line
 pub record IsLost (left left' : Option (List ℕ)) : Type 0 where
   pub piece : List ℕ
   pub consumed : Consumes left left' piece
   pub short : length piece ≤ longest_piece
 
--- what was read so far came on the line, and what that gave was written
+-- the bytes read so far arrived on the line, and what that gave was written
 pub record IsSoFar (t : ℕ) (old new : Seen) (left left' held held' : Option (List ℕ)) : Type 0 where
   pub came : List ℕ
   pub consumed : Consumes left left' came
   pub wrote : Wrote t old new came held held'
 
--- wherever that led, where the piece behind it did not come, if there is one
+-- some state, with the piece after it, if any, not on the line
 pub record Halts (t : ℕ) (old : Seen) (left left' held held' : Option (List ℕ)) : Type 0 where
   pub then : Seen
   pub came : List ℕ

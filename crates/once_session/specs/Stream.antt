@@ -1,4 +1,4 @@
--- A whole run over one stream: what is read, and what is written.
+-- A whole run over one stream: its input and its output.
 use Rattle.std.specs.Prelude.{◌≡◌, ◌≤◌, ◌-◌, ℕ, suc, zero, List, [], ◌∷◌, ◌++◌, Option, length, map}
 use Rattle.std.specs.Io.KnownBytes.{Appends, Consumes}
 use Rattle.fix_dictionary.specs.declared.messages.Item.{Item}
@@ -18,7 +18,7 @@ use Rattle.venue_world.specs.World.{WorldState, after_all, fresh_world, message_
 use Rattle.once_session.specs.Acts.{IsAnswered, IsHeardOut, Leads, OfFirst, pieces}
 use Rattle.once_session.specs.Reading.{longest_piece}
 
--- so many participants behind the first are cut, one after another
+-- this many participants after the first are cut, one after another
 abbrev pub cuts_behind : ℕ → List WorldEvent
 cuts_behind zero = []
 cuts_behind (suc k) = cuts_behind k ++ Alone (suc k) Cuts ∷ []
@@ -31,7 +31,7 @@ opening n t = cuts_behind (n - 1) ++ Alone 0 (Resumes t) ∷ []
 abbrev pub run_of : Market → ℕ → List WorldEvent → List WorldEvent
 run_of m t acts = opening (length m.participants.names) t ++ acts
 
--- where it stands before anything is read,
+-- the state before anything is read,
 abbrev pub opened : Reader → Market → ℕ → WorldState
 opened r m t = after_all r (fresh_world m) (opening (length m.participants.names) t)
 
@@ -47,10 +47,11 @@ taken t items = map (λ item. message_from 0 item t) items
 abbrev pub Owes : Market → List Input → Side → Type 0
 Owes m items s = numbered s.session ≡ owed m 0 items
 
--- What is written for a whole stream: acts that may come read it, up to where all is heard, answered and written. What the venue took
--- is what the first participant's session accepted of all that it heard, each at t, and the application messages that it
--- numbered for the participant are those that the rules' run of what was taken owes it. What the acts gave is what is written,
--- and so is, in order and to the last byte, all that its session queued for its line from its beginning on: nothing was dropped.
+-- The output for a whole stream: possible acts read it, until all is heard, answered and written. The items taken are
+-- what the first participant's session accepted of all that it heard, each at t. The application messages that it
+-- numbered for the participant are those that the rules' run of the items owes it. The output is what the acts gave; it
+-- is also, in order and to the last byte, all that its session queued for its line from its beginning on: nothing was
+-- dropped.
 pub record AnswersStream (r : Reader) (m : Market) (t : ℕ) (input output : List ℕ) : Type 0 where
   pub acts : List WorldEvent
   pub leads : Leads r t (opened r m t) acts
@@ -62,8 +63,8 @@ pub record AnswersStream (r : Reader) (m : Market) (t : ℕ) (input output : Lis
   pub gives : given_from r 0 (opened r m t) acts ≡ output
   pub queued : in_acts wires.queued r m 0 (run_of m t acts) ≡ output
 
--- What stands where a run stops: acts that may come read some bytes, and the piece behind them, if there is one, did not come; what
--- they gave was written, and nothing else.
+-- A stopped run: possible acts read some bytes, and the piece after them, if any, did not arrive; what they gave was
+-- written, and nothing else.
 pub record Stopped (r : Reader) (m : Market) (t : ℕ) (left left' held held' : Option (List ℕ)) : Type 0 where
   pub acts : List WorldEvent
   pub lost : List ℕ

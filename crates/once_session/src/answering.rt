@@ -1,4 +1,4 @@
-//! The frames of a stream, heard and answered one after another.
+//! Processing of a stream's frames, one after another.
 
 ghost use Rattle.std.specs.Prelude.{◌≡◌, ◌<◌, [], ℕ, length, IfOk, IfErr, OnOk};
 ghost use Rattle.std.specs.Io.KnownBytes.{Keeps};
@@ -17,8 +17,8 @@ use sef_moment::Moment;
 use std::io::Write;
 use venue_world::{Event, ListTrail, World};
 
-/// Has the session hear each frame that is whole, and writes what it queues for a frame before it looks at the next one. On
-/// a line that is down nothing is heard.
+/// Has the session process each whole frame, and writes what it queues before the next frame. On a line that is down no
+/// frame is processed.
 pub fn answer_frames<W: Write>(
     world: &mut World<ListTrail>,
     writer: &mut W,
@@ -40,7 +40,7 @@ pub fn answer_frames<W: Write>(
     }
 }
 
-/// Has the session take a step; then has the message that it made ready taken, if there is one, and writes what is queued.
+/// Processes one frame: a step, the take of its message, if any, and the write of what is queued.
 fn answer_frame<W: Write>(
     world: &mut World<ListTrail>,
     writer: &mut W,
@@ -62,7 +62,7 @@ fn answer_frame<W: Write>(
     Ok(answer)
 }
 
-/// Hands the first ready message to the venue, if there is one, and has the venue take it.
+/// Hands the first ready message to the venue, if any, which takes it.
 fn take_ready(world: &mut World<ListTrail>, at: Moment) -> Result<(), OnceFault>
     requires somewhere { IsSomewhere world.old }
     requires heard { OfFirst IsHeard world.old.sides }
@@ -75,7 +75,7 @@ fn take_ready(world: &mut World<ListTrail>, at: Moment) -> Result<(), OnceFault>
     Ok(())
 }
 
-/// Has the session send each reply that waits for it. `Output` where its numbers are spent.
+/// Has the session send each reply that waits. `Output` where its numbers are used up.
 fn send_replies(world: &mut World<ListTrail>, at: Moment) -> Result<(), OnceFault>
     requires somewhere { IsSomewhere world.old }
     requires free { OfFirst IsFree world.old.sides }
@@ -90,7 +90,7 @@ fn send_replies(world: &mut World<ListTrail>, at: Moment) -> Result<(), OnceFaul
     Ok(())
 }
 
-/// Has the session send the reply that waits first.
+/// Has the session send the first reply that waits.
 fn send_reply(world: &mut World<ListTrail>, at: Moment) -> Result<(), OnceFault>
     requires somewhere { IsSomewhere world.old }
     requires free { OfFirst IsFree world.old.sides }

@@ -8,16 +8,16 @@ use std::alloc::AllocError;
 use thiserror::Error;
 use venue_rules::EventFault;
 
-/// Why a run stopped before the end of its input.
+/// Failures before the end of the input.
 #[derive(Clone, Copy, Debug, PartialEq, Eq, Error)]
 pub enum OnceFault {
-    /// 1: a growth was refused; see also what an event's fault comes to.
+    /// 1: an allocation failed; also some event faults, see `From`.
     #[error("memory")]
     Memory,
     /// 2: a read failed, or 1,000,000,000 reads were made.
     #[error("input")]
     Input,
-    /// 3: a write failed, or the numbers of the session up to 999,999,999 were spent when there was a reply to send.
+    /// 3: a write failed, or there was a reply with the session's numbers used up to 999,999,999.
     #[error("output")]
     Output,
 }
@@ -30,10 +30,10 @@ impl From<AllocError> for OnceFault {
     }
 }
 
-/// `Down` is `Output`, and all others are `Memory`, for these reasons. `Behind` would want 65,536 replies to one message, where
-/// all others are cut, the queue is empty before each message is taken, and orders of one sender at one moment do not trade
-/// with each other. `Due` would want a held side whose delay is over, where each delay is at least 1,000 ms and each moment is
-/// the same. A list of rows refuses none before the 10^15th.
+/// `Down` is `Output`; every other fault is `Memory`, because the rest do not occur. `Behind` needs 65,536 replies to
+/// one message; but all others are cut, the queue is empty before each take, and one sender's orders at one moment do
+/// not trade with each other. `Due` needs a delay that is over; but each delay is at least 1,000 ms, and all moments
+/// are the same. A list of rows refuses none before the 10^15th.
 impl From<EventFault> for OnceFault {
     ghost from_gives = { λ fault e. e ≡ fault_of fault };
 

@@ -1,4 +1,4 @@
-//! The frames of one participant's stream, heard and answered by a world of events.
+//! One participant's stream, answered by a world of events.
 #![tactic(auto)]
 
 mod answering;

@@ -1,4 +1,4 @@
-//! A line that comes up.
+//! Opening of a line.
 
 ghost use Rattle.std.specs.Prelude.{◌≡◌, ◌<◌, ◌≤◌, length, OnOk};
 ghost use Rattle.fix_session.specs.Reader.{Reader};
@@ -12,8 +12,8 @@ use participants::Who;
 use sef_moment::Moment;
 use venue_world::{Event, ListTrail, World};
 
-/// Cuts all participants but the first, so that no reply waits for them, and brings the first one's line up. The world has
-/// `count` participants.
+/// Cuts all participants but the first, so that no reply waits for them, and brings the first one's line up. The world
+/// has `count` participants.
 pub fn open_line(world: &mut World<ListTrail>, count: u32, at: Moment) -> Result<(), OnceFault>
     requires count { count ≡ length world.old.sides }
     requires some { 0 < count }

@@ -15,13 +15,13 @@ use sef_moment::Moment;
 use std::io::{Read, Write};
 use venue_world::{Event, ListTrail, Piece, World};
 
-/// How many bytes are read at once.
+/// Bytes read at once.
 const READ_SIZE: usize = 4096;
 
-/// How many reads a run makes at most.
+/// Most reads of a run.
 const READS: u32 = 1_000_000_000;
 
-/// Answers all that the reader gives, and ends well at its end. On a line that is down the rest is read and not answered.
+/// Answers all that the reader gives, to its end. On a line that is down the rest is read and not answered.
 pub fn answer_all<R: Read, W: Write>(
     world: &mut World<ListTrail>,
     reader: &mut R,
@@ -47,7 +47,7 @@ pub fn answer_all<R: Read, W: Write>(
     Err(OnceFault::Input)
 }
 
-/// Reads some bytes, which then come on the line; whether there were any.
+/// Reads some bytes onto the line; whether there were any.
 fn read_piece<R: Read>(world: &mut World<ListTrail>, reader: &mut R) -> Result<bool, OnceFault>
     requires somewhere { IsSomewhere world.old }
     requires answered { OfFirst IsAnswered world.old.sides }
@@ -70,7 +70,6 @@ fn read_piece<R: Read>(world: &mut World<ListTrail>, reader: &mut R) -> Result<b
     Ok(true)
 }
 
-/// Sees that what was written has left the program.
 fn flush<W: Write>(writer: &mut W) -> Result<(), OnceFault>
     ensures { Keeps (W.contents writer.old) (W.contents writer.new) }
 {

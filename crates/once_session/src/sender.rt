@@ -4,7 +4,6 @@ ghost use Rattle.std.specs.Prelude.{◌≡◌};
 
 use participants::Who;
 
-/// The first participant.
 pub(crate) fn first() -> Who
     ensures { result ≡ 0 }
 {

@@ -18,10 +18,10 @@ use std::io::{Read, Write};
 use venue_world::laws::{every_world_keeps_its_word, wires_lose_nothing};
 use venue_world::{ListTrail, World};
 
-/// Answers the first participant's stream on a venue of these participants and instruments, by a session (FIXT 1.1) of the
-/// venue with that participant. Every moment is `at`, and all other participants are cut. Each frame is heard, the message
-/// that it makes ready is taken, and what the session queues is written, before the next frame is looked at. Once the session
-/// has dropped the line the rest is read and not answered. Ends well at the end of the input.
+/// Answers the first participant's stream on a venue of these participants and instruments, over its FIXT 1.1 session.
+/// Every moment is `at`, and all other participants are cut. Each frame is processed, its message is taken, and what
+/// the session queues is written, before the next frame. Once the session has dropped the line the rest is read and not
+/// answered. Ok at the end of the input.
 pub fn answer_stream<R: Read, W: Write>(
     alloc: Global,
     reader: &mut R,
@@ -47,7 +47,6 @@ pub fn answer_stream<R: Read, W: Write>(
     answer_all(&mut world, reader, writer, at)
 }
 
-/// How many participants there are.
 fn count_of(participants: &Participants) -> u32
     ensures count { result ≡ length participants.now.names }
     ensures some { 0 < result }

@@ -25,7 +25,7 @@ use Rattle.order_handler.specs.Parts.{Parts, book_answer_of}
 use Rattle.order_handler.specs.Reads.{IsReadAlone}
 use Rattle.order_handler.specs.Reports.{entry_report, filled_reply, reports_of, rest_reports, resting_report, total, walked}
 
--- The reports as they are made one after another are those of the rules.
+-- The reports one after another are those of the rules.
 
 sum-cons : {X : Type 0} (q : X → ℕ) (x : X) (xs : List X) → sum_by q (x ∷ xs) ≡ q x + sum_by q xs
 sum-cons q x xs = sum_by-append q (x ∷ []) xs ∙ ap (λ n. n + sum_by q xs) (zero-add (q x))
@@ -37,7 +37,7 @@ total-printed (f ∷ fs) = sum-cons (λ (g : FilledOrder). g.quantity) (printed 
 filled_by-push : (fs : List Fill) (f : Fill) → filled_by (fs ++ f ∷ []) ≡ filled_by fs + f.quantity
 filled_by-push fs f = sum_by-append (λ (g : Fill). g.quantity) fs (f ∷ []) ∙ ap (λ n. filled_by fs + n) (zero-add f.quantity)
 
--- the fills up to one, that one included
+-- the fills up to and including one
 taken_to : (pre : List Fill) (f : Fill) (fs : List Fill) → filled_by (take (length pre + 1) (pre ++ f ∷ fs)) ≡ filled_by pre + f.quantity
 taken_to pre f fs =
     ap (λ gs. filled_by (take (length pre + 1) gs)) (sym (append_assoc pre (f ∷ []) fs))
@@ -118,7 +118,7 @@ accepted-is m facts o t trade reports plan symbol e replies a planned named ente
     ∙ ap (λ (fs : List Fact). let x : Answer = record { facts = fs; replies = replies } in x) (accepted-facts m (entering facts o 0 t) (fills facts o) trade reports)
     ∙ ap (λ (rs : List Reply). let x : Answer = record { facts = answer.facts; replies = rs } in x) all
 
--- the same of every history that is read so
+-- the same for every history with these readings
 
 accepted-with : (m : Market) (h : History) (o : OrderFact) (t : ℕ) → accepted m h o t ≡ accepted_with m (record { number = next_order h.facts; order = o; filled_before = 0; moment = t }) (fills h.facts o) (next_trade h.facts) h.reports
 unfolding accepted_with

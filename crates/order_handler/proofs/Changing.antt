@@ -32,7 +32,7 @@ after_one : (b c : Bool) → (b && c) ≡ true → c ≡ true
 after_one true c h = h
 after_one false c h = absurd (never h)
 
--- an order that is found is in a listed instrument
+-- a found order is in a listed instrument
 
 listed_one : (x count : ℕ) (rest : Bool) → (nat_lt x count && rest) ≡ true → x < count
 listed_one x count rest h = below (nat_lt x count) rest x count refl h
@@ -68,7 +68,7 @@ found-listed p all (Closed x ∷ fs) count r listed found = found-listed p all f
 pub order-listed : (facts : List Fact) (count who : ℕ) (id : List ℕ) (r : Resting) → are_listed count facts ≡ true → find_order facts who id ≡ Some r → r.entry.order.instrument < count
 order-listed facts count who id r listed found = found-listed (λ (s : Resting). rests s.entry.order.instrument s.entry.order.side s && (s.entry.order.who == who && bytes_eq s.entry.order.id id)) facts facts count r listed found
 
--- what a request names
+-- the order or side that a request names
 
 named_as : Option Resting → Option HeldSide → Named
 named_as x y = elim x [ Some r ↦ IsResting r | None ↦ elim y [ Some k ↦ IsHeld k | None ↦ IsUnknown ] ]
@@ -124,7 +124,7 @@ cancel-planned m h book delay c s d r plan replies a x found used made said is =
     ∙ ap (λ (rs : List Reply). let y : Answer = record { facts = (cancel_plan r s.who d.order_id).facts; replies = rs } in y) said
     ∙ sym (ap (answer_cancel_of m h s d) (named-resting h s.who d.original_id r (x.order s.who d.original_id ∙ found)) ∙ resting-cancelled m h s d r (x.used s.who d.order_id ∙ used))
 
--- a held side that is found has the identifier that was looked for, and is in a listed instrument
+-- a found held side has the identifier looked for, and is in a listed instrument
 
 find-held-from : (P : HeldSide → Type 0) (p : HeldSide → Bool) (ks : List HeldSide) (k : HeldSide) → All P ks → find p ks ≡ Some k → P k × (p k ≡ true)
 find-held-from P p [] k all found = absurd (nothing found)

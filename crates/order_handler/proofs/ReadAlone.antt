@@ -9,7 +9,7 @@ use Rattle.cross_delay.specs.DelayFacts.{delay_facts}
 use Rattle.order_handler.specs.declared.counts.Counts.{Counts}
 use Rattle.order_handler.specs.Reads.{IsRead, is_used}
 
--- what is read off a history is what is read off its parts
+-- readings of a history are those of its parts
 
 abbrev pub UsedInParts : Type 0
 UsedInParts = (of_book : Fact → Bool) → ((e : Entry) → of_book (Entered e) ≡ true) → ((r : Removal) → of_book (Removed r) ≡ true) → (fs : List Fact) (who : ℕ) (id : List ℕ) → is_order_id_used fs who id ≡ (is_order_id_used (filter of_book fs) who id || is_order_id_used (delay_facts fs) who id)

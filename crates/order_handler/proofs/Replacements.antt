@@ -75,7 +75,7 @@ some_price : {price : ℤ} (x : Option ℤ) → x ≡ Some price → is_none x �
 some_price (Some p) h = refl
 some_price None h = cc
 
--- what is said of the price that is there is said of the price of the order that takes the place
+-- a statement about a price that is present is one about the replacing order's price
 off_tick-of : (m : Market) (d : OrderCancelReplaceRequest) (r : Resting) (price : ℤ) (b : Bool) → d.price ≡ Some price → is_off_tick m.instruments r.entry.order.instrument price ≡ b → is_off_tick m.instruments (replacement d r).instrument (replacement d r).price ≡ b
 off_tick-of m d r price b h k = ap (λ x. is_off_tick m.instruments r.entry.order.instrument (price_or_zero x)) h ∙ k
 
@@ -99,7 +99,7 @@ may_replace m book delay who d r price h1 h2 h3 h4 h5 h6 = record { new = h1; li
 
 pub ruleset turnings = (duplicate_id, unsupported_order, price_missing, price_off_tick, quantity_below_least, quantity_filled, may_replace)
 
--- nothing rests under the identifier that is named
+-- no order rests under the identifier named
 
 pub replace-unknown : (m : Market) (h : History) (book delay : List Fact) (c : Counts) (s : Sender) (d : OrderCancelReplaceRequest) (t : ℕ) → IsReadAlone h book delay c → find_order book s.who d.original_id ≡ None → is_some (find_held delay s.who d.original_id) ≡ false → answer_replace m h s d t ≡ replace_refused s d None change.UnknownOrder
 replace-unknown m h book delay c s d t x none gone = ap (answer_replace_of m h s d t) (named-unknown h s.who d.original_id (x.order s.who d.original_id ∙ none) (x.side s.who d.original_id ∙ no_side (find_held delay s.who d.original_id) gone))
@@ -152,9 +152,9 @@ book_too_soon : (m : Market) (h : History) (book delay : List Fact) (c : Counts)
 book_too_soon m h book delay c s d t r price n x found may priced refused =
     replace-of m h s d t r (x.order s.who d.original_id ∙ found) ∙ of-too_soon m h book delay s d t r may (x.used s.who d.order_id ∙ may.new) (has_fill (too_soon m h.facts (replacement d r) t) n (ap (option_map number_of) (x.soon m (replacement d r) t) ∙ ap (λ o. option_map number_of (too_soon m book o t)) (sym (replacing-is d r price priced)) ∙ refused))
 
--- the order that enters
+-- the entering order
 
--- the book's plan is of the order that is found, which may be replaced
+-- the book's plan is of the order found, which may be replaced
 pub replacing-by : (m : Market) (facts delay : List Fact) (who : ℕ) (d : OrderCancelReplaceRequest) (t : ℕ) (r : Resting) (price : ℤ) (plan : Plan) → find_order facts who d.original_id ≡ Some r → MayReplace m facts delay who d r → d.price ≡ Some price → IsReplacePlanned m facts who d.order_id d.quantity price t plan r → IsReplacing m facts delay who d t plan
 replacing-by m facts delay who d t r price plan found may priced planned = record { named = r; price = price; found = found; may = may; priced = priced; planned = planned }
 
@@ -167,7 +167,7 @@ entered-is m facts delay who d t plan x = ap (λ p. slice_get (entries p.facts) 
 rest_of : (a b : ℕ) → nat_le a b ≡ false → a ≤ 10 ^ 15 → b + (a - b) ≤ 10 ^ 15
 rest_of a b h k = grind (arith, nat_tests)
 
--- the order that enters takes another's place
+-- the entering order replaces another
 pub taking-place : (m : Market) (facts delay : List Fact) (who : ℕ) (d : OrderCancelReplaceRequest) (t : ℕ) (plan : Plan) (x : IsReplacing m facts delay who d t plan) → are_listed (length m.instruments) facts ≡ true → d.quantity ≤ 10 ^ 15 → MatchOption (slice_get (entries plan.facts) 0) ⊥ (IsTakingPlace (length m.instruments) plan.fills)
 taking-place m facts delay who d t plan x listed most =
     let P : Option Entry → Type 0 = λ y. MatchOption y ⊥ (IsTakingPlace (length m.instruments) plan.fills) in
@@ -204,7 +204,7 @@ replaced-read m h book delay c s d r t x =
     ∙ ap (λ n. replaced_with m s.who d.original_id r.entry.number e (fills book o) n h.reports) x.trade_number
     ∙ ap (λ n. replaced_with m s.who d.original_id r.entry.number e (fills book o) (c.trades + 1) n) x.reports
 
--- what is told of the plan, by the order that enters
+-- the reports of the plan, by the entering order
 emitted-of : (m : Market) (facts delay : List Fact) (c : Counts) (who : ℕ) (d : OrderCancelReplaceRequest) (t : ℕ) (plan : Plan) (x : IsReplacing m facts delay who d t plan) (a : Parts) → MatchOption (slice_get (entries plan.facts) 0) ⊥ (λ e. a ≡ replaced_parts m.instruments c who d.original_id plan e) → a ≡ replaced_parts m.instruments c who d.original_id plan (entering facts (replacement d x.named) (filled x.named) t)
 emitted-of m facts delay c who d t plan x a emitted =
     let P : Option Entry → Type 0 = λ y. MatchOption y ⊥ (λ e. a ≡ replaced_parts m.instruments c who d.original_id plan e) in
@@ -232,7 +232,7 @@ replaced-emitted m h book delay c s d t plan x a alone emitted =
     ∙ sym (replaced-read m h book delay c s d r t alone)
     ∙ sym (replace-of m h s d t r (alone.order s.who d.original_id ∙ x.found) ∙ of-free m h book delay s d t r x.may (alone.used s.who d.order_id ∙ x.may.new) free)
 
--- what enters is planned, in a listed instrument
+-- the entering order is planned, in a listed instrument
 
 pub emitted-made : (m : Market) (facts delay : List Fact) (c : Counts) (who : ℕ) (d : OrderCancelReplaceRequest) (t : ℕ) (plan : Plan) (x : IsReplacing m facts delay who d t plan) (book : Contents) (held : Delay) (a : Parts) → are_listed (length m.instruments) facts ≡ true → IsPlanOf book plan.facts → MatchOption (slice_get (entries plan.facts) 0) ⊥ (λ e. a ≡ replaced_parts m.instruments c who d.original_id plan e) → IsMade (length m.instruments) book held a
 emitted-made m facts delay c who d t plan x book held a listed made emitted =
@@ -248,7 +248,7 @@ replace-trades m facts delay who d t plan x =
     let is : plan ≡ replace_plan facts x.named who o t = replace_plan-is m facts delay who d t plan x in
     ap (λ (p : Plan). length (trades p.facts)) is ∙ trades-entered (entering facts o (filled x.named) t) (fills facts o) ∙ sym (ap (λ (p : Plan). length p.fills) is)
 
--- what the book refuses
+-- refusals of the book
 
 pub headroom-left : (m : Market) (facts : List Fact) (d : OrderCancelReplaceRequest) (t : ℕ) (r : Resting) (price : ℤ) (refusal : BookRefusal) → IsReplaceRefused m facts (replacing r d.order_id d.quantity price) t refusal → IsCapacityLeft refusal
 headroom-left m facts d t r price (TooSoon n) refused = tt

@@ -30,7 +30,7 @@ snapshot is d x h1 here h2 h3 = record { answers = λ file h s. rw h1 (rw h2 (rw
 
 pub ruleset showings = (no_instrument, no_snapshot, no_full_depth, snapshot)
 
--- what is shown of a history is what is shown of its book
+-- the snapshot of a history is that of its book
 
 pub picture-shown : ((fs : List Fact) (x : ℕ) → picture (book_facts fs) x ≡ picture fs x) → (is : List Instrument) (d : MarketDataRequest) (x : ℕ) (file : ParticipantFile) (h : History) (book : List Fact) (s : Sender) (a : Answer) → IsShown is d x → book_facts h.facts ≡ book → a ≡ answers (reply s.who (BookSnapshot (record { request_id = d.request_id; symbol = d.symbol; entries = picture book x })) ∷ []) → a ≡ answer_market_data (record { participants = file; instruments = is }) h s d
 picture-shown law is d x file h book s a shown same made =

@@ -44,7 +44,7 @@ unsupported_order m book delay who d h1 h2 h3 = record { answers = λ h number k
 pub price_missing : (m : Market) (book delay : List Fact) (who : ℕ) (d : NewOrderSingle) → is_unknown_instrument m.instruments d.symbol ≡ false → is_used book delay who d.order_id ≡ false → (not (is_limit d.order_type) || is_unsupported_life d.time_in_force) ≡ false → d.price ≡ None → IsTurnedAway m book delay who d PriceMissing
 price_missing m book delay who d h1 h2 h3 h4 = record { answers = λ h number kind t k. let h2' : is_order_id_used h.facts who d.order_id ≡ false = k ∙ h2 in rw h1 (rw h2' (rw h3 (rw h4 refl))) }
 
--- what is said of the price and the instrument that are there is said of those of the order that is asked for
+-- a statement about a price and an instrument that are present is one about those of the order
 off_tick-of : (m : Market) (who : ℕ) (d : NewOrderSingle) (x : ℕ) (price : ℤ) (b : Bool) → x ≡ instrument_of m.instruments d.symbol → d.price ≡ Some price → is_off_tick m.instruments x price ≡ b → is_off_tick m.instruments (order_asked m who d).instrument (order_asked m who d).price ≡ b
 off_tick-of m who d x price b here h k = ap (λ p. is_off_tick m.instruments (instrument_of m.instruments d.symbol) (price_or_zero p)) h ∙ ap (λ y. is_off_tick m.instruments y price) (sym here) ∙ k
 
@@ -63,7 +63,7 @@ sound_order m book delay who d x price h1 h2 h3 h4 here h5 h6 = record { known =
 
 pub ruleset turnings = (unknown_instrument, duplicate_id, unsupported_order, price_missing, price_off_tick, quantity_below_least, sound_order)
 
--- the answer by what the book says of the order that is asked for
+-- the answer by the book's decision on the order
 
 order_free : (m : Market) (h : History) (book delay : List Fact) (number : ℕ) (kind : List ℕ) (who : ℕ) (d : NewOrderSingle) (t : ℕ) → IsSound m book delay who d → is_order_id_used h.facts who d.order_id ≡ false → too_soon m h.facts (order_asked m who d) t ≡ None → is_side_full h.facts (order_asked m who d) ≡ false → answer_order m h (record { who = who; number = number; kind = kind }) d t ≡ accepted m h (order_asked m who d) t
 order_free m h book delay number kind who d t s h2 h7 h8 = rw s.known (rw h2 (rw s.supported (rw s.priced (rw s.on_tick (rw s.enough (rw h7 (rw h8 refl)))))))
@@ -103,7 +103,7 @@ entered-planned m h book delay c s d t o a x sound same (free, headroom) is =
     is ∙ ap (λ y. accepted m h y t) same
     ∙ sym (order_free m h book delay s.number s.kind s.who d t sound (x.used s.who d.order_id ∙ sound.new) (ap (λ y. too_soon m h.facts y t) (sym same) ∙ free) (ap (is_side_full h.facts) (sym same) ∙ headroom))
 
--- what the book says at a history that is read so
+-- the book's decision in a history with these readings
 
 pub accepted-there : (m : Market) (h : History) (book delay : List Fact) (c : Counts) (o : OrderFact) (t : ℕ) → IsReadAlone h book delay c → IsEntryAccepted m book o t → IsEntryAccepted m h.facts o t
 accepted-there m h book delay c o t x (free, headroom) = (x.soon m o t ∙ free, x.full o ∙ headroom)
@@ -113,7 +113,7 @@ refused-there m h book delay c o t (TooSoon n) x soon = ap (option_map number_of
 refused-there m h book delay c o t Full x (free, full) = (x.soon m o t ∙ free, x.full o ∙ full)
 refused-there m h book delay c o t NoMemory x r = tt
 
--- what is planned
+-- plans
 
 nothing-planned : (book : Contents) → IsPlanOf book []
 nothing-planned book = record { step = Nothing; allowed = tt; made = refl; headroom = omega arith }
@@ -144,7 +144,7 @@ alone-answer p k =
     ap (λ (ks : List Fact). let a : Answer = record { facts = if p.delay_first then ks ++ p.book else p.book ++ ks; replies = p.replies } in a) k
     ∙ ap (λ (fs : List Fact). let a : Answer = record { facts = fs; replies = p.replies } in a) (first_or_not p.delay_first p.book)
 
--- what enters is in a listed instrument
+-- the entering order is in a listed instrument
 
 trades-listed : (count : ℕ) (e : Entry) (fs : List Fill) → are_listed count (map (λ f. Traded (trade_of e f)) fs) ≡ true
 trades-listed count e [] = refl

@@ -12,7 +12,7 @@ use Rattle.order_handler.specs.declared.orders.Terms.{Terms}
 use Rattle.order_handler.specs.Reads.{is_used}
 use Rattle.instruments.specs.Listing.{instrument_of, is_unknown_instrument, is_off_tick, least_of}
 
--- none of the refusals holds that come before the book is asked
+-- no refusal holds that is checked before the book is asked
 pub record IsSound (m : Market) (book delay : List Fact) (who : ℕ) (d : NewOrderSingle) : Type 0 where
   pub known : is_unknown_instrument m.instruments d.symbol ≡ false
   pub new : is_used book delay who d.order_id ≡ false
@@ -27,11 +27,11 @@ pub record IsTermsOf (m : Market) (d : NewOrderSingle) (terms : Terms) : Type 0 
   pub listed : terms.instrument < length m.instruments
   pub price : d.price ≡ Some terms.price
 
--- the answer to an order that is turned away
+-- the answer to an order refused before the book is asked
 abbrev pub rejection : History → Sender → NewOrderSingle → Cause → Answer
 rejection h s d (Refused cause) = refused h s d cause
 rejection h s d PriceMissing = business_reject s business.PriceMissing
 
--- an order is turned away for this cause in every history where its identifier is used as in these parts, whatever its number and its moment are
+-- an order is refused for this cause in every history with these used identifiers, whatever its number and moment
 pub record IsTurnedAway (m : Market) (book delay : List Fact) (who : ℕ) (d : NewOrderSingle) (cause : Cause) : Type 0 where
   pub answers : (h : History) (number : ℕ) (kind : List ℕ) (t : ℕ) → is_order_id_used h.facts who d.order_id ≡ is_used book delay who d.order_id → answer_order m h (record { who = who; number = number; kind = kind }) d t ≡ rejection h (record { who = who; number = number; kind = kind }) d cause

@@ -9,14 +9,15 @@ use Rattle.venue_rules.specs.Answer.{Answer, numbered, reply}
 use Rattle.venue_rules.specs.Book.{Fill}
 use Rattle.venue_rules.specs.Entering.{entry_facts, fill_reports, order_report, unfilled_reports}
 
--- the reports of all fills, the first of them this trade, then that of an unfilled rest
+-- the reports of all fills, from this trade on, then that of a cancelled rest
 abbrev pub reports_from : Market → Entry → List Fill → ℕ → List (ℕ → Reply)
 reports_from m e fs trade = flat_map (fill_reports m e fs trade) (enumerate_from 0 fs) ++ unfilled_reports m e fs
 
--- the answer to an order that enters so and has these fills, the first of them this trade, after so many reports
+-- the answer to an entering order with these fills, from this trade on, after this many reports
 unfoldable pub accepted_with : Market → Entry → List Fill → ℕ → ℕ → Answer
 accepted_with m e fs trade reports = record { facts = entry_facts e fs; replies = numbered reports ((λ n. reply e.order.who (OrderEntered (order_report m e e.order.quantity 0 n))) ∷ reports_from m e fs trade) }
 
--- the answer to an order that so takes the place of one with this number, for a participant's request that names it by this identifier
+-- the answer to an order that replaces the one with this number, for a participant's request that names it by this
+-- identifier
 unfoldable pub replaced_with : Market → ℕ → List ℕ → ℕ → Entry → List Fill → ℕ → ℕ → Answer
 replaced_with m who original removed e fs trade reports = record { facts = Removed (record { order = removed; who = who; id = e.order.id }) ∷ entry_facts e fs; replies = numbered reports ((λ n. reply who (OrderReplaced (record { order = order_report m e e.order.quantity e.filled_before n; original_id = original }))) ∷ reports_from m e fs trade) }

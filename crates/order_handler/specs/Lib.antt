@@ -2,18 +2,18 @@
 pub mod Market
 -- an answer in its parts
 pub mod Parts
--- the histories that a book, held sides and counts are parts of, and what is read off them
+-- histories with a given book, held sides and counts, and readings of them
 pub mod Reads
--- what may be applied, and is in listed instruments
+-- plans that may be applied, in listed instruments
 pub mod Made
--- which replies are reports
+-- replies that are reports
 pub mod Counting
--- the answer to an order that enters, by what is read for it
+-- the answer to an entering order, by what is read for it
 pub mod Entered
--- the reports of an order that enters, as they are made one after another
+-- the reports of an entering order, one after another
 pub mod Reports
--- what is known of an order that may enter, and of one that may take the place of another
+-- conditions of an order that may enter, or replace another
 pub mod Asked
 pub mod Changed
--- what is known of a request for market data
+-- conditions of a request for market data
 pub mod Shown

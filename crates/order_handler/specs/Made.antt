@@ -8,7 +8,7 @@ use Rattle.cross_delay.specs.Contents.{Contents as Delay}
 use Rattle.cross_delay.specs.Steps.{IsPlanOf as IsDelayPlan}
 use Rattle.order_handler.specs.Parts.{Parts}
 
--- an order that enters, or is held, is in one of so many instruments
+-- an order or held side is in an instrument below a count
 abbrev pub is_listed : ℕ → Fact → Bool
 is_listed count (Entered e) = nat_lt e.order.instrument count
 is_listed count (Held k) = nat_lt k.order.instrument count
@@ -17,7 +17,7 @@ is_listed count _ = true
 abbrev pub are_listed : ℕ → List Fact → Bool
 are_listed count facts = list_all (is_listed count) facts
 
--- the parts are plans of the book and of the held sides as they stand, and what enters or is held is in one of so many instruments
+-- the parts are plans of the book and the held sides as they are, in instruments below a count
 pub record IsMade (count : ℕ) (book : Book) (delay : Delay) (p : Parts) : Type 0 where
   pub book_plan : IsBookPlan book p.book
   pub delay_plan : IsDelayPlan delay p.delay

@@ -10,6 +10,6 @@ use Rattle.venue_rules.specs.Market.{Market}
 abbrev pub market : ParticipantFile → List Instrument → Market
 market participants instruments = record { participants = participants; instruments = instruments }
 
--- who sent a message, its number, and its type
+-- the sender of a message, its number and its type
 abbrev pub sender : Taken → Sender
 sender taken = record { who = taken.from; number = taken.item.number; kind = type_of taken.item.app }

@@ -9,22 +9,22 @@ use Rattle.price_book.specs.BookFacts.{book_facts}
 use Rattle.cross_delay.specs.DelayFacts.{delay_facts}
 use Rattle.order_handler.specs.declared.counts.Counts.{Counts}
 
--- these are the facts of the book and of the held sides of a history, and its counts of reports and of trades
+-- these are the facts of the book and of the held sides of a history, and its counts of reports and trades
 pub record IsRead (h : History) (book delay : List Fact) (c : Counts) : Type 0 where
   pub of_book : book_facts h.facts ≡ book
   pub of_delay : delay_facts h.facts ≡ delay
   pub of_reports : h.reports ≡ c.reports
   pub of_trades : length (trades h.facts) ≡ c.trades
 
--- counts that leave room for those of more inputs
+-- counts small enough for further inputs
 abbrev pub AreCounts : Counts → Type 0
 AreCounts c = (c.reports < 2 ^ 61) × (c.trades < 2 ^ 61)
 
--- a participant used an identifier of an order in the book or for a held side
+-- a participant used an order identifier in the book or for a held side
 abbrev pub is_used : List Fact → List Fact → ℕ → List ℕ → Bool
 is_used book delay who id = is_order_id_used book who id || is_order_id_used delay who id
 
--- what the rules of orders and of crosses read off a history is what they read off its book, its held sides and its counts
+-- the rules of orders and crosses read the same off a history as off its book, its held sides and its counts
 pub record IsReadAlone (h : History) (book delay : List Fact) (c : Counts) : Type 0 where
   pub used : (who : ℕ) (id : List ℕ) → is_order_id_used h.facts who id ≡ is_used book delay who id
   pub crossed : (who : ℕ) (id : List ℕ) → is_cross_id_used h.facts who id ≡ is_cross_id_used delay who id

@@ -9,7 +9,7 @@ use Rattle.venue_rules.specs.Answer.{Sender, answers, reply}
 use Rattle.venue_rules.specs.Book.{picture}
 use Rattle.venue_rules.specs.MarketData.{answer_market_data}
 
--- the picture of this instrument answers the request, whoever takes part and whatever has happened
+-- the snapshot of this instrument answers the request, in any market with these instruments and any history
 pub record IsShown (instruments : List Instrument) (d : MarketDataRequest) (x : ℕ) : Type 0 where
   pub answers : (file : ParticipantFile) (h : History) (s : Sender) → answer_market_data (record { participants = file; instruments = instruments }) h s d ≡ answers (reply s.who (BookSnapshot (record { request_id = d.request_id; symbol = d.symbol; entries = picture h.facts x })) ∷ [])
 

@@ -1,4 +1,4 @@
-//! What the venue answers of its orders to one input, before it does.
+//! Answers about orders, before they are applied.
 ghost use Rattle.std.specs.Prelude.{◌≡◌, ◌≤◌, false, [], ◌∷◌, length, count_by};
 ghost use Rattle.venue_rules.specs.declared.replies.Reply.{Reply as ReplyValue};
 ghost use Rattle.venue_rules.specs.Facts.{trades};
@@ -11,7 +11,7 @@ use std::alloc::Global;
 use std::marker::Model;
 use venue_rules::{Fact, Reply, ReplyBody};
 
-/// What the book gains and what the held sides do, which of the two comes first, and the replies, in order.
+/// The plans of the book and of the held sides, which of them comes first, and the replies in order.
 pub struct OrderAnswer {
     delay_first: bool,
     delay: HoldPlan,
@@ -21,7 +21,7 @@ pub struct OrderAnswer {
     traded: u64,
 }
 
-// Written out, so that a proof sees one call where it is dropped, and not the drop of each part.
+// Written-out drop (docs/ARCHITECTURE.md).
 impl Drop for OrderAnswer {
     fn drop(self) {
         let OrderAnswer {
@@ -86,7 +86,7 @@ fn count_reports(replies: &[Reply]) -> u64
     count
 }
 
-// How many trades the fact is.
+// 1 for a trade, else 0.
 fn traded_in(fact: &Fact) -> u64
     ensures value { result ≡ length (trades (fact.now ∷ [])) }
     ensures bound { result ≤ 1 }
@@ -109,8 +109,8 @@ fn count_trades(facts: &[Fact]) -> u64
 }
 
 impl OrderAnswer {
-    /// These replies, at most 402 for one input, with at most 200 trades and what the book gains and what the held sides do; the held sides'
-    /// facts come first where `delay_first` is set.
+    /// At most 402 replies for one input, with at most 200 trades, and both plans; the held sides' facts come first
+    /// where `delay_first` is set.
     pub fn of(
         delay_first: bool,
         delay: HoldPlan,
@@ -133,7 +133,7 @@ impl OrderAnswer {
         }
     }
 
-    /// These replies alone, at most 402 for one input.
+    /// Replies alone, at most 402 for one input.
     pub fn of_replies(alloc: Global, replies: Vec<Reply>) -> OrderAnswer
         requires { length replies.items ≤ 402 }
         ensures { result ≡ record { delay_first = false; delay = []; book = []; replies = replies.items } }
@@ -160,7 +160,7 @@ impl OrderAnswer {
         &self.replies
     }
 
-    /// How many of the replies are execution reports (message 8).
+    /// The number of execution reports (message 8) among the replies.
     #[tactic(auto, unfolding(crate::specs::Counting::is_reported))]
     pub fn reports(&self) -> u64
         ensures value { result ≡ count_by (λ (r : ReplyValue). is_report r.what) self.now.replies }
@@ -169,7 +169,7 @@ impl OrderAnswer {
         self.reports
     }
 
-    /// How many trades the book gains.
+    /// The number of trades that the book gains.
     pub fn trades(&self) -> u64
         ensures value { result ≡ length (trades self.now.book) }
         ensures bound { result ≤ 200 }
@@ -177,7 +177,7 @@ impl OrderAnswer {
         self.traded
     }
 
-    /// What the book is to apply, and what the held sides are to.
+    /// The plans for the book and for the held sides.
     pub fn into_parts(self) -> (FillPlan, HoldPlan)
         ensures book { result.0.facts ≡ self.book }
         ensures delay { result.1.facts ≡ self.delay }
@@ -193,7 +193,7 @@ impl OrderAnswer {
         (book, delay)
     }
 
-    /// The same answer, with what the held sides do: before the book's facts where `delay_first` is set, else after them.
+    /// The same answer with the held sides' plan: before the book's facts where `delay_first` is set, else after them.
     pub fn with_delay(self, delay_first: bool, delay: HoldPlan) -> OrderAnswer
         ensures { result ≡ record { delay_first = delay_first; delay = delay.facts; book = self.book; replies = self.replies } }
     {

@@ -1,4 +1,4 @@
-//! A cancel (OrderCancelRequest, F) of a resting order or of a held side, and the refusal of any change of one.
+//! OrderCancelRequest (F): cancels of resting orders and of held sides; OrderCancelReject, also for replacements.
 ghost use Rattle.std.specs.Prelude.{◌≡◌, ◌<◌, ◌+◌, [], ◌∷◌, true, length, IfOk, Some, None};
 ghost use Rattle.participants.specs.ParticipantFile.{ParticipantFile};
 ghost use Rattle.venue_rules.specs.declared.facts.Fact.{Fact as FactValue};
@@ -27,7 +27,7 @@ use venue_rules::{
     Reply, ReplyBody, Taken, symbol_of,
 };
 
-/// What is told of a resting order that a refused change names.
+/// Status of a resting order that a refused change names.
 pub(crate) fn standing(order: Resting<'_>) -> OrderStatus
     ensures { result ≡ standing (seen order.entry) }
 {
@@ -37,7 +37,7 @@ pub(crate) fn standing(order: Resting<'_>) -> OrderStatus
     }
 }
 
-/// A cancel or a replacement refused, of the resting order that it named, or of none.
+/// The refusal of a cancel or replacement that named this resting order, or none.
 pub(crate) fn change_refused(
     alloc: Global,
     taken: &Taken,
@@ -62,7 +62,7 @@ pub(crate) fn change_refused(
     Ok(OrderAnswer::of_replies(alloc, replies))
 }
 
-/// The report of a cancel of a resting order.
+/// The report of a cancelled resting order.
 fn cancel_reply(
     instruments: &Instruments,
     taken: &Taken,
@@ -92,7 +92,7 @@ fn cancel_reply(
     }
 }
 
-/// The report of a cancel of a held side, which has no number.
+/// The report of a cancelled held side, which has no order number.
 fn drop_reply(
     instruments: &Instruments,
     taken: &Taken,
@@ -122,7 +122,7 @@ fn drop_reply(
     }
 }
 
-/// The answer to a cancel that names no resting order: of a held side, or of what is not there.
+/// The answer to a cancel that names no resting order: a held side, or nothing.
 fn plan_drop(
     alloc: Global,
     instruments: &Instruments,
@@ -156,7 +156,7 @@ fn plan_drop(
     Ok(OrderAnswer::of(false, plan, nothing, replies))
 }
 
-/// The answer to a cancel; makes room for what it adds to the book, or to the held sides.
+/// The answer to a cancel; reserves memory for its plans.
 pub fn plan_cancel(
     alloc: Global,
     participants: &Participants,

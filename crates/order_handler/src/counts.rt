@@ -1,6 +1,6 @@
-//! How far the venue has come.
+//! Counts of reports and trades.
 
-/// How many execution reports (message 8) were sent so far, and how many trades there were, in the book and in rooms.
+/// Execution reports (message 8) sent so far, and trades so far, in the book and in rooms.
 #[derive(Clone, Copy)]
 pub struct Counts {
     pub reports: u64,

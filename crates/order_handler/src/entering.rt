@@ -1,4 +1,4 @@
-//! An order as it enters the book.
+//! Entry of an order.
 ghost use Rattle.std.specs.Prelude.{◌≡◌, ◌<◌, [], true, List, length, IfOk, IfErr};
 ghost use Rattle.venue_rules.specs.declared.facts.Fact.{Fact};
 ghost use Rattle.venue_rules.specs.Facts.{History};
@@ -22,8 +22,8 @@ use sef_moment::Moment;
 use std::alloc::Global;
 use venue_rules::{OrderFact, symbol_of};
 
-/// What is answered to an order as it enters, where the book does not refuse it; makes room for what it adds to the book.
-/// Nothing is said of the held sides.
+/// The answer to an entering order, where the book does not refuse it; reserves memory for the book's plan. The held
+/// sides have no part in it.
 pub fn enter(
     alloc: Global,
     participants: &Participants,

@@ -1,4 +1,4 @@
-//! A law of the definitions that this crate and those above use.
+//! A law of the definitions, for this crate and those above.
 ghost use Rattle.std.specs.Prelude.{◌≡◌, List};
 ghost use Rattle.venue_rules.specs.declared.facts.Fact.{Fact};
 ghost use Rattle.venue_rules.specs.Facts.{History};
@@ -8,7 +8,7 @@ ghost use Rattle.order_handler.specs.Reads.{IsRead, IsReadAlone};
 use cross_delay::delay_is_read_alone;
 use price_book::book_is_read_alone;
 
-/// What the rules of orders and of crosses read off a history is what they read off its book, its held sides and its counts.
+/// The rules of orders and crosses read the same off a history as off its book, its held sides and its counts.
 pub fn parts_are_read_alone()
     ensures { (h : History) (book delay : List Fact) (c : Counts) → IsRead h book delay c → IsReadAlone h book delay c }
 {

@@ -1,4 +1,4 @@
-//! The venue's whole answers to orders, cancels, replacements and requests for market data (17 CFR 37.3(a)(3), 37.9(b)(1)).
+//! Whole answers to orders, cancels, replacements and requests for market data (17 CFR 37.3(a)(3), 37.9(b)(1)).
 #![tactic(auto)]
 
 mod answer;

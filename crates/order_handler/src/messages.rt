@@ -1,4 +1,4 @@
-//! Messages that are not processed.
+//! BusinessMessageReject (j): messages that are not processed.
 ghost use Rattle.std.specs.Prelude.{◌≡◌, [], IfOk};
 ghost use Rattle.fix_dictionary.specs.Values.{IsText};
 ghost use Rattle.venue_rules.specs.Answer.{business_reject};
@@ -11,7 +11,7 @@ use fix_dictionary::{App, Identifier};
 use std::alloc::{AllocError, Global};
 use venue_rules::{BusinessRefusal, Reply, Taken};
 
-/// The type (35) of a message.
+/// MsgType (35).
 fn type_of(app: &App) -> &[u8]
     ensures value { result.now ≡ type_of app.now }
     ensures form { IsText 64 result.now }
@@ -37,7 +37,7 @@ fn type_of(app: &App) -> &[u8]
     }
 }
 
-/// The message is not processed, for this cause: a BusinessMessageReject (j), which is no report.
+/// The BusinessMessageReject (j) of the message, for this cause; no execution report.
 pub fn business_reject(
     alloc: Global,
     taken: &Taken,

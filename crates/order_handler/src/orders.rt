@@ -1,4 +1,4 @@
-//! A new order (NewOrderSingle, D): why it is refused, and what it does as it enters.
+//! NewOrderSingle (D): refusals and entries.
 ghost use Rattle.std.specs.Prelude.{◌≡◌, [], ◌^◌, ◌<◌, length, List, IfOk, IfErr};
 ghost use Rattle.venue_rules.specs.declared.facts.Fact.{Fact as FactValue};
 ghost use Rattle.venue_rules.specs.Facts.{History};
@@ -28,14 +28,14 @@ use venue_rules::{
     TimeInForce, Who,
 };
 
-/// Why an order is turned away before the book is asked.
+/// Cause of a refusal before the book is asked.
 #[derive(Clone, Copy)]
 enum Cause {
     Refused(OrderRefusal),
     PriceMissing,
 }
 
-/// The instrument and the price of an order.
+/// Instrument and price of an order.
 #[derive(Clone, Copy)]
 struct Terms {
     instrument: u32,
@@ -49,7 +49,7 @@ pub fn is_limit(order_type: FixChar) -> bool
     order_type.get() == b'2'
 }
 
-/// TimeInForce (59) is there, and none of 0, 3 and 4.
+/// TimeInForce (59) is present, and none of 0, 3 and 4.
 fn is_unsupported_life(time_in_force: Option<FixChar>) -> bool
     ensures { result ≡ is_unsupported_life time_in_force }
 {
@@ -76,7 +76,7 @@ fn life_of(time_in_force: Option<FixChar>) -> TimeInForce
     }
 }
 
-/// The terms of an order that may enter; else the first cause to turn it away before the book is asked.
+/// The terms of an order that may enter, or the first cause to refuse it before the book is asked.
 #[tactic(auto, using(crate::proofs::Turning::turnings))]
 fn order_terms(
     participants: &Participants,
@@ -111,7 +111,7 @@ fn order_terms(
     Ok(Terms { instrument, price })
 }
 
-/// The order that a message asks for.
+/// The order of a message.
 fn order_asked(
     participants: &Participants,
     instruments: &Instruments,
@@ -134,7 +134,7 @@ fn order_asked(
     }
 }
 
-/// A report that refuses an order, of which the venue knows no number.
+/// The report that refuses an order, which has no number of the venue's.
 fn refused(
     alloc: Global,
     taken: &Taken,
@@ -164,7 +164,7 @@ fn refused(
     Ok(OrderAnswer::of_replies(alloc, replies))
 }
 
-/// The answer to an order that is turned away.
+/// The answer to an order refused before the book is asked.
 fn rejection(
     alloc: Global,
     taken: &Taken,
@@ -182,7 +182,7 @@ fn rejection(
     }
 }
 
-/// The answer to a new order; makes room for what it adds to the book.
+/// The answer to a new order; reserves memory for its plans.
 pub fn plan_order(
     alloc: Global,
     participants: &Participants,

@@ -1,4 +1,4 @@
-//! Market data (MarketDataRequest, V): the picture of an instrument.
+//! MarketDataRequest (V): book snapshots.
 ghost use Rattle.std.specs.Prelude.{◌≡◌, [], ◌∷◌, IfOk, IfErr};
 ghost use Rattle.venue_rules.specs.declared.replies.ReplyBody.TheVariants as what;
 ghost use Rattle.venue_rules.specs.Answer.{answers, reply};
@@ -21,7 +21,7 @@ use venue_rules::{
     BookSnapshot, MarketDataRefusal, MarketDataReject, Reply, ReplyBody, SnapshotEntries, Taken,
 };
 
-/// The instrument that is asked for; else the first cause to refuse its picture.
+/// The requested instrument, or the first cause to refuse its snapshot.
 #[tactic(auto, using(crate::proofs::Showing::showings))]
 fn asked_for(
     instruments: &Instruments,
@@ -42,7 +42,7 @@ fn asked_for(
     Ok(instrument)
 }
 
-/// The picture of an instrument.
+/// The snapshot of an instrument.
 fn shown(
     alloc: Global,
     book: &PriceBook,

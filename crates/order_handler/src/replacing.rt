@@ -1,4 +1,4 @@
-//! A replacement (OrderCancelReplaceRequest, G) of a resting order; a held side is not replaced.
+//! OrderCancelReplaceRequest (G): replacements of resting orders; a held side cannot be replaced.
 ghost use Rattle.std.specs.Prelude.{◌≡◌, ◌≤◌, ◌<◌, ◌^◌, ℕ, [], true, length, slice_get, Some, None, MatchOption, IfOk, IfErr};
 ghost use Rattle.venue_rules.specs.Book.{find_order};
 ghost use Rattle.venue_rules.specs.Facts.{History, entries, trades};
@@ -30,14 +30,14 @@ use sef_moment::Moment;
 use std::alloc::{AllocError, Global};
 use venue_rules::{BusinessRefusal, ChangeKind, ChangeRefusal, OrderStatus, Taken, Who, symbol_of};
 
-/// Why a replacement of a resting order is turned away before the book is asked.
+/// Cause of a refusal before the book is asked.
 #[derive(Clone, Copy)]
 enum ChangeCause {
     Refused(ChangeRefusal),
     PriceMissing,
 }
 
-/// The price of an order that may take the place of a resting one; else the first cause to turn it away before the book is asked.
+/// The price of a replacing order, or the first cause to refuse it before the book is asked.
 #[tactic(auto, using(crate::proofs::Replacements::turnings))]
 fn new_price(
     participants: &Participants,
@@ -76,7 +76,7 @@ fn new_price(
     Ok(price)
 }
 
-/// A replacement refused, of the resting order that it named, or of none.
+/// The refusal of a replacement that named this resting order, or none.
 fn refused(
     alloc: Global,
     taken: &Taken,
@@ -92,7 +92,7 @@ fn refused(
     change_refused(alloc, taken, named, kind, id, original, cause)
 }
 
-/// The answer to a replacement of a resting order that is turned away.
+/// The answer to a replacement of a resting order, refused before the book is asked.
 fn rejection(
     alloc: Global,
     taken: &Taken,
@@ -109,7 +109,7 @@ fn rejection(
     }
 }
 
-/// The answer to a replacement that names no resting order: of a held side, or of what is not there. It is always refused.
+/// The answer to a replacement that names a held side, or nothing: always a refusal.
 fn none_replaced(
     alloc: Global,
     book: &PriceBook,
@@ -132,7 +132,8 @@ fn none_replaced(
     refused(alloc, taken, request, None, ChangeRefusal::HeldSide)
 }
 
-/// The answer to a replacement that the book refuses. It has room for what takes an order's place, so what it refuses comes too soon.
+/// The answer to a replacement that the book refuses: it has capacity for a replacing order, so the cause is a linked
+/// order.
 fn refused_by_book(
     alloc: Global,
     taken: &Taken,
@@ -154,7 +155,7 @@ fn refused_by_book(
     }
 }
 
-/// The answer to a replacement that the book takes: what it plans, and the reports of the order that enters by it.
+/// The answer to a replacement with this plan: the reports of the order that enters by it.
 fn replaced(
     alloc: Global,
     instruments: &Instruments,
@@ -178,7 +179,7 @@ fn replaced(
     Ok(OrderAnswer::of(false, nothing, plan, replies))
 }
 
-/// The answer to a replacement; makes room for what it adds to the book.
+/// The answer to a replacement; reserves memory for its plans.
 pub fn plan_replace(
     alloc: Global,
     participants: &Participants,

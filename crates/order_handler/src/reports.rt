@@ -1,4 +1,4 @@
-//! The reports of an order that enters.
+//! Reports of an entering order.
 ghost use Rattle.std.specs.Prelude.{◌≡◌, ◌≤◌, ◌<◌, ◌+◌, ◌-◌, ◌^◌, ℕ, ◌++◌, not, IfOk, length, take};
 ghost use Rattle.venue_rules.specs.Book.{is_day};
 ghost use Rattle.venue_rules.specs.Answer.{numbered};
@@ -12,7 +12,7 @@ use venue_rules::{
     ChangedReport, Entry, FilledReport, OrderReport, Reply, ReplyBody, TimeInForce, Who,
 };
 
-/// What a report says of an order that enters.
+/// A report on an entering order.
 pub(crate) fn entry_report(
     symbol: &Identifier,
     entry: &Entry,
@@ -33,7 +33,7 @@ pub(crate) fn entry_report(
     }
 }
 
-/// What a report says of a resting order that is filled.
+/// A report on a filled resting order.
 fn resting_report(symbol: &Identifier, fill: &FilledOrder, report: u64) -> OrderReport
     ensures { result ≡ resting_report symbol.now fill.now report }
 {
@@ -59,7 +59,7 @@ fn filled_what(order: OrderReport, fill: &FilledOrder, trade: u64) -> ReplyBody
     })
 }
 
-/// The two reports of a fill: the entering order's, of which so much is filled with it, then the resting order's.
+/// The two reports of a fill: the entering order's, with this filled quantity, then the resting order's.
 fn fill_replies(
     symbol: &Identifier,
     entry: &Entry,
@@ -89,14 +89,14 @@ fn fill_replies(
     (first, second)
 }
 
-/// Whether what is not filled at once may not rest.
+/// Whether the unfilled rest is cancelled.
 fn may_not_rest(life: TimeInForce) -> bool
     ensures { result ≡ not (is_day life) }
 {
     !matches!(life, TimeInForce::Day)
 }
 
-/// Adds the reports of fills and of what may not rest, numbered after `report`, the first trade being `trade`.
+/// Adds the reports of fills and of a cancelled rest, numbered on from `report`; the first trade is `trade`.
 pub(crate) fn add_fills(
     replies: &mut Vec<Reply>,
     symbol: &Identifier,
@@ -134,7 +134,7 @@ pub(crate) fn add_fills(
     Ok(())
 }
 
-/// The reports of an order that enters, numbered after `reports`, the first trade being `trade`.
+/// The reports of an entering order, numbered on from `reports`; the first trade is `trade`.
 pub(crate) fn entry_replies(
     alloc: Global,
     symbol: &Identifier,
@@ -162,7 +162,7 @@ pub(crate) fn entry_replies(
     Ok(replies)
 }
 
-/// The reports of an order that takes another's place, the first of them to the participant that asked for it.
+/// The reports of a replacing order, the first one to the participant that asked for it.
 pub(crate) fn replaced_replies(
     alloc: Global,
     to: Who,

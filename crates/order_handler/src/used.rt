@@ -1,4 +1,4 @@
-//! Identifiers that are used.
+//! Used identifiers.
 ghost use Rattle.std.specs.Prelude.{◌≡◌};
 ghost use Rattle.order_handler.specs.Reads.{is_used};
 

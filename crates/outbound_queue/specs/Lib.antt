@@ -1,4 +1,4 @@
--- what was taken from a participant
+-- inputs taken from a participant
 pub mod Taken
--- what a participant is owed, and what of it waits
+-- replies owed to a participant, and those that wait
 pub mod Owed

@@ -1,4 +1,4 @@
--- What was taken from a participant.
+-- Inputs taken from a participant.
 use Rattle.std.specs.Prelude.{ℕ, ◌==◌, List, [], ◌∷◌, if◌then◌else◌}
 use Rattle.fix_dictionary.specs.declared.messages.Item.{Item}
 use Rattle.venue_rules.specs.Run.{Input, Message, Tick}

@@ -1,4 +1,5 @@
-//! What the venue took from its participants, and what it owes them: the row of an input, a reply's message, and the queue of a participant with its mark.
+//! Inputs taken and replies owed: the row of an input, the message of a reply, and a participant's queue with its
+//! sentinel.
 #![tactic(auto)]
 
 mod messages;

@@ -1,4 +1,4 @@
-//! The message of a reply, as it waits.
+//! The message of a reply, as queued.
 
 ghost use Rattle.std.specs.Prelude.{◌≡◌, IfOk};
 ghost use Rattle.venue_rules.specs.Messages.{message};
@@ -8,7 +8,7 @@ use report_writer::message_of;
 use std::alloc::{AllocError, Global};
 use venue_rules::Reply;
 
-/// A reply's message.
+/// The message of a reply; fails only for an allocation failure.
 pub fn boxed_message(alloc: Global, reply: &Reply) -> Result<BoxedApp, AllocError>
     ensures { IfOk result (λ app. app ≡ message reply.now.what) }
 {

@@ -1,4 +1,4 @@
-//! What waits for a session, and whether replies would make it too long.
+//! The queue of a session, and the limit that makes a slow consumer.
 
 ghost use Rattle.std.specs.Prelude.{◌≡◌, ◌+◌, ◌≤◌, true, false, [], ◌∷◌, length, if◌then◌else◌, IfOk, OnOk};
 ghost use Rattle.std.specs.VecDeque.{deque_len, deque_capacity};
@@ -10,17 +10,17 @@ use std::alloc::{AllocError, Global};
 use std::collections::VecDeque;
 use venue_rules::{Reply, Who};
 
-/// How many replies may wait for a participant.
+/// Most replies that may wait for a participant.
 pub const MAX_QUEUED: usize = 65_536;
 
-/// What waits for a session, and whether the session is cut. There is always room for the mark.
+/// Replies that wait for a session, and whether it is cut. Capacity for the sentinel is always reserved.
 pub struct Queue {
     pub waiting: VecDeque<Outgoing>,
     pub is_cut: bool,
     ghost has_capacity: { 1 ≤ deque_capacity waiting },
 }
 
-// Written out, so that a proof sees one call where it is dropped, and not the drop of each part.
+// Written-out drop (docs/ARCHITECTURE.md).
 impl Drop for Queue {
     fn drop(self) {
         let Queue {
@@ -30,7 +30,7 @@ impl Drop for Queue {
     }
 }
 
-// How many of the replies are for a participant.
+// The number of replies for a participant.
 fn count_to(who: Who, replies: &[Reply]) -> usize
     ensures { result ≡ length (replies_to who replies.now) }
 {
@@ -38,7 +38,7 @@ fn count_to(who: Who, replies: &[Reply]) -> usize
 }
 
 impl Queue {
-    /// An empty queue.
+    /// An empty queue, with capacity for the sentinel.
     pub fn new(alloc: Global) -> Result<Queue, AllocError>
         ensures { IfOk result (λ q. (q.waiting.items ≡ []) × (q.is_cut ≡ false)) }
     {
@@ -48,7 +48,7 @@ impl Queue {
         })
     }
 
-    /// Whether some of the replies are for this participant, which is not cut, and its queue would pass the limit with them.
+    /// Whether these replies would take this participant, if not cut, past the limit; false without a reply for it.
     pub fn is_behind(&self, who: Who, replies: &[Reply]) -> bool
         ensures { result ≡ is_behind who replies.now self.now.is_cut (length self.now.waiting.items) }
     {
@@ -59,7 +59,7 @@ impl Queue {
         count > 0 && self.waiting.len().saturating_add(count) > MAX_QUEUED
     }
 
-    /// Makes room for so many more.
+    /// Reserves capacity for this many further messages.
     pub fn reserve(&mut self, more: usize) -> Result<(), AllocError>
         ensures same { (self.new.waiting.items ≡ self.old.waiting.items) × (self.new.is_cut ≡ self.old.is_cut) }
         ensures room { OnOk result (deque_len self.new.waiting + more ≤ deque_capacity self.new.waiting) }
@@ -67,7 +67,7 @@ impl Queue {
         self.waiting.reserve(more)
     }
 
-    /// The mark alone waits from now on; a queue that is cut stays.
+    /// Replaces the queue by the sentinel; a queue that is cut stays.
     pub fn cut(&mut self)
         ensures cut { self.new.is_cut ≡ true }
         ensures waiting { self.new.waiting.items ≡ (if self.old.is_cut then self.old.waiting.items else Outgoing.Cut ∷ []) }

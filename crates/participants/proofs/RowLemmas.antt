@@ -17,7 +17,7 @@ false_or_true : (b : Bool) → (b ≡ true → b ≡ false) → b ≡ false
 false_or_true true h = h refl
 false_or_true false h = refl
 
--- a name that is among them has a place
+-- a name among them has a place
 
 within_cons : (p : List ℕ → Bool) (n : List ℕ) (ns : List (List ℕ)) (b : Bool) → p n ≡ b → (b || list_any p ns) ≡ true → (list_any p ns ≡ true → position_or_len p ns < length ns) → position_or_len p (n ∷ ns) < length (n ∷ ns)
 within_cons p n ns true e h rest =
@@ -34,7 +34,7 @@ place-within p (n ∷ ns) h = within_cons p n ns (p n) refl h (λ k. place-withi
 abbrev place : List (List ℕ) → List ℕ → ℕ
 place ns name = position_or_len (bytes_eq name) ns
 
--- and the name stands there
+-- and is the name at that place
 place-names : (ns : List (List ℕ)) (name : List ℕ) → is_known ns name ≡ true → name ≡ get_or ns (place ns name) []
 place-names ns name known = (bytes_eq-Decides name (get_or ns (place ns name) [])).0 (passes_at_first (bytes_eq name) ns [] (place-within (bytes_eq name) ns known))
 
@@ -62,7 +62,7 @@ same_pair ns p q kp kq =
     two_of (place ns p.0 == place ns q.0) (place ns p.1 == place ns q.1) (place ns p.0 == place ns q.1) (place ns p.1 == place ns q.0) (bytes_eq p.0 q.0) (bytes_eq p.1 q.1) (bytes_eq p.0 q.1) (bytes_eq p.1 q.0)
     (same_place ns p.0 q.0 p0 q0) (same_place ns p.1 q.1 p1 q1) (same_place ns p.0 q.1 p0 q1) (same_place ns p.1 q.0 p1 q0)
 
--- pairs that are known, each of two names
+-- known pairs, each of two names
 abbrev all_known : List (List ℕ) → List (List ℕ × List ℕ) → Bool
 all_known ns ps = list_all (both_known ns) ps
 

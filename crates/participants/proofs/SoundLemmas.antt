@@ -14,7 +14,7 @@ use Rattle.participants.specs.Rows.{most_participants}
 use Rattle.participants.specs.Reading.{IsFaultOf, Reads, Refuses, has_bad_value, has_too_many, is_apart, is_bad_pair, is_bad_participant, is_missing, named, named_pairs, names, participants, read_of, related_pairs, rows_of, venue_name}
 use Rattle.participants.proofs.RowLemmas.{both}
 
--- A document without the first faults has names where they have to be.
+-- A document without the first faults has names where they are required.
 
 name_of_entry : (key : List ℕ) (e : Data) → is_none (as_table e) ≡ false → lacks key e ≡ false → is_no_name (get key e) ≡ false → is_name (text_at key e) ≡ true
 name_of_entry key e h k n = name-there (get key e) (key-there (as_table e) (get key e) h k) n
@@ -63,7 +63,7 @@ differing (d ∷ ds) k =
     let good = or_parts (is_bad_pair d) (list_any is_bad_pair ds) k in
     both (is_apart (named d)) (list_all is_apart (map named ds)) (ap not (good_pair d good.0).differ) (differing ds good.1)
 
--- what a document without the first three faults has
+-- the facts of a document without the first three faults
 pub record Sound (file : Data) : Type 0 where
   pub venue : is_name (venue_name file) ≡ true
   pub some : nat_le 1 (length (participants file)) ≡ true
@@ -107,7 +107,7 @@ sound file missing bad many =
 pub rows-read : (file : Data) (venue : List ℕ) (ns : List (List ℕ)) (ps : List (List ℕ × List ℕ)) → Sound file → venue ≡ venue_name file → ns ≡ names file → ps ≡ named_pairs file → rows_of venue ns ps ≡ read_of file
 rows-read file venue ns ps s v n p = ap (λ x. rows_of x ns ps) v ∙ (ap (λ x. rows_of (venue_name file) x ps) n ∙ (ap (λ x. rows_of (venue_name file) (names file) x) p ∙ sym s.rows))
 
--- what is read of a document is read of its text
+-- the reading of a document is that of its text
 
 pub Reads-ok : (text : List ℕ) (document : Members) (d : Data) (r : Result ParticipantFile FileFault) → d ≡ table document → IsUtf8 text → parse_document text ≡ Some document → IfOk r (λ rows. read_of d ≡ Ok rows) → IfOk r (λ rows. Reads text (Ok rows))
 Reads-ok text document d (Ok rows) same utf8 parsed h = (document, utf8, parsed, ap read_of (sym same) ∙ h)

@@ -27,7 +27,7 @@ table-at pairs a b d h k =
     zero_less : (n : ℕ) → 0 + n ≡ n
     zero_less n = omega arith
 
--- who has no place in the file is in no pair
+-- a place outside the file is in no pair
 
 not_there : (count p a : ℕ) → p < count → count ≤ a → (p == a) ≡ false
 not_there count p a h k = ne_eqb p a (λ e. absurd (omega (arith, h, k, e)))

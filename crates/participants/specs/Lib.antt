@@ -1,12 +1,12 @@
--- what a name may be
+-- the form of names
 pub mod Names
--- what the file says
+-- the content of the file
 pub mod ParticipantFile
--- what rows a file may have
+-- the rules of the rows of a file
 pub mod Rows
--- what a file says, and its faults
+-- the reading of a file, and its faults
 pub mod Reading
--- who is related to whom, and which recipients are enough
+-- the related participants, and which recipients suffice
 pub mod Relations
 -- the relations as a table
 pub mod Table

@@ -35,7 +35,7 @@ abbrev pub ThreeUnrelated : ParticipantFile → ℕ → List ℕ → Type 0
 ThreeUnrelated file requester rs =
     (a : ℕ) × (b : ℕ) × (c : ℕ) × Contains rs a × Contains rs b × Contains rs c × (apart file requester a ≡ true) × (apart file requester b ≡ true) × (apart file requester c ≡ true) × (apart file a b ≡ true) × (apart file a c ≡ true) × (apart file b c ≡ true)
 
--- what tells whether there are three is the relation
+-- the test of whether there are three agrees with the relation
 pub record Emits (file : ParticipantFile) (requester : ℕ) (rs : List ℕ) (stated : Bool) : Type 0 where
   pub there_are : stated ≡ true → ThreeUnrelated file requester rs
   pub stated_true : ThreeUnrelated file requester rs → stated ≡ true

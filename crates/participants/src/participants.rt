@@ -22,11 +22,11 @@ pub struct Participants {
     venue: Name,
     names: Vec<Name>,
     pairs: Vec<(Who, Who)>,
-    /// whether two are related, by both places
+    /// whether two are related, indexed by both places
     table: Vec<bool>,
 }
 
-// Written out, so that a proof sees one call where it is dropped, and not the drop of each part.
+// Written-out drop (docs/ARCHITECTURE.md).
 impl Drop for Participants {
     fn drop(self) {
         let Participants {
@@ -51,7 +51,7 @@ impl Model for Participants {
     ghost invariant = { λ p. (is_participant_file (record { venue = p.venue; names = p.names.items; pairs = p.pairs.items }) ≡ true) × (p.table.items ≡ related_table p.pairs.items) };
 }
 
-/// The first place of a name, or their count where it is not there.
+/// The first place of a name, or the number of names where it is absent.
 pub(crate) fn place_of(names: &[Name], name: &[u8]) -> usize
     ensures place { result ≡ position_or_len (bytes_eq name.now) names.now }
     ensures within { result ≤ length names.now }
@@ -65,7 +65,7 @@ pub(crate) fn place_of(names: &[Name], name: &[u8]) -> usize
 }
 
 impl Participants {
-    /// The file of these rows, which keep its rules.
+    /// The file of these rows, which must keep its rules.
     pub fn from_rows(
         alloc: Global,
         venue: Name,
@@ -84,7 +84,7 @@ impl Participants {
         })
     }
 
-    /// Reads a participant file, or tells its first fault.
+    /// Reads a participant file, or returns its first fault.
     pub fn read(alloc: Global, text: &[u8]) -> Result<Participants, FileFault>
         ensures rows { IfOk result (λ file. Reads text.now (Ok file)) }
         ensures fault { IfErr result (IsFaultOf text.now) }
@@ -101,7 +101,7 @@ impl Participants {
         }
     }
 
-    /// How many participants there are: 1 to 32.
+    /// The number of participants: 1 to 32.
     pub fn len(&self) -> usize
         ensures count { result ≡ length self.now.names }
         ensures rule { is_participant_file self.now ≡ true }
@@ -116,7 +116,6 @@ impl Participants {
         &self.pairs
     }
 
-    /// The venue's name.
     pub fn venue(&self) -> &[u8]
         ensures value { result.now ≡ self.now.venue }
         ensures form { is_name result.now ≡ true }
@@ -124,7 +123,6 @@ impl Participants {
         self.venue.as_slice()
     }
 
-    /// A participant's name.
     pub fn name(&self, who: Who) -> &[u8]
         requires { who < length self.now.names }
         ensures value { result.now ≡ name_of self.now who }
@@ -133,7 +131,6 @@ impl Participants {
         self.names[who.place() as usize].as_slice()
     }
 
-    /// The participant of this name.
     pub fn find(&self, name: &[u8]) -> Option<Who>
         ensures { result ≡ find_participant self.now name.now }
     {
@@ -167,7 +164,7 @@ impl Participants {
         a.place() != b.place() && !self.related(a, b)
     }
 
-    /// Whether one of the recipients makes up three with two others.
+    /// Whether one of the recipients completes three with two others.
     fn has_third(&self, requester: Who, a: Who, b: Who, recipients: &[Who]) -> bool
         ensures { result ≡ list_any (λ c. are_unrelated self.now requester a b c) recipients.now }
     {
@@ -181,7 +178,7 @@ impl Participants {
         })
     }
 
-    /// Whether two of the recipients make up three with another.
+    /// Whether two of the recipients complete three with another.
     fn has_second(&self, requester: Who, a: Who, recipients: &[Who]) -> bool
         ensures { result ≡ list_any (λ b. list_any (λ c. are_unrelated self.now requester a b c) recipients.now) recipients.now }
     {
@@ -190,7 +187,7 @@ impl Participants {
             .any(|b| self.has_third(requester, a, *b, recipients))
     }
 
-    /// Whether three of the recipients are so.
+    /// Whether three of the recipients are pairwise apart, and each apart from the requester.
     fn has_three(&self, requester: Who, recipients: &[Who]) -> bool
         ensures { result ≡ three_unrelated self.now requester recipients.now }
     {
@@ -199,8 +196,8 @@ impl Participants {
             .any(|a| self.has_second(requester, *a, recipients))
     }
 
-    /// Whether three of the recipients are pairwise different and unrelated, and each is so to the requester
-    /// (17 CFR 37.9(a)(3)).
+    /// Whether three of the recipients are pairwise different and unrelated, and each different from and unrelated to
+    /// the requester (17 CFR 37.9(a)(3)).
     pub fn three_unrelated(&self, requester: Who, recipients: &[Who]) -> bool
         ensures test { result ≡ three_unrelated self.now requester recipients.now }
         ensures related { Emits self.now requester recipients.now result }

@@ -17,10 +17,10 @@ use config_format::{
 use std::alloc::{AllocError, Global};
 use toml::Value;
 
-/// How many participants a file may name.
+/// The most participants of a file.
 const MAX_PARTICIPANTS: usize = 32;
 
-/// Whether a key is absent that has to be there, or a list has no entry.
+/// Whether a required key is absent, or a list has no entry.
 pub(crate) fn is_missing(file: &Value) -> bool
     ensures { result ≡ is_missing (view file.now) }
 {
@@ -72,7 +72,7 @@ fn has_bad_pair(file: &Value) -> bool
     any_bad_pair(entries(file, "related"))
 }
 
-/// Whether a value is stated that may not stand there.
+/// Whether a stated value is invalid.
 pub(crate) fn has_bad_value(file: &Value) -> bool
     ensures { result ≡ has_bad_value (view file.now) }
 {
@@ -83,14 +83,12 @@ pub(crate) fn has_bad_value(file: &Value) -> bool
         || has_bad_pair(file)
 }
 
-/// Whether there are too many participants.
 pub(crate) fn has_too_many(file: &Value) -> bool
     ensures { result ≡ has_too_many (view file.now) }
 {
     entries(file, "participant").len() > MAX_PARTICIPANTS
 }
 
-/// The names of the participants.
 pub(crate) fn names_in(alloc: Global, list: &[Value]) -> Result<Vec<Name>, AllocError>
     requires { list_all (λ entry. is_name (text_at (codes "name") (view entry))) list.now ≡ true }
     ensures { IfOk result (λ names. names.items ≡ map (λ entry. text_at (codes "name") (view entry)) list.now) }
@@ -103,7 +101,6 @@ pub(crate) fn names_in(alloc: Global, list: &[Value]) -> Result<Vec<Name>, Alloc
     Ok(names)
 }
 
-/// The names of the related pairs.
 pub(crate) fn pairs_in(alloc: Global, list: &[Value]) -> Result<Vec<(Name, Name)>, AllocError>
     requires first { list_all (λ entry. is_name (named (view entry)).0) list.now ≡ true }
     requires second { list_all (λ entry. is_name (named (view entry)).1) list.now ≡ true }
@@ -118,14 +115,12 @@ pub(crate) fn pairs_in(alloc: Global, list: &[Value]) -> Result<Vec<(Name, Name)
     Ok(pairs)
 }
 
-/// Whether a name is among these.
 pub(crate) fn is_known(names: &[Name], name: &Name) -> bool
     ensures { result ≡ is_known names.now name.now }
 {
     names.iter().any(|other| name.is(other.as_slice()))
 }
 
-/// Whether no name stands twice.
 pub(crate) fn are_distinct(names: &[Name]) -> bool
     ensures { result ≡ are_distinct names.now }
 {
@@ -150,7 +145,7 @@ fn is_among(pairs: &[(Name, Name)], pair: &(Name, Name)) -> bool
     pairs.iter().any(|other| is_same_named(pair, other))
 }
 
-/// Whether no pair stands twice, in either order.
+/// Whether no pair occurs twice, in either order.
 pub(crate) fn are_distinct_named(pairs: &[(Name, Name)]) -> bool
     ensures { result ≡ are_distinct_named pairs.now }
 {
@@ -162,7 +157,7 @@ pub(crate) fn are_distinct_named(pairs: &[(Name, Name)]) -> bool
     true
 }
 
-/// Whether a name stands twice, the venue's among them, or a pair does.
+/// Whether a name occurs twice, the venue's included, or a pair does.
 fn has_twice(venue: &Name, names: &[Name], pairs: &[(Name, Name)]) -> bool
     ensures { result ≡ has_twice venue.now names.now pairs.now }
 {
@@ -175,14 +170,14 @@ fn has_unknown(names: &[Name], pair: &(Name, Name)) -> bool
     !(is_known(names, &pair.0) && is_known(names, &pair.1))
 }
 
-/// Whether a pair names no participant.
+/// Whether a pair names an unknown participant.
 pub(crate) fn any_unknown(names: &[Name], pairs: &[(Name, Name)]) -> bool
     ensures { result ≡ list_any (has_unknown names.now) pairs.now }
 {
     pairs.iter().any(|pair| has_unknown(names, pair))
 }
 
-/// The first place of a name, or their count where it is not there.
+/// The first place of a name, or the number of names where it is absent.
 fn place_in(names: &[Name], name: &Name) -> usize
     ensures place { result ≡ position_or_len (bytes_eq name.now) names.now }
     ensures within { result ≤ length names.now }
@@ -190,7 +185,6 @@ fn place_in(names: &[Name], name: &Name) -> usize
     place_of(names, name.as_slice())
 }
 
-/// The places of the names of the pairs.
 fn places_of(
     alloc: Global,
     names: &[Name],
@@ -238,7 +232,7 @@ fn rows_of(
     Ok(file)
 }
 
-/// What is read of a document, or its first fault.
+/// Reads a document, or returns its first fault.
 pub(crate) fn read_document(alloc: Global, file: &Value) -> Result<Participants, FileFault>
     ensures rows { IfOk result (λ rows. read_of (view file.now) ≡ Ok rows) }
     ensures fault { IfErr result (Refuses (read_of (view file.now))) }

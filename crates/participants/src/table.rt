@@ -1,4 +1,4 @@
-//! The related pairs as a table, so that a look-up takes no search.
+//! The related pairs as a table, for look-up without search.
 
 ghost use Rattle.std.specs.Prelude.{◌≡◌, IfOk};
 ghost use Rattle.participants.specs.Relations.{is_related};
@@ -7,7 +7,7 @@ ghost use Rattle.participants.specs.Table.{related_table};
 use crate::who::Who;
 use std::alloc::{AllocError, Global};
 
-/// Whether one of the pairs is these two, in either order.
+/// Whether the pairs have these two, in either order.
 fn is_related(pairs: &[(Who, Who)], a: u32, b: u32) -> bool
     ensures { result ≡ is_related pairs.now a b }
 {
@@ -16,7 +16,7 @@ fn is_related(pairs: &[(Who, Who)], a: u32, b: u32) -> bool
     })
 }
 
-/// For each two places below 32, a and b, whether they are related, at 32 a + b.
+/// For each two places below 32, a and b, whether they are related, at index 32 a + b.
 pub(crate) fn related_table(alloc: Global, pairs: &[(Who, Who)]) -> Result<Vec<bool>, AllocError>
     ensures { IfOk result (λ table. table.items ≡ related_table pairs.now) }
 {

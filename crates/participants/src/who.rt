@@ -21,14 +21,12 @@ impl Model for Who {
 }
 
 impl Who {
-    /// The participant at this place.
     pub fn of(place: u32) -> Who
         ensures { result ≡ place }
     {
         Who { place }
     }
 
-    /// Its place.
     pub fn place(self) -> u32
         ensures { result ≡ self }
     {

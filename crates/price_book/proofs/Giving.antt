@@ -15,12 +15,12 @@ use Rattle.price_book.specs.Numbered.{slot_at, AreKept}
 use Rattle.price_book.specs.Rows.{row_of, rows_of, comes_before, AreRanked}
 use Rattle.price_book.specs.Views.{share_out, left_over}
 
--- What the orders of a side give of a quantity, one by one.
+-- Shares of a side's orders, one by one.
 
 share-nothing : (r : Resting) (q : ℕ) → min r.left q ≡ 0 → (rs : List Resting) → share_out q (r ∷ rs) ≡ share_out (q - r.left) rs
 share-nothing r q h rs = ap (λ k. cond (nat_lt 0 k) (record { resting = r; quantity = min r.left q } ∷ share_out (q - r.left) rs) (share_out (q - r.left) rs)) h
 
--- a share alone, then the others
+-- a share, then the others
 pub share-parts : (q : ℕ) (r : Resting) (rs : List Resting) → share_out q (r ∷ rs) ≡ share_out q (r ∷ []) ++ share_out (q - r.left) rs
 share-parts q r rs = by (nat_lt 0 (min r.left q))
   where
@@ -42,7 +42,7 @@ left-spent (r ∷ rs) = ap (λ k. left_over k rs) (nothing r.left) ∙ left-spen
     nothing : (a : ℕ) → 0 - a ≡ 0
     nothing a = omega arith
 
--- behind the first price that is not accepted none is
+-- after the first price that is not accepted none is
 worse-refused : (side : Side) (limit : ℤ) (a b : Row) → comes_before (opposite side) b.price b.number a ≡ true → accepts side limit a.price ≡ false → accepts side limit b.price ≡ false
 worse-refused Buy limit a b h k = grind (arith, ints, nat_tests)
 worse-refused Sell limit a b h k = grind (arith, ints, nat_tests)

@@ -13,9 +13,9 @@ use Rattle.price_book.proofs.Living.{cut, cut-live, gone, gone-live, live-cut, d
 use Rattle.price_book.proofs.SideQueues.{reduced-absent, without-absent}
 use Rattle.price_book.proofs.Numbers.{pushed-absent, ledger-head}
 
--- An order that enters, and what the facts behind its entry do: as if it entered last, with what they leave of it.
+-- An entering order, and the facts behind its entry: as if it entered last, with its leaves quantity after them.
 
--- where an order is live, none that rests is of its number
+-- a live order, with a number that no resting order has
 abbrev Free : Resting → List Resting → Type 0
 Free r rs = is_live r ≡ true → Absent r.entry.number rs
 
@@ -180,7 +180,7 @@ steps-joined (f ∷ fs) rs r free none =
     ap (λ ss. steps ss fs) s.0 ∙ steps-joined fs (step rs f) (after r f) s.1 n.1
     ∙ ap (λ ss. joined_by (record { entry = r.entry; left = left_behind r.entry.number (left_after r.entry.number r.left f) fs }) (changes ss fs)) (step-change rs f n.0)
 
--- of facts that enter one order at most
+-- facts that enter at most one order
 
 abbrev pub joined : Option Resting → List Resting → List Resting
 joined None rs = rs
@@ -193,7 +193,7 @@ none-behind e fs h = by (entries fs) (omega (arith, h))
     by [] k = refl
     by (d ∷ es) k = absurd (omega (arith, k))
 
--- the order enters last, with what the facts behind its entry leave of it
+-- the order enters last, with its leaves quantity after the facts behind its entry
 pub entered-last : (rs : List Resting) (fs : List Fact) → length (entries fs) ≤ 1 → AreLedgers rs fs → steps rs fs ≡ joined (entering fs) (changes rs fs)
 entered-last rs [] one l = refl
 entered-last rs (Entered e ∷ fs) one l = steps-joined fs rs (whole_order e) (λ live. pushed-absent 0 rs (whole_order e) (rw (ap (λ b. cond b (rs ++ whole_order e ∷ []) rs) live) at (ledger-head (entered e rs) fs l.1))) (none-behind e fs one)
@@ -210,7 +210,7 @@ pub ledger-steps : (rs : List Resting) (fs : List Fact) → AreLedgers rs fs →
 ledger-steps rs [] l = l
 ledger-steps rs (f ∷ fs) l = ledger-steps (step rs f) fs l.1
 
--- how many orders facts enter
+-- the number of orders that facts enter
 
 pub entering-some : (fs : List Fact) (r : Resting) → entering fs ≡ Some r → length (entries fs) ≤ 1 → length (entries fs) ≡ 1
 entering-some [] r h one = cc
@@ -224,7 +224,7 @@ entering-some (Quoted z ∷ fs) r h one = entering-some fs r h one
 entering-some (Withdrawn z ∷ fs) r h one = entering-some fs r h one
 entering-some (Closed z ∷ fs) r h one = entering-some fs r h one
 
--- one fact more
+-- a further fact
 
 pub changes-more : (rs : List Resting) (fs : List Fact) (i : ℕ) (f : Fact) → i < length fs → f ≡ get_or fs i f → changes rs (drop i fs) ≡ changes (change rs f) (drop (i + 1) fs)
 changes-more rs fs i f h e = rw (drop-read fs i f h e) refl

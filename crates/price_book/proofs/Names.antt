@@ -49,7 +49,7 @@ map-insert f [] (suc i) x = refl
 map-insert f (y ∷ ys) zero x = refl
 map-insert f (y ∷ ys) (suc i) x = ap (λ zs. f y ∷ zs) (map-insert f ys i x)
 
--- the count of names, of keys and of orders is one
+-- names, keys and orders are equally many
 
 names-count : (rs : List Resting) → length (names_of rs) ≡ length rs
 names-count rs = length-map rs (λ (r : Resting). entry_name r.entry)
@@ -125,7 +125,7 @@ listed-rising rs es ks who id l = rising-same (answer_at es ks (hash_key_of who 
 pub behind-rising : (rs : List Resting) (es : List (ℕ × StoredOrder)) (ks : List IdKey) (who : ℕ) (id : List ℕ) → IsListed rs es ks → AreRising (answer_behind es ks (hash_key_of who id) who id) (length ks)
 behind-rising rs es ks who id l = rising-same (answer_behind es ks (hash_key_of who id) who id) (name_behind (names_of rs) l.named.index who id) (length ks) (length l.named.index) (index-count rs ks l.named) (λ k h. ap lowered (answer-same rs es ks l who id k h)) (rising-behind (names_of rs) l.named.index who id l.named.is)
 
--- the first order of a name
+-- the first order with a name
 
 ledger-alive : (low : ℕ) (rs : List Resting) → Ledger low rs → AreLive rs
 ledger-alive low [] l = tt
@@ -146,7 +146,7 @@ listed-none rs es ks who id at l p =
     let q : IsPlace (name_answer (names_of rs) l.named.index who id) (length l.named.index) at false = place-same (answer_at es ks (hash_key_of who id) who id) (name_answer (names_of rs) l.named.index who id) (length ks) (length l.named.index) at false (index-count rs ks l.named) (answer-same rs es ks l who id) p in
     none-current who id rs (ledger-alive 0 rs l.ledger) (none-found (names_of rs) l.named.index who id at l.named.is q)
 
--- an order more
+-- insertion of an order
 
 mapped-push : (rs : List Resting) (r : Resting) → names_of (rs ++ r ∷ []) ≡ names_of rs ++ entry_name r.entry ∷ []
 mapped-push rs r = map-append (λ (t : Resting). entry_name t.entry) rs (r ∷ [])
@@ -168,7 +168,7 @@ named-pushed rs es ks r at found l few p =
       keys = ap (λ xs. insert xs at (key_of r.entry)) (l.named.keys ∙ before) ∙ ap (λ y. insert (map (key_at (rs ++ r ∷ [])) index) at y) (sym last) ∙ sym (map-insert (key_at (rs ++ r ∷ [])) index at (length (names_of rs)));
     }
 
--- an order less
+-- removal of an order
 
 itself : (names : List ClientId) (a b : ℕ) → a ≡ b → name_cmp (name_at names a) (name_at names b) ≡ Less → ⊥
 itself names a b e less = let equal : Less ≡ Equal = sym less ∙ ap (λ k. name_cmp (name_at names a) (name_at names k)) (sym e) ∙ tied_itself name_total (name_at names a) in cc
@@ -226,7 +226,7 @@ named-removed rs ks k at l n below there same =
       keys = ap (λ xs. remove xs at) n.keys ∙ map-remove (key_at rs) index at ∙ map-within (key_at rs) (λ j. key_at (remove rs k) (closed k j)) (remove index at) stays ∙ sym (map-twice (key_at (remove rs k)) (closed k) (remove index at));
     }
 
--- the marks of keys rise
+-- the hash keys rise
 
 no-more : (a b : ℕ) (o : Ordering) → ordering_index (ordering_then (nat_cmp a b) o) ≤ 1 → a ≤ b
 no-more a b o h = by (nat_lt a b) (a == b) refl refl h
@@ -273,7 +273,7 @@ parted-hash_keys m ks rising i j d h l up = elim (cases_lt i j) [
 abbrev the_key : ℕ → ℕ → IdKey
 the_key m n = record { hash_key = m; number = n }
 
--- where the key of an order stands: not among those of lesser marks
+-- the place of an order's key: not among those with lesser hash keys
 pub key-there-from : (rs : List Resting) (ks : List IdKey) (hash_key number from k : ℕ) → IsNamed rs ks → IsKeyAt rs hash_key number k → ((i : ℕ) → i < from → (get_or ks i no_key).hash_key < hash_key) → (i : ℕ) × (from ≤ i) × (i < length ks) × ((get_or ks i no_key).number ≡ number)
 key-there-from rs ks hash_key number from k n is lesser =
     let c = n.is.covers k (omega (arith, is.0, names-count rs)) in
@@ -282,7 +282,7 @@ key-there-from rs ks hash_key number from k n is lesser =
     let behind : from ≤ c.0 = elim (cases_lt c.0 from) [ inl y ↦ absurd (omega (arith, lesser c.0 y, ap (λ (key : IdKey). key.hash_key) key)) | inr z ↦ z ] in
     (c.0, behind, in-ks, ap (λ (key : IdKey). key.number) key)
 
--- and its number is that of the order
+-- and its number is the order's
 pub key-numbered : (rs : List Resting) (hash_key number k : ℕ) → IsKeyAt rs hash_key number k → number ≡ number_at rs k
 key-numbered rs hash_key number k is = sym (ap (λ (key : IdKey). key.number) is.1) ∙ key-number rs k is.0
 
@@ -293,7 +293,7 @@ place-key n rs k s p e = (p.0, key-read rs k (seen_slot s) p.0 ∙ ap (λ (t : R
     by : (m number : ℕ) → m ≡ s.hash_key → number ≡ n → the_key m number ≡ the_key s.hash_key n
     by m number e f = ap (λ a. the_key a number) e ∙ ap (λ b. the_key s.hash_key b) f
 
--- some of an order is left
+-- a partially filled order
 pub named-reduced : (n q : ℕ) (rs : List Resting) (r : Resting) (ks : List IdKey) → numbered n rs ≡ Some r → q < r.left → IsNamed rs ks → IsNamed (reduced n q rs) ks
 named-reduced n q rs r ks some more named = record {
   index = named.index;

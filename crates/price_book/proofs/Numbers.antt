@@ -16,7 +16,7 @@ use Rattle.price_book.specs.Numbered.{numbered, slot_at, IsNumbered, number_at}
 use Rattle.price_book.proofs.Living.{same-number, other-number, ledger-lower}
 use Rattle.price_book.proofs.SideQueues.{ledger-absent}
 
--- the order of a number
+-- the order with a number
 
 never : (b : Bool) → b ≡ true → b ≡ false → ⊥
 never true h k = cc
@@ -43,7 +43,7 @@ numbered-none n (r ∷ rs) h = by (n == r.entry.number) refl h (numbered-none n 
     by true e h ih = cc
     by false e h ih = (e, ih h)
 
--- an order of this number stands at a place
+-- an order with this number is at a place
 pub record Found (n : ℕ) (rs : List Resting) (r : Resting) : Type 0 where
   pub at : ℕ
   pub place : IsPlaceOf n rs at
@@ -103,7 +103,7 @@ no-less a b h = grind (arith, nat_tests)
 abbrev cut : ℕ → Resting → Resting
 cut q r = record { entry = r.entry; left = r.left - q }
 
--- a part of what is left
+-- a part of the leaves quantity
 pub numbered-reduced : (m n q : ℕ) (rs : List Resting) (r : Resting) → numbered n rs ≡ Some r → q < r.left → numbered m (reduced n q rs) ≡ cond (n == m) (Some (cut q r)) (numbered m rs)
 numbered-reduced m n q [] r h l = cc
 numbered-reduced m n q (s ∷ rs) r h l = by (n == s.entry.number) (n == m) (m == s.entry.number) refl refl refl h (numbered-reduced m n q rs r)
@@ -126,7 +126,7 @@ numbered-reduced m n q (s ∷ rs) r h l = by (n == s.entry.number) (n == m) (m =
     by false false true e f g h ih = ap (λ b. cond b (Some s) (numbered m (reduced n q rs))) g
     by false false false e f g h ih = ap (λ b. cond b (Some s) (numbered m (reduced n q rs))) g ∙ ih h l ∙ ap (λ b. cond b (Some (cut q r)) (numbered m rs)) f
 
--- all that is left
+-- all of the leaves quantity
 pub reduced-all : (n q : ℕ) (rs : List Resting) (r : Resting) → numbered n rs ≡ Some r → r.left ≤ q → without n rs ≡ reduced n q rs
 reduced-all n q [] r h l = refl
 reduced-all n q (s ∷ rs) r h l = by (n == s.entry.number) h (reduced-all n q rs r)
@@ -137,7 +137,7 @@ reduced-all n q (s ∷ rs) r h l = by (n == s.entry.number) h (reduced-all n q r
         sym (ap (λ b. if b then cut q s ∷ rs else rs) (no-less q s.left (omega (arith, l, ap (λ (t : Resting). t.left) same))))
     by false h ih = ap (λ t. s ∷ t) (ih h l)
 
--- what else is known of an order stays while some is left
+-- other readings of a partially filled order stay
 pub mapped-reduced : {X : Type 0} (f : Entry → X) (n q : ℕ) (rs : List Resting) (r : Resting) → numbered n rs ≡ Some r → q < r.left → map (λ (t : Resting). f t.entry) rs ≡ map (λ (t : Resting). f t.entry) (reduced n q rs)
 mapped-reduced f n q [] r h l = cc
 mapped-reduced f n q (s ∷ rs) r h l = by (n == s.entry.number) h (mapped-reduced f n q rs r)
@@ -153,7 +153,7 @@ without-place n [] k p = absurd (omega (arith, p.0))
 without-place n (r ∷ rs) zero p = ap (λ b. if b then rs else r ∷ without n rs) (eq-eqb n r.entry.number (sym (p.1 r)))
 without-place n (r ∷ rs) (suc k) p = ap (λ b. if b then rs else r ∷ without n rs) p.2.0 ∙ ap (λ t. r ∷ t) (without-place n rs k (omega (arith, p.0), p.1, p.2.1))
 
--- numbers that rise
+-- rising numbers
 
 number-after : (low : ℕ) (rs : List Resting) (i : ℕ) → Ledger low rs → i < length rs → low < number_at rs i
 number-after low [] i l h = absurd (omega (arith, h))
@@ -183,7 +183,7 @@ number-read [] j d h = absurd (omega (arith, h))
 number-read (r ∷ rs) zero d h = refl
 number-read (r ∷ rs) (suc j) d h = number-read rs j d (omega (arith, h))
 
--- orders kept by their numbers, after each change
+-- orders stored by number, after each change
 
 last-above : (low : ℕ) (rs : List Resting) (r : Resting) → Ledger low (rs ++ r ∷ []) → low < r.entry.number
 last-above low [] r l = l.0
@@ -207,14 +207,14 @@ pub forget-numbered : (n : ℕ) (rs : List Resting) (es fs : List (ℕ × Stored
 forget-numbered n rs es fs ledger change kept m =
     ap (option_map seen_slot) (change m) ∙ map-cond (n == m) None (slot_at es m) ∙ ap (cond (n == m) None) (kept m) ∙ sym (numbered-without m n 0 rs ledger)
 
--- the order of a number becomes another
+-- the order with this number is replaced
 pub reduce-numbered : (n q : ℕ) (s t : StoredOrder) (rs : List Resting) (es fs : List (ℕ × StoredOrder)) → slot_at es n ≡ Some s → q < s.left → seen_slot t ≡ cut q (seen_slot s) → ((m : ℕ) → slot_at fs m ≡ cond (n == m) (Some t) (slot_at es m)) → IsNumbered rs es → IsNumbered (reduced n q rs) fs
 reduce-numbered n q s t rs es fs some more seen change kept m =
     let here : numbered n rs ≡ Some (seen_slot s) = sym (kept n) ∙ ap (option_map seen_slot) some in
     ap (option_map seen_slot) (change m) ∙ map-cond (n == m) (Some t) (slot_at es m) ∙ ap (λ r. cond (n == m) (Some r) (option_map seen_slot (slot_at es m))) seen ∙ ap (cond (n == m) (Some (cut q (seen_slot s)))) (kept m)
     ∙ sym (numbered-reduced m n q rs (seen_slot s) here more)
 
--- no order is of this number
+-- no order has this number
 pub kept-none : (n : ℕ) (rs : List Resting) (es : List (ℕ × StoredOrder)) → slot_at es n ≡ None → IsNumbered rs es → Absent n rs
 kept-none n rs es none kept = numbered-none n rs (sym (kept n) ∙ ap (option_map seen_slot) none)
 
@@ -233,7 +233,7 @@ pub ledger-head : (rs : List Resting) (fs : List Fact) → AreLedgers rs fs → 
 ledger-head rs [] l = l
 ledger-head rs (f ∷ fs) l = l.0
 
--- the order of a participant's identifier is the one of its number
+-- the order of a participant's identifier is the one with its number
 
 found-above : (low who : ℕ) (id : List ℕ) (rs : List Resting) (r : Resting) → Ledger low rs → find_live who id rs ≡ Some r → low < r.entry.number
 found-above low who id [] r l h = cc
@@ -256,7 +256,7 @@ found-numbered low who id (s ∷ rs) r l h = by (is_current who id s) h (found-n
         let other : (r.entry.number == s.entry.number) ≡ false = eq_sym r.entry.number s.entry.number ∙ other-number s.entry.number r.entry.number later in
         ap (λ b. cond b (Some s) (numbered r.entry.number rs)) other ∙ ih h
 
--- what holds of an Ok
+-- facts about an Ok
 pub given-ok : {X E : Type 0} (P : Type 0) (r : Result X E) → is_ok r ≡ true → OnOk r P → P
 given-ok P (Ok x) ok h = h
 given-ok P (Err e) ok h = cc
@@ -264,7 +264,7 @@ given-ok P (Err e) ok h = cc
 pub reordered : (rs : List Resting) (es fs : List (ℕ × StoredOrder)) → ((n : ℕ) → slot_at fs n ≡ slot_at es n) → IsNumbered rs es → IsNumbered rs fs
 reordered rs es fs same kept n = ap (option_map seen_slot) (same n) ∙ kept n
 
--- what facts that are still to come make of the orders that are kept
+-- the effect of facts still to come on the stored orders
 pub record Going (target : List Resting) (rest : List Fact) (o : RestingOrders) : Type 0 where
   pub now : List Resting
   pub step : IsConsistent now o

@@ -10,7 +10,7 @@ use Rattle.price_book.specs.Ranks.{row_with, rows_with}
 use Rattle.price_book.proofs.Ranking.{parted-before, parted-worse, placed-turned, behind-turned, not-twice}
 use Rattle.price_book.proofs.Turned.{parted-turned}
 
--- Orders of which what ranks them and what is left of them lie apart.
+-- Orders in two lists: priorities and leaves quantities.
 
 pub rows-length : (ps : List Priority) (ls : List ℕ) → length ps ≡ length ls → length (rows_with ps ls) ≡ length ls
 rows-length [] [] h = refl
@@ -18,7 +18,7 @@ rows-length [] (l ∷ ls) h = h
 rows-length (p ∷ ps) [] h = absurd (omega (arith, h))
 rows-length (p ∷ ps) (l ∷ ls) h = ap suc (rows-length ps ls (omega (arith, h)))
 
--- one is read
+-- reading an element
 pub rows-read : (ps : List Priority) (ls : List ℕ) (at : ℕ) (p : Priority) (l : ℕ) (d : Row) → length ps ≡ length ls → at < length ls → p ≡ get_or ps at p → l ≡ get_or ls at l → row_with p l ≡ get_or (rows_with ps ls) at d
 rows-read ps [] at p l d h k e f = absurd (omega (arith, k))
 rows-read [] (m ∷ ls) at p l d h k e f = absurd (omega (arith, h))
@@ -31,7 +31,7 @@ priorities-read (p ∷ ps) [] at d h = absurd (omega (arith, h))
 priorities-read (p ∷ ps) (l ∷ ls) zero d h = refl
 priorities-read (p ∷ ps) (l ∷ ls) (suc at) d h = priorities-read ps ls at d (omega (arith, h))
 
--- one comes, one goes, of one less is left
+-- insertion, removal, reduction
 
 pub rows-insert : (ps : List Priority) (ls : List ℕ) (at : ℕ) (p : Priority) (l : ℕ) → length ps ≡ length ls → rows_with (insert ps at p) (insert ls at l) ≡ insert (rows_with ps ls) at (row_with p l)
 rows-insert ps ls zero p l h = refl
@@ -54,7 +54,7 @@ rows-cut (p ∷ ps) [] at q l h e = absurd (omega (arith, h))
 rows-cut (p ∷ ps) (m ∷ ls) zero q l h e = ap (λ n. row_with p (n - q) ∷ rows_with ps ls) e
 rows-cut (p ∷ ps) (m ∷ ls) (suc at) q l h e = ap (λ t. row_with p m ∷ t) (rows-cut ps ls at q l (omega (arith, h)) e)
 
--- a search that reads what ranks them alone
+-- a search that reads the priorities alone
 
 pub priorities-parted : (q : Priority → Bool) (ps : List Priority) (ls : List ℕ) → length ps ≡ length ls → IsPartitionedBy (λ row. q (priority_of row)) (rows_with ps ls) → IsPartitionedBy q ps
 priorities-parted q ps ls h parted i j d low high up =
@@ -67,7 +67,7 @@ rows-point q ps ls at h point = (
   (λ k d low high. ap q (priorities-read ps ls k d h) ∙ point.1 k (priority_of d) low (omega (arith, high, h, rows-length ps ls h))),
 )
 
--- the place of an order, and of one that enters
+-- the place of an order, and of an entering one
 
 pub place-found : (side : Side) (p : ℤ) (n : ℕ) (ps : List Priority) (ls : List ℕ) (at k : ℕ) → length ps ≡ length ls → AreRanked side (reverse (rows_with ps ls)) → IsRow n p (reverse (rows_with ps ls)) k → at ≤ length ps → (IsPartitionedBy (λ o. not (ranks_before side p n o)) ps → IsPartitionPoint (λ o. not (ranks_before side p n o) ≡ true) (λ o. not (ranks_before side p n o) ≡ false) ps at) → at + k ≡ length (rows_with ps ls)
 place-found side p n ps ls at k h ranked is bound found =

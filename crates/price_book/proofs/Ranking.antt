@@ -23,7 +23,7 @@ use Rattle.price_book.proofs.StoredOrderSteps.{map-remove}
 use Rattle.price_book.proofs.Turned.{read-turned, set-turned, point-turned}
 use Rattle.std.proofs.lemmas.List.Elements.{All-filter}
 
--- The orders of a side as they are ranked.
+-- A side's orders in price-time priority.
 
 before-parts : (side : Side) (p : ℤ) (n : ℕ) (a : Row) → comes_before side p n a ≡ true → is_better side p a.price ≡ false
 before-parts Buy p n a h = grind (arith, ints, nat_tests)
@@ -44,7 +44,7 @@ later-before Sell a p n h k = grind (arith, ints, nat_tests)
 better-before : (side : Side) (a : Row) (p : ℤ) (n : ℕ) → is_better side a.price p ≡ true → comes_before side p n a ≡ true
 better-before side a p n h = ap (λ b. b || (nat_lt a.number n && not (is_better side p a.price))) h
 
--- a search for the place of an order, and for the place of one that enters
+-- search for the place of an order, and of an entering one
 
 pub parted-before : (side : Side) (p : ℤ) (n : ℕ) (rows : List Row) → AreRanked side rows → IsPartitionedBy (comes_before side p n) rows
 parted-before side p n rows ranked i j d h l up = by (cases-le i j h)
@@ -114,7 +114,7 @@ behind-point side p rows i h point = sym (behind-is side p rows i h (λ k d j. o
     on true e = refl
     on false e = cc
 
--- the same, in rows that stand the worst first
+-- the same, with the worst first
 
 pub placed-turned : (side : Side) (p : ℤ) (n : ℕ) (rows : List Row) (at k : ℕ) → AreRanked side (reverse rows) → IsRow n p (reverse rows) k → at ≤ length rows → IsPartitionPoint (λ y. not (comes_before side p n y) ≡ true) (λ y. not (comes_before side p n y) ≡ false) rows at → at + k ≡ length rows
 placed-turned side p n rows at k ranked is bound point =
@@ -130,7 +130,7 @@ behind-turned side p rows i h point =
     let there : length rows - i ≡ behind side p (reverse rows) = behind-point side p (reverse rows) (length rows - i) (omega (arith, length-reverse rows)) (point-turned (λ (y : Row). not (is_better side p y.price)) (λ (y : Row). is_better side p y.price) rows i (length rows - i) (λ y. not-twice (is_better side p y.price)) (omega (arith, h)) point) in
     omega (arith, h, there)
 
--- an order more, one that is cut, one that goes
+-- insertion, reduction, removal
 
 pub rank-put : (side : Side) (r : Resting) (rs : List Resting) → rows_of (rank_last side r rs) ≡ put_last side (row_of r) (rows_of rs)
 rank-put side r [] = refl
@@ -174,7 +174,7 @@ rows-reduced n q (s ∷ rs) (suc k) r place here more =
 pub rows-without : (n : ℕ) (rs : List Resting) (k : ℕ) → IsPlaceOf n rs k → rows_of (without n rs) ≡ remove (rows_of rs) k
 rows-without n rs k place = ap rows_of (without-place n rs k place) ∙ sym (map-remove row_of rs k)
 
--- what is cut at a place is what is written there
+-- reduction at a place, as a write there
 pub cut-set : (k q : ℕ) (rows : List Row) (row : Row) → row ≡ get_or rows k row → set rows k (record { number = row.number; price = row.price; left = row.left - q }) ≡ cut_at k q rows
 cut-set k q [] row e = refl
 cut-set zero q (r ∷ rows) row e = ap (λ (t : Row). record { number = t.number; price = t.price; left = t.left - q } ∷ rows) e
@@ -185,7 +185,7 @@ cut-length k q [] = refl
 cut-length zero q (r ∷ rows) = refl
 cut-length (suc k) q (r ∷ rows) = ap suc (cut-length k q rows)
 
--- orders ranked by their prices, each with a number above those before, stand each before those behind it
+-- orders ranked by price, with rising numbers, are in price-time priority
 
 abbrev Before : Side → Resting → List Resting → Type 0
 Before side r [] = Unit {0}
@@ -258,7 +258,7 @@ lined-rows side (r ∷ rs) l (suc i) (suc j) d h k = lined-rows side rs l.1 i j 
 pub are-ranked : (x : ℕ) (side : Side) (rs : List Resting) → Ledger 0 rs → AreRanked side (rows_of (ranked_live x side rs))
 are-ranked x side rs l = lined-rows side (ranked_live x side rs) (lined-ranked 0 side (filter (rests x side) rs) (ledger-filter 0 (rests x side) rs l))
 
--- an order that rests stands on its side
+-- a resting order is on its side
 
 numbered-filter : (n : ℕ) (p : Resting → Bool) (rs : List Resting) (r : Resting) → numbered n rs ≡ Some r → p r ≡ true → numbered n (filter p rs) ≡ Some r
 numbered-filter n p [] r h k = cc
@@ -302,7 +302,7 @@ cut-turned q (first ∷ rest) at k h =
     let less : Row = record { number = row.number; price = row.price; left = row.left - q } in
     ap reverse (sym (cut-set at q rows row is)) ∙ set-turned rows at k less h ∙ cut-set k q (reverse rows) row (is ∙ sym (read-turned rows at k row h))
 
--- each order of a side is kept by its number
+-- each order of a side is stored by its number
 pub sides-kept : (x : ℕ) (side : Side) (rs : List Resting) (es : List (ℕ × StoredOrder)) → Ledger 0 rs → IsNumbered rs es → AreKept (ranked_live x side rs) es
 sides-kept x side rs es l kept = ranked-all (λ (r : Resting). option_map seen_slot (slot_at es r.entry.number) ≡ Some r) side (filter (rests x side) rs) (All-filter (rests x side) (λ (r : Resting). option_map seen_slot (slot_at es r.entry.number) ≡ Some r) rs own)
   where

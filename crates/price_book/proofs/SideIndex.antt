@@ -19,7 +19,7 @@ use Rattle.price_book.specs.SideIndex.{side_index, rung_of, rows_in, held, AreOr
 use Rattle.price_book.proofs.Living.{other-number, same-number}
 use Rattle.price_book.proofs.SideQueues.{side_queue-joined, side_queue-reduced, side_queue-without, ledger-absent, absent-filter, absent-ranked, reduced-absent, without-absent}
 
--- Ladders by their rungs.
+-- Side queues by index.
 
 above : (n m : ℕ) → n < m → (m == n) ≡ false
 above n m h = grind (arith, nat_tests)
@@ -36,7 +36,7 @@ rungs-rise low (l ∷ ls) zero (suc j) d o h k = omega (arith, side_index-least 
 rungs-rise low (l ∷ ls) (suc i) zero d o h k = absurd (omega (arith, h))
 rungs-rise low (l ∷ ls) (suc i) (suc j) d o h k = rungs-rise (rung_of l + 1) ls i j d o.1 (omega (arith, h)) (omega (arith, k))
 
--- what a ladder holds
+-- contents of a side queue
 
 pub held-at : (low n : ℕ) (ls : List SideQueue) (k : ℕ) (d : SideQueue) → AreOrdered low ls → k < length ls → n ≡ rung_of (get_or ls k d) → held n ls ≡ rows_in (get_or ls k d)
 held-at low n [] k d o h e = absurd (omega (arith, h))
@@ -53,7 +53,7 @@ never : (b : Bool) → b ≡ true → b ≡ false → ⊥
 never true h k = cc
 never false h k = cc
 
--- a ladder changes where it stands
+-- a side queue changes in place
 pub held-set : (low : ℕ) (ls : List SideQueue) (k : ℕ) (t d : SideQueue) (m : ℕ) → AreOrdered low ls → k < length ls → rung_of t ≡ rung_of (get_or ls k d) → held m (set ls k t) ≡ (if m == rung_of t then rows_in t else held m ls)
 held-set low [] k t d m o h e = absurd (omega (arith, h))
 held-set low (l ∷ ls) zero t d m o h e = by (m == rung_of t) (ap (λ n. m == n) e)
@@ -78,7 +78,7 @@ ordered-set low [] k t d o h e = absurd (omega (arith, h))
 ordered-set low (l ∷ ls) zero t d o h e = (omega (arith, o.0, e), rw e o.1)
 ordered-set low (l ∷ ls) (suc k) t d o h e = (o.0, ordered-set (rung_of l + 1) ls k t d o.1 (omega (arith, h)) e)
 
--- the place of a rung
+-- the place of an index
 
 pub lower-bound : (n : ℕ) (ls : List SideQueue) → lower n ls ≤ length ls
 lower-bound n [] = omega arith
@@ -125,7 +125,7 @@ lacks-there low n (l ∷ ls) o h = by (nat_lt (rung_of l) n) refl h (lacks-there
         let up : n ≤ rung_of l = (lt-parts (rung_of l) n false e).1 refl in
         (apart (rung_of l) n off, lacks-below (rung_of l + 1) n ls (omega (arith, up)) o.1)
 
--- a ladder more
+-- insertion of a side queue
 pub held-insert : (n : ℕ) (ls : List SideQueue) (t : SideQueue) (m : ℕ) → Lacks n ls → rung_of t ≡ n → held m (insert ls (lower n ls) t) ≡ (if m == n then rows_in t else held m ls)
 held-insert n [] t m a e = ap (λ k. if m == k then rows_in t else []) e
 held-insert n (l ∷ ls) t m a e = by (nat_lt (rung_of l) n) (held-insert n ls t m a.1 e)
@@ -160,7 +160,7 @@ held-opened n ls t m a e none = held-insert n ls t m a e ∙ ap (λ xs. if m == 
 pub opened-there : (n : ℕ) (ls : List SideQueue) (t : SideQueue) → rung_of t ≡ n → IsLadder n (insert ls (lower n ls) t) (lower n ls)
 opened-there n ls t e = (omega (arith, length-insert ls (lower n ls) t (lower-bound n ls), lower-bound n ls), λ d. ap rung_of (get_or-insert_at ls (lower n ls) t d (lower-bound n ls)) ∙ e)
 
--- the orders of a ladder change where it stands
+-- the orders of a side queue change in place
 pub held-changed : (f : List Row → List Row) (n : ℕ) (ls : List SideQueue) (k : ℕ) (l t : SideQueue) (m : ℕ) → AreOrdered 0 ls → IsLadder n ls k → l ≡ get_or ls k l → rung_of t ≡ rung_of l → rows_in t ≡ f (rows_in l) → held m (set ls k t) ≡ (if m == n then f (held m ls) else held m ls)
 held-changed f n ls k l t m o at is e change =
     let own : rung_of l ≡ n = ap rung_of is ∙ at.1 l in
@@ -173,7 +173,7 @@ held-changed f n ls k l t m o at is e change =
 pub ordered-changed : (n : ℕ) (ls : List SideQueue) (k : ℕ) (l t : SideQueue) → AreOrdered 0 ls → IsLadder n ls k → l ≡ get_or ls k l → rung_of t ≡ rung_of l → AreOrdered 0 (set ls k t)
 ordered-changed n ls k l t o at is e = ordered-set 0 ls k t l o at.0 (e ∙ ap rung_of is)
 
--- what a ladder that was found holds
+-- contents of a found side queue
 pub held-there : (n : ℕ) (ls : List SideQueue) (k : ℕ) (l : SideQueue) → AreOrdered 0 ls → IsLadder n ls k → l ≡ get_or ls k l → held n ls ≡ rows_in l
 held-there n ls k l o at is = held-at 0 n ls k l o at.0 (sym (at.1 l)) ∙ ap rows_in (sym is)
 
@@ -184,7 +184,7 @@ held-none n f ls m none a = by (m == n) refl
     by true g = let nothing : held m ls ≡ [] = ap (λ k. held k ls) (same-number m n g) ∙ held-lacks n ls a in nothing ∙ sym (ap f nothing ∙ none)
     by false g = refl
 
--- an order rests on the rung of its instrument and side
+-- a resting order is in the queue of its instrument and side
 
 pub own-side_index : (y : ℕ) (t : Side) (r : Resting) → is_live r ≡ true → rests y t r ≡ (side_index y t == side_index r.entry.order.instrument r.entry.order.side)
 own-side_index y t r live = by t r.entry.order.side (is_day r.entry.order.life) (nat_lt 0 r.left) live
@@ -252,7 +252,7 @@ same-instrument y x Sell Sell h = grind (arith, nat_tests)
 same-instrument y x Buy Sell h = absurd (grind (arith, nat_tests))
 same-instrument y x Sell Buy h = absurd (grind (arith, nat_tests))
 
--- the ladders after an entry, a trade and a removal are those of the orders
+-- the side queues after an entry, a trade and a removal are those of the orders
 
 pub side_queues-joined : (rs : List Resting) (r : Resting) (before after : List SideQueue) → is_live r ≡ true → AreLadders rs before → ((m : ℕ) → held m after ≡ (if m == side_index r.entry.order.instrument r.entry.order.side then put_last r.entry.order.side (row_of r) (held m before) else held m before)) → AreLadders (joined_by r rs) after
 side_queues-joined rs r before after live are change x side =
@@ -293,7 +293,7 @@ absent-elsewhere n k rs r x side l at is off =
     let none : rests x side (get_or rs k r) ≡ false = ap (rests x side) (sym is) ∙ own-side_index x side r live ∙ off in
     absent-ranked n side (filter (rests x side) rs) (elsewhere n 0 rs k r (rests x side) l at.0 (at.1 r) none)
 
--- an order stands on its own side
+-- an order is on its own side
 pub stands-there : (n : ℕ) (rs : List Resting) (r : Resting) → Ledger 0 rs → numbered n rs ≡ Some r → Found n (ranked_live r.entry.order.instrument r.entry.order.side rs) r
 stands-there n rs r l some =
     let f : Found n rs r = numbered-some n rs r some in
@@ -308,7 +308,7 @@ row-there n rs r ls l some are =
 pub ranked-there : (x : ℕ) (side : Side) (rs : List Resting) (ls : List SideQueue) → Ledger 0 rs → AreLadders rs ls → AreRanked side (held (side_index x side) ls)
 ranked-there x side rs ls l are = rw (are x side) (are-ranked x side rs l)
 
--- what becomes of it there becomes of it alone
+-- its change there changes it alone
 changed-alone : (n : ℕ) (rs : List Resting) (r : Resting) (f : List Resting → List Resting) (g : List Row → List Row) (ls : List SideQueue) → Ledger 0 rs → numbered n rs ≡ Some r → ((ss : List Resting) → Absent n ss → f ss ≡ ss) → rows_of (f (ranked_live r.entry.order.instrument r.entry.order.side rs)) ≡ g (rows_of (ranked_live r.entry.order.instrument r.entry.order.side rs)) → AreLadders rs ls → (x : ℕ) (side : Side) → (if side_index x side == side_index r.entry.order.instrument r.entry.order.side then g (held (side_index x side) ls) else held (side_index x side) ls) ≡ rows_of (f (ranked_live x side rs))
 changed-alone n rs r f g ls l some none own are x side =
     ap (λ hs. if side_index x side == side_index r.entry.order.instrument r.entry.order.side then g hs else hs) (are x side)
@@ -339,7 +339,7 @@ side_queues-without n rs r before after l some are change x side =
     ∙ changed-alone n rs r (without n) (λ rows. remove rows f.at) before l some (without-absent n) (rows-without n (ranked_live r.entry.order.instrument r.entry.order.side rs) f.at f.place) are x side
     ∙ ap rows_of (sym (side_queue-without n 0 x side rs l))
 
--- no more orders than before
+-- at most as many orders as before
 
 remove-fewer : (rows : List Row) (k : ℕ) → length (remove rows k) ≤ length rows
 remove-fewer [] zero = omega arith

@@ -12,9 +12,9 @@ use Rattle.price_book.specs.SideQueues.{rank_last, EntryRanks, TradeRanks, Remov
 use Rattle.price_book.proofs.Living.{ledger-lower, ledger-live, ledger-reduced, resting-live, rests-live, same-number, other-number}
 use Rattle.price_book.proofs.Fitting.{live-step}
 
--- What each fact does to the orders of a side, as they are ranked.
+-- The effect of each fact on a side in price-time priority.
 
--- better prices are in one line
+-- prices are totally ordered
 
 better-trans : (side : Side) (p q r : ℤ) → is_better side p q ≡ true → is_better side q r ≡ true → is_better side p r ≡ true
 better-trans Buy p q r h k = grind (arith, ints)
@@ -32,7 +32,7 @@ cases : (b : Bool) → (b ≡ true) ⊎ (b ≡ false)
 cases true = inl refl
 cases false = inr refl
 
--- a latest entry and an earliest one are put in either order
+-- the latest entry and the earliest one commute
 rank-rank_last : (side : Side) (s r : Resting) (xs : List Resting) → rank side s (rank_last side r xs) ≡ rank_last side r (rank side s xs)
 rank-rank_last side s r [] = elim (cases (is_better side r.entry.order.price s.entry.order.price)) [ inl h ↦ simp h | inr h ↦ simp h ]
 rank-rank_last side s r (x ∷ xs) =
@@ -99,7 +99,7 @@ rank-front : (side : Side) (r : Resting) (ss : List Resting) → NoneBetter side
 rank-front side r [] h = refl
 rank-front side r (s ∷ ss) h = ap (λ b. if b then s ∷ rank side r ss else r ∷ s ∷ ss) h.0
 
--- an order of a number is changed where it stands, or goes
+-- an order with a number changes in place, or goes
 
 abbrev put : Option Resting → List Resting → List Resting
 put None rs = rs
@@ -109,7 +109,7 @@ abbrev edited : ℕ → (Resting → Option Resting) → List Resting → List R
 edited n g [] = []
 edited n g (r ∷ rs) = if n == r.entry.number then put (g r) rs else r ∷ edited n g rs
 
--- where it stays, it is the same order with as good a price
+-- where it stays, it is the same order at an equal price
 abbrev Keeps : (Resting → Option Resting) → Type 0
 Keeps g = (r s : Resting) → g r ≡ Some s → s.entry ≡ r.entry
 
@@ -162,7 +162,7 @@ edited-filter n low g p (r ∷ rs) same l = by (n == r.entry.number) refl (p r) 
     by false e true f o h ih = ap (λ c. cond c (r ∷ filter p (edited n g rs)) (filter p (edited n g rs))) f ∙ ap (λ t. r ∷ t) ih ∙ sym (ap (λ b. if b then put (g r) (filter p rs) else r ∷ edited n g (filter p rs)) e)
     by false e false f o h ih = ap (λ c. cond c (r ∷ filter p (edited n g rs)) (filter p (edited n g rs))) f ∙ ih
 
--- the order itself, as it is ranked among others
+-- the order itself, ranked among others
 abbrev putrank : Side → Option Resting → List Resting → List Resting
 putrank side None rs = rs
 putrank side (Some s) rs = rank side s rs
@@ -227,7 +227,7 @@ reduced-edited n q (r ∷ rs) = by (n == r.entry.number) (nat_lt q r.left) (redu
     by true false ih = refl
     by false c ih = ap (λ t. r ∷ t) ih
 
--- where no order is of the number, nothing is changed
+-- without an order of the number nothing changes
 pub without-absent : (n : ℕ) (rs : List Resting) → Absent n rs → without n rs ≡ rs
 without-absent n rs a = without-edited n rs ∙ edited-absent n taken rs a
 
@@ -286,7 +286,7 @@ side_queue-reduced n q low x side rs l =
     ∙ edited-ranked n low (cut-down q) side (filter (rests x side) rs) (cut-keeps q) (ledger-filter low (rests x side) rs l)
     ∙ sym (reduced-edited n q (ranked_live x side rs))
 
--- as the facts have it
+-- in terms of the facts
 
 pub entry-ranks : EntryRanks
 entry-ranks facts e x side known fits =

@@ -15,7 +15,7 @@ mapped-read [] (suc i) s = refl
 mapped-read (x ∷ xs) zero s = refl
 mapped-read (x ∷ xs) (suc i) s = mapped-read xs i s
 
--- a list of which one is gone
+-- removal from a list
 
 pub map-remove : {X Y : Type 0} (f : X → Y) (xs : List X) (i : ℕ) → remove (map f xs) i ≡ map f (remove xs i)
 map-remove f [] zero = refl
@@ -23,7 +23,7 @@ map-remove f [] (suc i) = refl
 map-remove f (x ∷ xs) zero = refl
 map-remove f (x ∷ xs) (suc i) = ap (λ ys. f x ∷ ys) (map-remove f xs i)
 
--- names of one fact more
+-- names of a further fact
 
 pub names-more : (fs : List Fact) (i : ℕ) (f : Fact) → i < length fs → f ≡ get_or fs i f → names_in (take (i + 1) fs) ≡ names_in (take i fs) ++ cons_option (name_in f) []
 names-more fs i f h e = ap names_in (take-read fs i f h e) ∙ filter_map-append name_in (take i fs) (f ∷ [])

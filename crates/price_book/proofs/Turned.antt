@@ -5,7 +5,7 @@ use Rattle.std.proofs.lemmas.Grind.{reverse_onto}
 use Rattle.std.proofs.lemmas.List.{length-reverse, get_or-reverse, set-append_left, set-append_right}
 use Rattle.std.proofs.lemmas.List.Edits.{insert_end, insert-append_left, remove-append_left, remove-append_right}
 
--- A list from its end.
+-- A list, reversed.
 
 reverse-cons : {X : Type 0} (x : X) (xs : List X) → reverse (x ∷ xs) ≡ reverse xs ++ x ∷ []
 reverse-cons x xs = reverse_onto xs x []
@@ -51,7 +51,7 @@ set-turned (y ∷ xs) (suc i) k x h =
     reverse-cons y (set xs i x) ∙ ap (λ t. t ++ y ∷ []) (set-turned xs i k x (omega (arith, h)))
     ∙ sym (set-append_left (reverse xs) (y ∷ []) k x (omega (arith, h, length-reverse xs))) ∙ ap (λ t. set t k x) (sym (reverse-cons y xs))
 
--- what a search over a list finds of the list from its end
+-- a search of a list, as a search of the reversed one
 
 no-both : (b : Bool) → b ≡ true → not b ≡ true → ⊥
 no-both true h k = cc
@@ -83,7 +83,7 @@ point-turned p q xs i k other at point = (
     off true e = cc
     off false e = refl
 
--- what is read of a list, from its end on
+-- reads of a list, from its end
 
 pub read-back : {X : Type 0} (xs ys : List X) (at : ℕ) (x : X) → reverse xs ≡ ys → 0 < at → at ≤ length xs → x ≡ get_or xs (at - 1) x → x ≡ get_or ys (length xs - at) x
 read-back xs ys at x e low high is = is ∙ sym (read-turned xs (at - 1) (length xs - at) x (omega (arith, low, high))) ∙ ap (λ zs. get_or zs (length xs - at) x) e

@@ -12,7 +12,7 @@ use Rattle.price_book.specs.Live.{ranked_live}
 use Rattle.price_book.specs.Rows.{rows_of}
 use Rattle.price_book.specs.Numbered.{IsListed}
 
--- the place of an instrument's side among all: by instrument, the bids first
+-- index of an instrument's side: by instrument, the bids first
 abbrev pub side_index : ℕ → Side → ℕ
 side_index x Buy = x * 2
 side_index x Sell = x * 2 + 1
@@ -20,16 +20,16 @@ side_index x Sell = x * 2 + 1
 abbrev pub rung_of : SideQueue → ℕ
 rung_of l = side_index l.instrument l.side
 
--- the rows of a ladder, the best first; it keeps the best last
+-- the rows of a side queue, best first; it stores the best last
 abbrev pub rows_in : SideQueue → List Row
 rows_in l = reverse l.rows.items
 
--- the rows of the ladder of a rung; none where it has no ladder
+-- the rows of the queue with this index; none without a queue
 abbrev pub held : ℕ → List SideQueue → List Row
 held n [] = []
 held n (l ∷ ls) = if n == rung_of l then rows_in l else held n ls
 
--- ladders that stand by their rungs, one to a rung
+-- side queues in order of their indices, one an index
 abbrev pub AreOrdered : ℕ → List SideQueue → Type 0
 AreOrdered low [] = ⊤
 AreOrdered low (l ∷ ls) = (low ≤ rung_of l) × AreOrdered (rung_of l + 1) ls
@@ -38,32 +38,33 @@ pub AreOrdered-prop : (low : ℕ) (ls : List SideQueue) → IsProp (AreOrdered l
 AreOrdered-prop low [] = Unit-prop
 AreOrdered-prop low (l ∷ ls) = ×_prop le_prop (AreOrdered-prop (rung_of l + 1) ls)
 
--- no ladder is of this rung
+-- no side queue has this index
 abbrev pub Lacks : ℕ → List SideQueue → Type 0
 Lacks n [] = Unit {0}
 Lacks n (l ∷ ls) = ((n == rung_of l) ≡ false) × Lacks n ls
 
--- the ladder of a rung stands at a place
+-- the side queue with this index is at this place
 abbrev pub IsLadder : ℕ → List SideQueue → ℕ → Type 0
 IsLadder n ls k = (k < length ls) × ((d : SideQueue) → rung_of (get_or ls k d) ≡ n)
 
--- how many ladders are of lower rungs
+-- the number of side queues with lesser indices
 abbrev pub lower : ℕ → List SideQueue → ℕ
 lower n [] = 0
 lower n (l ∷ ls) = if nat_lt (rung_of l) n then suc (lower n ls) else 0
 
--- each ladder has the orders of its instrument and side, ranked
+-- each side queue has the orders of its instrument and side, ranked
 abbrev pub AreLadders : List Resting → List SideQueue → Type 0
 AreLadders rs ls = (x : ℕ) (side : Side) → held (side_index x side) ls ≡ rows_of (ranked_live x side rs)
 
--- the orders that are kept are these, by number, by name and by ladder
+-- the stored orders are these: by number, by name and by side
 pub record IsConsistent (rs : List Resting) (o : RestingOrders) : Type 0 where
   pub listed : IsListed rs o.stored_orders.entries o.names.items
   pub ordered : AreOrdered 0 o.side_queues.items
   pub side_queues : AreLadders rs o.side_queues.items
   pub empty : o.spare.items ≡ []
 
--- so many orders, one or none, may enter with no memory: each ladder has a place, and there is one for a ladder more
+-- n orders, 0 or 1, may enter without allocation: each side queue has a free place, and there is one for a further
+-- queue
 pub record HasCapacity (n : ℕ) (o : RestingOrders) : Type 0 where
   pub one : n ≤ 1
   pub stored_orders : n ≤ unused o.stored_orders

@@ -10,16 +10,16 @@ use Rattle.venue_rules.specs.Book.{Resting, is_better, rests, resting}
 use Rattle.price_book.specs.Live.{whole_order, reduced, without}
 use Rattle.price_book.specs.Known.{IsKnown, Fits}
 
--- an order put behind those that it is not better than, as a latest entry is
+-- an order put behind those that it does not beat, as the latest entry is
 abbrev pub rank_last : Side → Resting → List Resting → List Resting
 rank_last side r [] = r ∷ []
 rank_last side r (s ∷ ss) = if is_better side r.entry.order.price s.entry.order.price then r ∷ s ∷ ss else s ∷ rank_last side r ss
 
--- an order that enters stands behind all of its side that are as good, where it may rest
+-- an entering order goes behind all of its side that are as good, where it may rest
 abbrev pub EntryRanks : Type 0
 EntryRanks = (facts : List Fact) (e : Entry) (x : ℕ) (side : Side) → IsKnown facts → Fits facts (Entered e) → resting (facts ++ Entered e ∷ []) x side ≡ cond (rests x side (whole_order e)) (rank_last side (whole_order e) (resting facts x side)) (resting facts x side)
 
--- a trade takes its quantity off its two orders where they stand
+-- a trade reduces its two orders in place
 abbrev pub TradeRanks : Type 0
 TradeRanks = (facts : List Fact) (t : Trade) (a b x : ℕ) (side : Side) → IsKnown facts → t.place ≡ InBook a b → Fits facts (Traded t) → resting (facts ++ Traded t ∷ []) x side ≡ reduced b t.quantity (reduced a t.quantity (resting facts x side))
 

@@ -1,4 +1,4 @@
-//! What each fact does to the orders that rest.
+//! The effect of each fact on the resting orders.
 ghost use Rattle.std.specs.Prelude.{◌≡◌, ℕ, ◌≤◌, length, true, List, [], IfOk};
 ghost use Rattle.venue_rules.specs.Book.{Resting, side_capacity};
 ghost use Rattle.venue_rules.specs.Facts.{entries};
@@ -23,10 +23,9 @@ use std::alloc::{AllocError, Global};
 use std::collections::HashMap;
 use venue_rules::{Fact, Trade, TradeSource};
 
-// No more orders rest.
+// Most orders that may rest.
 const MAX_ENTRIES: usize = 0xffff_ffff;
 
-/// No orders.
 pub(crate) fn no_orders(alloc: Global) -> RestingOrders
     ensures step { IsConsistent [] result }
     ensures headroom { HasCapacity 0 result }
@@ -40,7 +39,7 @@ pub(crate) fn no_orders(alloc: Global) -> RestingOrders
     }
 }
 
-/// Makes room for one order more on any side.
+/// Reserves capacity for a further order on any side.
 pub(crate) fn reserve(orders: &mut RestingOrders) -> Result<(), AllocError>
     requires empty { orders.old.spare.items ≡ [] }
     requires places { (x : ℕ) (side : Side) → length (held (side_index x side) orders.old.side_queues.items) ≤ side_capacity }
@@ -58,7 +57,7 @@ pub(crate) fn reserve(orders: &mut RestingOrders) -> Result<(), AllocError>
     Ok(())
 }
 
-// An order enters with what is left of it; it rests where it may.
+// Enters an order with its leaves quantity; it rests where it may.
 fn enter(orders: &mut RestingOrders, order: Lent<'_>)
     requires step { (rs : List Resting) × IsConsistent rs orders.old }
     requires headroom { HasCapacity 1 orders.old }
@@ -82,7 +81,7 @@ fn enter(orders: &mut RestingOrders, order: Lent<'_>)
     }
 }
 
-// The order of this number is gone.
+// Removes the order with this number.
 fn leave(orders: &mut RestingOrders, number: u64)
     requires { (rs : List Resting) × IsConsistent rs orders.old }
     ensures step { (rs : List Resting) → IsConsistent rs orders.old → IsConsistent (without number rs) orders.new }
@@ -100,7 +99,7 @@ fn leave(orders: &mut RestingOrders, number: u64)
     remove_name(&mut orders.names, stored_order.hash_key, number);
 }
 
-// So much less is left of the order of this number; it is gone where nothing is.
+// Reduces the order with this number; removes it at leaves quantity 0.
 fn reduce(orders: &mut RestingOrders, number: u64, quantity: u64)
     requires { (rs : List Resting) × IsConsistent rs orders.old }
     ensures step { (rs : List Resting) → IsConsistent rs orders.old → IsConsistent (reduced number quantity rs) orders.new }
@@ -127,7 +126,7 @@ fn reduce(orders: &mut RestingOrders, number: u64, quantity: u64)
     reduce_stored_order(&mut orders.stored_orders, number, quantity);
 }
 
-// A trade leaves less of both its orders.
+// Reduces both orders of a trade.
 fn trade(orders: &mut RestingOrders, trade: &Trade)
     requires { (rs : List Resting) × IsConsistent rs orders.old }
     ensures step { (rs : List Resting) → IsConsistent rs orders.old → IsConsistent (traded_of trade.now rs) orders.new }
@@ -139,7 +138,7 @@ fn trade(orders: &mut RestingOrders, trade: &Trade)
     }
 }
 
-// What a fact does to the orders that rest before an order enters.
+// The effect of a fact, before an order enters.
 fn change(orders: &mut RestingOrders, fact: &Fact)
     requires { (rs : List Resting) × IsConsistent rs orders.old }
     ensures step { (rs : List Resting) → IsConsistent rs orders.old → IsConsistent (change rs fact.now) orders.new }
@@ -152,8 +151,8 @@ fn change(orders: &mut RestingOrders, fact: &Fact)
     }
 }
 
-/// Facts more, for whose order there is room. It enters last, with what its trades leave of it: one of which nothing is
-/// left is never put among those that rest.
+/// Adds facts, within reserved capacity. The order enters last, with its leaves quantity after its trades: a filled
+/// order is never put among the resting ones.
 pub(crate) fn add_facts(orders: &mut RestingOrders, facts: &[Fact])
     requires step { (rs : List Resting) × AreLedgers rs facts.now × IsConsistent rs orders.old }
     requires headroom { HasCapacity (length (entries facts.now)) orders.old }

@@ -1,4 +1,4 @@
-//! The order that facts enter, with what those behind its entry leave of it.
+//! The entering order of a plan's facts, with its leaves quantity after its trades.
 ghost use Rattle.std.specs.Prelude.{◌≡◌, ◌≤◌, true, option_map};
 ghost use Rattle.price_book.specs.Kept.{are_whole};
 ghost use Rattle.price_book.specs.Live.{less_of, less_by, left_after, left_behind, entering};
@@ -8,7 +8,7 @@ use crate::reading::entry_in;
 use crate::resting::Resting;
 use venue_rules::{Fact, Trade, TradeSource};
 
-// What is left of an order of which so much was left, where so much less is left of the order of a number.
+// The order's leaves quantity, where the order with this number loses a quantity.
 fn less_of(order: u64, number: u64, quantity: u64, left: u64) -> u64
     ensures value { result ≡ less_of order number quantity left }
     ensures bound { result ≤ left }
@@ -20,7 +20,7 @@ fn less_of(order: u64, number: u64, quantity: u64, left: u64) -> u64
     }
 }
 
-// What a trade leaves of an order.
+// The order's leaves quantity after a trade.
 fn less_by(order: u64, trade: &Trade, left: u64) -> u64
     ensures value { result ≡ less_by order trade.now.place trade.now.quantity left }
     ensures bound { result ≤ left }
@@ -35,7 +35,7 @@ fn less_by(order: u64, trade: &Trade, left: u64) -> u64
     }
 }
 
-// What a fact leaves of an order.
+// The order's leaves quantity after a fact.
 fn left_after(order: u64, fact: &Fact, left: u64) -> u64
     ensures value { result ≡ left_after order left fact.now }
     ensures bound { result ≤ left }
@@ -47,7 +47,7 @@ fn left_after(order: u64, fact: &Fact, left: u64) -> u64
     }
 }
 
-// What facts leave of an order, of which there was so much.
+// The order's leaves quantity after these facts, from `quantity`.
 fn left_behind(order: u64, quantity: u64, facts: &[Fact]) -> u64
     ensures value { result ≡ left_behind order quantity facts.now }
     ensures bound { result ≤ quantity }
@@ -59,7 +59,7 @@ fn left_behind(order: u64, quantity: u64, facts: &[Fact]) -> u64
     left
 }
 
-/// The order that the facts enter, with what those behind its entry leave of it.
+/// The entering order of the facts, with its leaves quantity after the facts behind its entry.
 pub(crate) fn entering(facts: &[Fact]) -> Option<Resting<'_>>
     requires { are_whole facts.now ≡ true }
     ensures { option_map seen result ≡ entering facts.now }

@@ -1,4 +1,4 @@
-//! The facts that were, for contracts alone: they take no room.
+//! Past facts as ghost state, without memory at run time.
 ghost use Rattle.std.specs.Prelude.{◌≡◌, [], ◌++◌};
 ghost use Rattle.price_book.specs.GhostHistory.{facts_in};
 
@@ -6,7 +6,7 @@ use std::mem;
 use std::snapshot::Snapshot;
 use venue_rules::Fact;
 
-/// A list of facts that contracts see whole, and of which nothing is kept.
+/// A list of facts for contracts; nothing of it is kept at run time.
 #[derive(Drop)]
 pub(crate) enum GhostHistory {
     Nothing,
@@ -23,7 +23,6 @@ impl GhostHistory {
         GhostHistory::Nothing
     }
 
-    /// Facts more.
     pub(crate) fn add(&mut self, facts: &Vec<Fact>)
         ensures { facts_in self.new ≡ facts_in self.old ++ facts.now.items }
     {

@@ -1,6 +1,6 @@
-//! An order's number beside the mark of its name.
+//! An order's number with the hash key of its name.
 
-/// The number of an order, and the mark of the name by which it is known.
+/// Number of an order, and the hash key of its current name.
 #[derive(Clone, Copy)]
 pub(crate) struct IdKey {
     pub(crate) hash_key: u64,

@@ -1,10 +1,10 @@
-//! An element comes to a place in a list.
+//! Insertion into a list.
 ghost use Rattle.std.specs.Prelude.{◌≡◌, ◌≤◌, ◌<◌, ◌+◌};
 ghost use Rattle.std.specs.List.{insert};
 ghost use Rattle.std.specs.Vec.{vec_capacity, vec_len};
 
-/// An element comes to a place, for which there is room. It is added last and turned to its place: as this is compiled, those behind it
-/// then move by `memmove`, and by `Vec::insert` one after the other.
+/// Inserts at a place, within reserved capacity, as push and rotate: that compiles to one `memmove`, while
+/// `Vec::insert` moves the elements one by one.
 pub(crate) fn insert_at<T>(items: &mut Vec<T>, at: usize, item: T)
     requires within { at ≤ vec_len items.old }
     requires headroom { vec_len items.old < vec_capacity items.old }

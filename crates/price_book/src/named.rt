@@ -1,4 +1,4 @@
-//! The keys of the orders that rest, in the order of their names.
+//! Keys of the resting orders, sorted by name.
 ghost use Rattle.std.specs.Prelude.{◌≡◌, ℕ, ◌≤◌, ◌<◌, ◌+◌, ◌^◌, ◌∷◌, [], ◌++◌, Bool, List, length, slice_index_or};
 ghost use Rattle.std.specs.List.{remove};
 ghost use Rattle.std.specs.Vec.{vec_capacity, vec_len};
@@ -17,7 +17,7 @@ use fix_dictionary::Identifier;
 use participants::Who;
 use venue_rules::Entry;
 
-/// Where the keys of a name begin, whether there is one, and how many were looked at.
+/// The first place of a name's keys, whether there is one, and the number of keys compared.
 pub(crate) fn place(
     stored_orders: &Numbered,
     keys: &[IdKey],
@@ -38,7 +38,7 @@ pub(crate) fn place(
     (place, found, probe.count as u32)
 }
 
-// The place behind the keys whose names are no greater ones.
+// The place after the keys whose names are not greater.
 fn behind(
     stored_orders: &Numbered,
     keys: &[IdKey],
@@ -60,7 +60,7 @@ fn behind(
     at
 }
 
-// Where the key of a number stands, from a place on.
+// The place of a number's key, from a place on.
 fn spot(keys: &[IdKey], from: usize, number: u64) -> usize
     requires { (i : ℕ) × (from ≤ i) × (i < length keys.now) × ((slice_index_or keys.now i no_key).number ≡ number) }
     ensures within { result < length keys.now }
@@ -74,7 +74,7 @@ fn spot(keys: &[IdKey], from: usize, number: u64) -> usize
     0
 }
 
-/// The key of an order more, of which the name has this mark, and for which there is room.
+/// Adds an order's key, with the hash key of its name, within reserved capacity.
 pub(crate) fn add_name(
     stored_orders: &Numbered,
     keys: &mut Vec<IdKey>,
@@ -100,7 +100,7 @@ pub(crate) fn add_name(
     insert_at(keys, at, IdKey { hash_key, number });
 }
 
-// How many keys have a lesser mark.
+// The number of keys with a lesser hash key.
 fn lesser(keys: &[IdKey], hash_key: u64) -> usize
     requires { AreRisingHashKeys keys.now }
     ensures within { result ≤ length keys.now }
@@ -109,7 +109,7 @@ fn lesser(keys: &[IdKey], hash_key: u64) -> usize
     keys.partition_point(|key| key.hash_key < hash_key)
 }
 
-/// The key of this mark and number is gone.
+/// Removes the key with this hash key and number.
 pub(crate) fn remove_name(keys: &mut Vec<IdKey>, hash_key: u64, number: u64)
     requires { (rs : List Resting) × Ledger 0 rs × IsNamed rs keys.old.items × (k : ℕ) × IsKeyAt rs hash_key number k }
     ensures named { (rs : List Resting) (k : ℕ) → Ledger 0 rs → IsKeyAt rs hash_key number k → IsNamed rs keys.old.items → IsNamed (remove rs k) keys.new.items }

@@ -1,4 +1,4 @@
-//! The orders that rest, by their numbers.
+//! Resting orders by number.
 ghost use Rattle.std.specs.Prelude.{◌≡◌, ◌≤◌, ◌<◌, true, List, IfOk};
 ghost use Rattle.std.specs.HashMap.{spare};
 ghost use Rattle.venue_rules.specs.Book.{Resting};
@@ -16,10 +16,10 @@ use std::collections::HashMap;
 use std::hash::{BuildHasherDefault, FoldHasher};
 use venue_rules::{Entry, OrderFact};
 
-/// Orders, each found by its number, whatever the count of them.
+/// Orders by number, with constant-time lookup.
 pub(crate) type Numbered = HashMap<u64, StoredOrder, BuildHasherDefault<FoldHasher>, Global>;
 
-/// Makes room for an order more.
+/// Reserves capacity for a further order.
 pub(crate) fn reserve_stored_orders(stored_orders: &mut Numbered) -> Result<(), AllocError>
     ensures kept { (rs : List Resting) → IsNumbered rs stored_orders.old.entries → IsNumbered rs stored_orders.new.entries }
     ensures headroom { IfOk result (λ _. 1 ≤ spare stored_orders.new) }
@@ -28,7 +28,7 @@ pub(crate) fn reserve_stored_orders(stored_orders: &mut Numbered) -> Result<(), 
     stored_orders.reserve(1)
 }
 
-/// An order more, of which the name has this mark, for which there is room.
+/// Adds an order, with the hash key of its name, within reserved capacity.
 pub(crate) fn put(stored_orders: &mut Numbered, order: Lent<'_>, hash_key: u64)
     requires headroom { 1 ≤ spare stored_orders.old }
     requires hash_key { hash_key ≡ hash_key_of order.entry.now.order.who order.entry.now.order.id }
@@ -38,7 +38,7 @@ pub(crate) fn put(stored_orders: &mut Numbered, order: Lent<'_>, hash_key: u64)
     let _before = stored_orders.insert(order.entry.number, stored_order_of(order, hash_key));
 }
 
-/// So much less is left of the order of this number, of which more is left.
+/// Reduces the order with this number, by less than its leaves quantity.
 pub(crate) fn reduce_stored_order(stored_orders: &mut Numbered, number: u64, quantity: u64)
     requires { IsLeft quantity stored_orders.old.entries number }
     ensures stored_orders { (rs : List Resting) → Ledger 0 rs → IsNumbered rs stored_orders.old.entries → IsNumbered (reduced number quantity rs) stored_orders.new.entries }
@@ -49,7 +49,6 @@ pub(crate) fn reduce_stored_order(stored_orders: &mut Numbered, number: u64, qua
     }
 }
 
-/// Takes the order of this number out, if there is one.
 pub(crate) fn take(stored_orders: &mut Numbered, number: u64) -> Option<StoredOrder>
     ensures value { result ≡ slot_at stored_orders.old.entries number }
     ensures stored_orders { (rs : List Resting) → Ledger 0 rs → IsNumbered rs stored_orders.old.entries → IsNumbered (without number rs) stored_orders.new.entries }

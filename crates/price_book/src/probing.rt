@@ -1,4 +1,4 @@
-//! The keys of orders, in the order of their names, as a search looks at them.
+//! Keys of orders, as a search by name compares them.
 ghost use Rattle.std.specs.Prelude.{◌≡◌, ℕ, ◌<◌, List, length};
 ghost use Rattle.client_ids.specs.ClientIds.{spelled_order, lowered};
 ghost use Rattle.price_book.specs.Live.{entry_name};
@@ -12,7 +12,7 @@ use participants::Who;
 use std::cmp::Ordering;
 use venue_rules::Entry;
 
-// How the name of an order compares with a participant's identifier as they are spelled: by participant, then by the bytes.
+// By participant, then by bytes.
 fn compare_spelled(entry: &Entry, who: Who, id: &Identifier) -> Ordering
     ensures { result ≡ spelled_order (entry_name entry.now) who id.now }
 {
@@ -23,7 +23,7 @@ fn compare_spelled(entry: &Entry, who: Who, id: &Identifier) -> Ordering
     }
 }
 
-// The same for the order of a number.
+// The same for the order with this number.
 fn compare_number(stored_orders: &Numbered, number: u64, who: Who, id: &Identifier) -> Ordering
     ensures { result ≡ slot_order (slot_at stored_orders.now.entries number) who id.now }
 {
@@ -43,7 +43,8 @@ fn lowered(order: Ordering) -> Ordering
 }
 
 #[derive(Drop)]
-/// Keys, to find the first place of a name of this mark. An order is looked up only where the marks do not decide.
+/// Probe of keys for the first place of a name with this hash key. Looks an order up only where the hash keys are
+/// equal.
 pub(crate) struct FirstProbe<'a> {
     pub(crate) stored_orders: &'a Numbered,
     pub(crate) keys: &'a [IdKey],
@@ -74,7 +75,7 @@ impl<'a> Probe for FirstProbe<'a> {
 }
 
 #[derive(Drop)]
-/// Keys, to find the place behind a name of this mark. An order is looked up only where the marks do not decide.
+/// Probe of keys for the place after a name with this hash key. Looks an order up only where the hash keys are equal.
 pub(crate) struct LastProbe<'a> {
     pub(crate) stored_orders: &'a Numbered,
     pub(crate) keys: &'a [IdKey],

@@ -1,4 +1,5 @@
-//! A book that keeps the facts of its day as a list and reads everything off them: the plain program that the book is compared with.
+//! Reference implementation: a plain book that keeps the day's facts as a list. Differential tests compare the book
+//! with it.
 
 mod body;
 mod entering;

@@ -1,4 +1,4 @@
-//! The orders that rest, as the book keeps them.
+//! The resting orders, as the book keeps them.
 
 use crate::id_key::IdKey;
 use crate::numbered::Numbered;
@@ -6,8 +6,7 @@ use crate::rows::Rows;
 use crate::side_queue::SideQueue;
 use std::alloc::Global;
 
-/// The orders that rest: by their numbers, with their keys in the order of their names, and side by side, as they are ranked. The
-/// spare rows are for a ladder more.
+/// By number, by name (as sorted keys), and by side in price-time priority. The spare rows serve a further side queue.
 #[derive(Drop)]
 pub(crate) struct RestingOrders {
     pub(crate) alloc: Global,

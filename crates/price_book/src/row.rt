@@ -1,8 +1,8 @@
-//! An order as it stands on its side.
+//! An order as an element of its side queue.
 
 use fix_dictionary::{Amount, Price};
 
-/// An order that rests, as it stands on its side: its number, its price and what is left of it.
+/// A resting order's number, price and leaves quantity.
 #[derive(Clone, Copy)]
 pub(crate) struct Row {
     pub(crate) number: u64,
@@ -10,7 +10,7 @@ pub(crate) struct Row {
     pub(crate) left: Amount,
 }
 
-/// What ranks an order on its side (price-time priority): its price, and at one price its number, since numbers rise as orders enter.
+/// Price-time priority on a side: price, then number, since numbers rise with entries.
 #[derive(Clone, Copy)]
 pub(crate) struct Priority {
     pub(crate) number: u64,

@@ -1,5 +1,5 @@
-//! The orders of a side as they are ranked, the best last: where one stands, and what an entry, a trade and a removal do
-//! to them. None has to move where one comes or goes at the end, as the best does, which trades first.
+//! A side's orders in price-time priority, the best last: lookup, and the steps of an entry, a trade and a removal. The
+//! best order trades first, and at the end of the list no other has to move.
 ghost use Rattle.std.specs.Prelude.{◌≡◌, ℕ, ◌≤◌, ◌<◌, ◌+◌, [], length, slice_index_or, reverse, IfOk};
 ghost use Rattle.std.specs.List.{insert, remove};
 ghost use Rattle.price_book.specs.Rows.{row_of, ranks_before, AreRanked, IsRow, behind, put_last, cut_at};
@@ -13,8 +13,8 @@ use fix_dictionary::{Amount, Price, Side};
 use std::alloc::{AllocError, Global};
 use std::marker::Model;
 
-/// The orders of a side. What ranks them and what is left of them lie apart: a search reads the first alone, and both have elements of
-/// whole words, which move faster than rows of 24 bytes where an order comes or goes.
+/// A side's orders, with priorities and leaves quantities in two lists. A search reads the priorities alone, and
+/// elements of whole words move faster than rows of 24 bytes.
 #[derive(Drop)]
 pub(crate) struct Rows {
     priorities: Vec<Priority>,
@@ -32,7 +32,6 @@ impl Model for Rows {
 }
 
 impl Rows {
-    /// No orders.
     pub(crate) fn new(alloc: Global) -> Rows
         ensures { result.items ≡ [] }
     {
@@ -42,14 +41,12 @@ impl Rows {
         }
     }
 
-    /// How many orders there are.
     pub(crate) fn len(&self) -> usize
         ensures { result ≡ length self.now.items }
     {
         self.left.len()
     }
 
-    /// The order at a place.
     pub(crate) fn row(&self, at: usize) -> Row
         requires { at < length self.now.items }
         ensures { result ≡ slice_index_or self.now.items at result }
@@ -62,7 +59,7 @@ impl Rows {
         }
     }
 
-    /// Makes room for so many orders more.
+    /// Reserves capacity for this many further orders.
     pub(crate) fn reserve(&mut self, more: usize) -> Result<(), AllocError>
         ensures items { self.new.items ≡ self.old.items }
         ensures headroom { IfOk result (λ _. length self.old.items + more ≤ self.new.capacity) }
@@ -73,7 +70,7 @@ impl Rows {
         Ok(())
     }
 
-    // An order comes to a place, for which there is room.
+    // Inserts an order at a place, within reserved capacity.
     fn insert(&mut self, at: usize, row: Row)
         requires within { at ≤ length self.old.items }
         requires headroom { length self.old.items < self.old.capacity }
@@ -88,7 +85,7 @@ impl Rows {
         insert_at(&mut self.left, at, row.left);
     }
 
-    // So much less is left of the order at a place.
+    // Reduces the order at a place.
     fn reduce(&mut self, at: usize, quantity: u64)
         requires { at < length self.old.items }
         ensures items { self.new.items ≡ cut_at at quantity self.old.items }
@@ -98,7 +95,6 @@ impl Rows {
         *left = Amount::new(left.get().saturating_sub(quantity));
     }
 
-    // The order at a place goes.
     fn remove(&mut self, at: usize)
         requires { at < length self.old.items }
         ensures items { self.new.items ≡ remove self.old.items at }
@@ -109,7 +105,7 @@ impl Rows {
     }
 }
 
-/// An order, as it stands on its side.
+/// A resting order as a row.
 pub(crate) fn row_of(order: Resting<'_>) -> Row
     ensures { result ≡ row_of (seen order.entry) }
 {
@@ -120,7 +116,8 @@ pub(crate) fn row_of(order: Resting<'_>) -> Row
     }
 }
 
-// Whether an order stands before one of this price and number: it is better, or as good and earlier.
+// Whether an order ranks before one with this price and number: at a better price, or at the same price with a lesser
+// number.
 fn ranks_before(side: Side, price: Price, number: u64, order: &Priority) -> bool
     ensures { result ≡ ranks_before side price number order.now }
 {
@@ -128,7 +125,7 @@ fn ranks_before(side: Side, price: Price, number: u64, order: &Priority) -> bool
         || (order.number < number && !is_better(side, price, order.price))
 }
 
-// Where the order of this number and price stands on a side: the last of those that do not come before it.
+// The place of the order with this number and price: the last that does not rank after it.
 fn place_of(rows: &Rows, side: Side, price: Price, number: u64) -> usize
     requires ranked { AreRanked side (reverse rows.now.items) }
     requires there { (k : ℕ) × IsRow number price (reverse rows.now.items) k }
@@ -140,7 +137,7 @@ fn place_of(rows: &Rows, side: Side, price: Price, number: u64) -> usize
     count - 1
 }
 
-// How many orders of a side are worse than one of this price.
+// The number of orders worse than this price.
 fn worse(rows: &Rows, side: Side, price: Price) -> usize
     requires { AreRanked side (reverse rows.now.items) }
     ensures { result + behind side price (reverse rows.now.items) ≡ length rows.now.items }
@@ -149,7 +146,7 @@ fn worse(rows: &Rows, side: Side, price: Price) -> usize
         .partition_point(|order| is_better(side, price, order.price))
 }
 
-/// An order that enters stands behind all of its side that are as good, and before all that are worse.
+/// Puts an entering order behind all that are as good, and before all that are worse.
 pub(crate) fn put_last(rows: &mut Rows, side: Side, row: Row)
     requires headroom { length rows.old.items < rows.old.capacity }
     requires ranked { AreRanked side (reverse rows.old.items) }
@@ -160,7 +157,7 @@ pub(crate) fn put_last(rows: &mut Rows, side: Side, row: Row)
     rows.insert(at, row);
 }
 
-/// So much less is left of the order of this number and price.
+/// Reduces the order with this number and price.
 pub(crate) fn cut(rows: &mut Rows, side: Side, price: Price, number: u64, quantity: u64)
     requires ranked { AreRanked side (reverse rows.old.items) }
     requires there { (k : ℕ) × IsRow number price (reverse rows.old.items) k }
@@ -171,7 +168,7 @@ pub(crate) fn cut(rows: &mut Rows, side: Side, price: Price, number: u64, quanti
     rows.reduce(at, quantity);
 }
 
-/// The order of this number and price is gone.
+/// Removes the order with this number and price.
 pub(crate) fn take_out(rows: &mut Rows, side: Side, price: Price, number: u64)
     requires ranked { AreRanked side (reverse rows.old.items) }
     requires there { (k : ℕ) × IsRow number price (reverse rows.old.items) k }

@@ -5,8 +5,8 @@ ghost use Rattle.venue_rules.specs.Book.{side_capacity};
 use crate::rows::Rows;
 use fix_dictionary::Side;
 
-/// The orders that rest in an instrument and on a side, the best last, with room for as many as may rest and one that
-/// enters.
+/// The resting orders of an instrument and a side, the best last, with capacity for the most that may rest and an
+/// entering one.
 #[derive(Drop)]
 pub(crate) struct SideQueue {
     pub(crate) instrument: u32,

@@ -1,4 +1,4 @@
-//! The orders that rest, side by side: finding a side, and what an entry, a trade and a removal do to it.
+//! Side queues: lookup, and the steps of an entry, a trade and a removal.
 ghost use Rattle.std.specs.Prelude.{◌≡◌, ◌≤◌, ◌<◌, ◌+◌, ◌==◌, ℕ, length, [], if◌then◌else◌, MatchOption};
 ghost use Rattle.std.specs.List.{remove};
 ghost use Rattle.std.specs.Vec.{vec_capacity, vec_len};
@@ -13,7 +13,7 @@ use fix_dictionary::{Price, Side};
 use std::alloc::Global;
 use std::mem;
 
-// The place of an instrument's side among all.
+// Index of an instrument's side among all sides.
 fn side_index(instrument: u32, side: Side) -> u64
     ensures { result ≡ side_index instrument side }
 {
@@ -23,7 +23,7 @@ fn side_index(instrument: u32, side: Side) -> u64
     }
 }
 
-// How many ladders stand before a rung.
+// The number of side queues with a lesser index.
 fn lower(side_queues: &[SideQueue], wanted: u64) -> usize
     requires { AreOrdered 0 side_queues.now }
     ensures { result ≡ lower wanted side_queues.now }
@@ -42,7 +42,7 @@ fn lower(side_queues: &[SideQueue], wanted: u64) -> usize
     low
 }
 
-/// Where the ladder of an instrument's side stands.
+/// The place of the queue of an instrument's side.
 pub(crate) fn find_side_queue(
     side_queues: &[SideQueue],
     instrument: u32,
@@ -62,7 +62,7 @@ pub(crate) fn find_side_queue(
     None
 }
 
-// A ladder without orders, for a side that has none; answers where it stands.
+// Inserts an empty queue for a side that has none; gives its place.
 fn open(side_queues: &mut Vec<SideQueue>, rows: Rows, instrument: u32, side: Side) -> usize
     requires headroom { vec_len side_queues.old < vec_capacity side_queues.old }
     requires places { side_capacity < rows.capacity }
@@ -87,7 +87,7 @@ fn open(side_queues: &mut Vec<SideQueue>, rows: Rows, instrument: u32, side: Sid
     at
 }
 
-/// An order takes its place on a side.
+/// Puts an order on its side.
 pub(crate) fn enter_side_queue(
     alloc: Global,
     side_queues: &mut Vec<SideQueue>,
@@ -117,7 +117,7 @@ pub(crate) fn enter_side_queue(
     put_last(&mut side_queues[at].rows, side, row);
 }
 
-/// So much less is left of the order of this price and number on a side.
+/// Reduces the order with this price and number on a side.
 pub(crate) fn reduce_side_queue(
     side_queues: &mut Vec<SideQueue>,
     instrument: u32,
@@ -139,7 +139,7 @@ pub(crate) fn reduce_side_queue(
     }
 }
 
-/// The order of this price and number on a side is gone.
+/// Removes the order with this price and number from a side.
 pub(crate) fn leave_side_queue(
     side_queues: &mut Vec<SideQueue>,
     instrument: u32,

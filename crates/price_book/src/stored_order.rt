@@ -1,10 +1,10 @@
-//! An order that rests, as the book keeps it.
+//! A resting order, as the book keeps it.
 ghost use Rattle.std.specs.Prelude.{◌≡◌, ◌≤◌, ◌+◌, ◌^◌};
 ghost use Rattle.client_ids.specs.ClientIds.{hash_key_of};
 
 use venue_rules::Entry;
 
-/// An order that rests, what is left of it, and the mark of its name.
+/// A resting order, its leaves quantity, and the hash key of its name.
 #[derive(Drop)]
 pub(crate) struct StoredOrder {
     pub(crate) entry: Entry,

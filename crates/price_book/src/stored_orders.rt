@@ -1,4 +1,4 @@
-//! An order that rests, as it is kept.
+//! Conversion of orders to stored ones.
 ghost use Rattle.std.specs.Prelude.{◌≡◌};
 ghost use Rattle.client_ids.specs.ClientIds.{hash_key_of};
 ghost use Rattle.price_book.specs.Live.{seen_slot};
@@ -8,7 +8,6 @@ use crate::resting::Resting;
 use crate::stored_order::StoredOrder;
 use venue_rules::Entry;
 
-/// The same entry again.
 pub(crate) fn copy_entry(entry: &Entry) -> Entry
     ensures { result ≡ entry.now }
 {
@@ -20,7 +19,7 @@ pub(crate) fn copy_entry(entry: &Entry) -> Entry
     }
 }
 
-/// An order of which the name has this mark, as it is kept.
+/// An order as stored, with the hash key of its name.
 pub(crate) fn stored_order_of(order: Resting<'_>, hash_key: u64) -> StoredOrder
     requires { hash_key ≡ hash_key_of order.entry.now.order.who order.entry.now.order.id }
     ensures { seen_slot result ≡ seen order.entry }

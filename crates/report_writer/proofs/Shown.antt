@@ -4,7 +4,7 @@ use Rattle.venue_rules.specs.declared.replies.SnapshotEntry.{SnapshotEntry}
 use Rattle.fix_dictionary.specs.declared.messages.MarketDataEntry.{MarketDataEntry}
 use Rattle.venue_rules.specs.Messages.{shown_entry, snapshot}
 
--- where something rests, each resting order is shown
+-- each resting order is shown, if any
 shown-some : (es : List SnapshotEntry) → (length es == 0) ≡ false → map shown_entry es ≡ snapshot es
 shown-some [] h = cc
 shown-some (e ∷ es) h = refl

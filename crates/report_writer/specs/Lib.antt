@@ -1,2 +1,2 @@
--- a reason as the definitions of the messages have it
+-- a reason, as the definitions of the messages have it
 pub mod Reasons

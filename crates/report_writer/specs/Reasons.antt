@@ -3,7 +3,7 @@ use Rattle.venue_rules.specs.Messages.{Reason, Status}
 use Rattle.report_writer.specs.declared.reason.Reason.{Reason as HeldReason}
 use Rattle.report_writer.specs.declared.status.Status.{Status as HeldStatus}
 
--- a reason, without where its text lies in memory
+-- a reason, without the address of its text
 abbrev pub seen : HeldReason → Reason
 seen r = record { code = r.code; text = r.text.now }
 

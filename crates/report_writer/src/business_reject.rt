@@ -1,4 +1,4 @@
-//! Messages that are read and not processed (BusinessMessageReject, j).
+//! BusinessMessageReject (j): messages read and not processed.
 ghost use Rattle.std.specs.Prelude.{◌≡◌, IfOk};
 ghost use Rattle.venue_rules.specs.declared.replies.ReplyBody.TheVariants as what;
 ghost use Rattle.venue_rules.specs.Messages.{message};

@@ -1,4 +1,4 @@
-//! Refusals of cancels and replacements (OrderCancelReject, 9).
+//! OrderCancelReject (9): refusals of cancels and replacements.
 ghost use Rattle.std.specs.Prelude.{◌≡◌, IfOk};
 ghost use Rattle.venue_rules.specs.declared.replies.ReplyBody.TheVariants as what;
 ghost use Rattle.venue_rules.specs.Messages.{message, response_to, standing_id, standing_status};

@@ -1,4 +1,4 @@
-//! The FIX message that each reply of the venue is sent as (FIX 5.0 SP2).
+//! The FIX message of each reply (FIX 5.0 SP2).
 #![tactic(auto)]
 
 mod business_reject;

@@ -15,7 +15,7 @@ use fix_dictionary::App;
 use std::alloc::{AllocError, Global};
 use venue_rules::{Reply, ReplyBody};
 
-/// The message that a reply is sent as.
+/// The message of a reply; fails only for an allocation failure.
 pub fn message_of(alloc: Global, reply: &Reply) -> Result<App, AllocError>
     ensures { IfOk result (λ app. app ≡ message reply.now.what) }
 {

@@ -1,4 +1,4 @@
-//! Reports on orders (ExecutionReport, 8).
+//! ExecutionReport (8): reports on orders.
 ghost use Rattle.std.specs.Prelude.{◌≡◌, IfOk};
 ghost use Rattle.venue_rules.specs.declared.replies.ReplyBody.TheVariants as what;
 ghost use Rattle.venue_rules.specs.Messages.{fill_status, message, open_status, refusal, report};
@@ -14,7 +14,7 @@ use venue_rules::{
     printed_identifier,
 };
 
-/// What every report on an order says, of this ExecType (150) and OrdStatus (39).
+/// Common part of the reports, with this ExecType (150) and OrdStatus (39).
 fn report(r: &OrderReport, kind: FixChar, status: FixChar) -> ExecutionReport
     ensures { result ≡ report r.now kind status }
 {
@@ -73,7 +73,7 @@ pub(crate) fn order_unfilled(r: &OrderReport) -> App
     App::ExecutionReport(report(r, FixChar::new(b'4'), FixChar::new(b'4')))
 }
 
-/// OrdStatus (39) after a fill: filled, or partly filled.
+/// OrdStatus (39) after a fill: filled or partially filled.
 fn fill_status(left: Amount) -> FixChar
     ensures { result ≡ fill_status left }
 {
@@ -84,7 +84,7 @@ fn fill_status(left: Amount) -> FixChar
     }
 }
 
-/// OrdStatus (39) of an order that rests: new, or partly filled.
+/// OrdStatus (39) of a resting order: new or partially filled.
 pub(crate) fn open_status(filled: Amount) -> FixChar
     ensures { result ≡ open_status filled }
 {

@@ -1,4 +1,4 @@
-//! Pictures of an instrument (MarketDataSnapshot, W), and refusals to show one (MarketDataRequestReject, Y).
+//! MarketDataSnapshot (W), the book snapshot of an instrument, and its refusal, MarketDataRequestReject (Y).
 ghost use Rattle.std.specs.Prelude.{◌≡◌, [], ◌∷◌, IfOk};
 ghost use Rattle.venue_rules.specs.declared.replies.ReplyBody.TheVariants as what;
 ghost use Rattle.venue_rules.specs.Messages.{entry_type, market_reason, message, shown_entry, snapshot};
@@ -34,7 +34,7 @@ fn shown_entry(entry: &SnapshotEntry) -> MarketDataEntry
     }
 }
 
-/// The entry of an instrument in which nothing rests.
+/// The entry of an instrument without resting orders.
 fn empty_book() -> MarketDataEntry
     ensures { result ∷ [] ≡ snapshot [] }
 {

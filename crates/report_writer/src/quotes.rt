@@ -1,4 +1,4 @@
-//! Quotes as the requester sees them (Quote, S), and what becomes of them (QuoteStatusReport, AI).
+//! Quote (S), as sent to the requester, and QuoteStatusReport (AI).
 ghost use Rattle.std.specs.Prelude.{◌≡◌, IfOk, option_map};
 ghost use Rattle.venue_rules.specs.declared.replies.ReplyBody.TheVariants as what;
 ghost use Rattle.venue_rules.specs.Messages.{message, status_of};
@@ -13,7 +13,7 @@ use fix_dictionary::{
 use std::alloc::{AllocError, Global};
 use venue_rules::{QuoteSent, QuoteState, QuoteStatus, printed_identifier};
 
-/// QuoteStatus (297), with the reason where a quote is refused.
+/// QuoteStatus (297), with the reason of a refusal.
 fn status_of(state: &QuoteState) -> Status
     ensures { seen_status result ≡ status_of state.now }
 {
@@ -46,7 +46,7 @@ pub(crate) fn quote_status(alloc: Global, r: &QuoteStatus) -> Result<App, AllocE
     }))
 }
 
-/// The quantity asked for as the size of a price that is given.
+/// The requested quantity, as the size of a price that is present.
 fn size(price: Option<Price>, quantity: Quantity) -> Option<Quantity>
     ensures { result ≡ option_map (λ _. quantity) price }
 {

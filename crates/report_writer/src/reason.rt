@@ -1,11 +1,11 @@
-//! A reason: its code and its text.
+//! Reason of a refusal.
 ghost use Rattle.std.specs.Prelude.{◌≡◌, ◌≤◌, ◌<◌, true, IfOk, IsTrue};
 ghost use Rattle.fix_dictionary.specs.Values.{IsText, is_graphic};
 
 use fix_dictionary::{FixInt, Text};
 use std::alloc::{AllocError, Global};
 
-/// The code of a refusal in its field of the message, and what is said in Text (58).
+/// The refusal's code, in its field of the message, and its Text (58).
 #[derive(Clone, Copy)]
 pub(crate) struct Reason {
     pub code: u8,
@@ -22,7 +22,6 @@ impl Reason {
         Reason { code, text }
     }
 
-    /// The code as an integer.
     pub fn number(self) -> FixInt
         ensures { result ≡ self.code }
     {

@@ -1,4 +1,4 @@
-//! Why a message was refused: the reason's code and its text.
+//! Reason codes and texts of refusals.
 ghost use Rattle.std.specs.Prelude.{◌≡◌, ◌≤◌, IfOk, true};
 ghost use Rattle.venue_rules.specs.Messages.{order_reason, change_reason, cross_reason, request_reason, quote_reason, response_reason, market_reason, business_reason};
 ghost use Rattle.report_writer.specs.Reasons.{seen};
@@ -93,7 +93,7 @@ pub(crate) fn quote_reason(cause: QuoteRefusal) -> Reason
     }
 }
 
-/// QuoteRejectReason (300) of an answer.
+/// QuoteRejectReason (300) of a quote response.
 pub(crate) fn response_reason(cause: ResponseRefusal) -> Reason
     ensures { seen result ≡ response_reason cause }
 {

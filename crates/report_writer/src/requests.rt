@@ -1,4 +1,4 @@
-//! Requests for quotes as a recipient sees them (QuoteRequest, R), and their refusals (QuoteRequestReject, AG).
+//! QuoteRequest (R), as sent to a recipient, and its refusal, QuoteRequestReject (AG).
 ghost use Rattle.std.specs.Prelude.{◌≡◌, IfOk};
 ghost use Rattle.venue_rules.specs.declared.replies.ReplyBody.TheVariants as what;
 ghost use Rattle.venue_rules.specs.Messages.{message};

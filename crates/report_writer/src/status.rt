@@ -1,11 +1,11 @@
-//! A quote's state as it is printed.
+//! A quote's state as reported.
 ghost use Rattle.std.specs.Prelude.{◌≡◌, IfOk, option_map};
 
 use crate::reason::Reason;
 use fix_dictionary::{FixInt, Text};
 use std::alloc::{AllocError, Global};
 
-/// QuoteStatus (297), with the reason where a quote is refused.
+/// QuoteStatus (297), with the reason of a refusal.
 #[derive(Clone, Copy)]
 pub(crate) struct Status {
     pub code: u8,
@@ -20,14 +20,13 @@ impl Status {
         Status { code, reason }
     }
 
-    /// The status as an integer.
     pub fn number(self) -> FixInt
         ensures { result ≡ self.code }
     {
         FixInt::new(u32::from(self.code))
     }
 
-    /// The code of the reason, where there is one.
+    /// QuoteRejectReason (300), if any.
     pub fn reject_reason(self) -> Option<FixInt>
         ensures { result ≡ option_map (λ w. w.code) self.reason }
     {
@@ -37,7 +36,7 @@ impl Status {
         }
     }
 
-    /// The text of the reason, where there is one.
+    /// Text (58), if any.
     pub fn text(self, alloc: Global) -> Result<Option<Text>, AllocError>
         ensures { IfOk result (λ text. text ≡ option_map (λ w. w.text.now) self.reason) }
     {

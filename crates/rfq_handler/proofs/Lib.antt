@@ -1,6 +1,6 @@
 -- lists of replies, and facts
 pub mod Lists
--- what is known of rooms by their plans
+-- rooms, by their plans
 pub mod Rooms
 -- the answer to a request
 pub mod Requesting
@@ -10,5 +10,5 @@ pub mod Withdrawing
 pub mod Showing
 pub mod Makers
 pub mod Quoting
--- the answer to an answer to a quote
+-- the answer to a quote response
 pub mod Responding

@@ -28,16 +28,16 @@ quiet-cons r rs h k = count-append (r ∷ []) rs ∙ ap (λ n. reports_in (r ∷
 pub quiet-append : (rs ss : List Reply) → reports_in rs ≡ 0 → reports_in ss ≡ 0 → reports_in (rs ++ ss) ≡ 0
 quiet-append rs ss h k = count-append rs ss ∙ ap (λ n. n + reports_in ss) h ∙ ap (λ n. 0 + n) k
 
--- two more at the end
+-- two elements appended
 pub two-more : (rs : List Reply) (a b : Reply) → (rs ++ a ∷ []) ++ b ∷ [] ≡ rs ++ a ∷ b ∷ []
 two-more rs a b = append_assoc rs (a ∷ []) (b ∷ [])
 
--- what is there after a map was there before it
+-- an element in the image has one before the map
 pub is-there : {X Y : Type 0} (f : X → Y) (x : Option X) (y : Option Y) → option_map f x ≡ y → IsSome y → IsSome x
 is-there f None y e h = ap is_some e ∙ h
 is-there f (Some x) y e h = refl
 
--- what is found passes the test
+-- a found element passes the test
 found-passes : {X : Type 0} (p : X → Bool) (xs : List X) (x : X) → find p xs ≡ Some x → p x ≡ true
 found-passes p [] x h = cc
 found-passes {X} p (y ∷ ys) x h = by (p y) refl h (found-passes p ys x)
@@ -46,7 +46,7 @@ found-passes {X} p (y ∷ ys) x h = by (p y) refl h (found-passes p ys x)
     by true e h rest = ap p (sym (same_some y x h)) ∙ e
     by false e h rest = rest h
 
--- what is found by a test of its number is found by the number
+-- an element found by a test of its number is found by the number
 pub by-number : {X : Type 0} (num : X → ℕ) (p : ℕ → Bool) (xs : List X) (x : X) → find (λ y. p (num y)) xs ≡ Some x → find (λ y. num y == num x) xs ≡ Some x
 by-number num p [] x h = cc
 by-number {X} num p (y ∷ ys) x h = by (p (num y)) (num y == num x) refl refl h (by-number num p ys x)

@@ -22,7 +22,7 @@ use Rattle.rfq_handler.specs.Read.{first_made}
 use Rattle.rfq_handler.proofs.Lists.{both, by-number, same_some}
 use Rattle.rfq_handler.proofs.Rooms.{below}
 
--- a quote is planned in a room that is there
+-- a quote is planned in an existing room
 pub planned-room : (facts : List Fact) (who : ℕ) (d : Quote) (p : Plan) → IsQuotePlanned facts who d p → IsSome (find_room facts d.request_id)
 planned-room facts who d p h = found facts who d p (find_room facts d.request_id) h
   where
@@ -33,7 +33,7 @@ planned-room facts who d p h = found facts who d p (find_room facts d.request_id
 pub planned-quote : (facts : List Fact) (who : ℕ) (d : Quote) (p : Plan) (r : Room) → IsQuotePlanned facts who d p → find_room facts d.request_id ≡ Some r → p ≡ quote_plan (quote_made facts who r d)
 planned-quote facts who d p r h e = let P : Option Room → Type 0 = λ x. MatchOption x ⊥ (λ r. p ≡ quote_plan (quote_made facts who r d)) in subst P e h
 
--- its plan makes a quote, of the sender
+-- its plan makes a quote of the sender
 pub planned-made : (facts : List Fact) (who : ℕ) (d : Quote) (p : Plan) → IsQuotePlanned facts who d p → IsSome (first_made p.facts)
 planned-made facts who d p h = found (find_room facts d.request_id) h
   where
@@ -48,7 +48,7 @@ planned-maker facts who d p q count h e below = found (find_room facts d.request
     found None k = absurd k
     found (Some r) k = subst (λ (q : RoomQuote). q.maker < count) (sym (same_some q (quote_made facts who r d) (e ∙ ap (λ (p : Plan). first_made p.facts) k))) below
 
--- and the room of its number is the one that is named
+-- and the room with its number is the one named
 pub planned-number : (facts : List Fact) (who : ℕ) (d : Quote) (p : Plan) (q : RoomQuote) → IsQuotePlanned facts who d p → Some q ≡ first_made p.facts → room_by_number facts q.room ≡ find_room facts d.request_id
 planned-number facts who d p q h e = found (find_room facts d.request_id) refl h
   where
@@ -58,7 +58,7 @@ planned-number facts who d p q h e = found (find_room facts d.request_id) refl h
         ap (λ (q : RoomQuote). room_by_number facts q.room) (same_some q (quote_made facts who r d) (e ∙ ap (λ (p : Plan). first_made p.facts) k))
         ∙ by-number (λ (r : Room). r.number) (λ n. bytes_eq (printed 82 n) d.request_id) (rooms facts) r is
 
--- a room that is found has recipients that are known
+-- a found room has recipients in the file
 pub find-known : (count : ℕ) (p : Room → Bool) (fs : List Fact) (r : Room) → are_known count fs ≡ true → find p (rooms fs) ≡ Some r → list_all (λ who. nat_lt who count) r.recipients ≡ true
 find-known count p [] r h k = cc
 find-known count p (Asked a ∷ fs) r h k = asked count p a fs r (p a) refl (both (list_all (λ who. nat_lt who count) a.recipients) (are_known count fs) h) k (find-known count p fs r)
@@ -94,13 +94,13 @@ first-fails : {C : Type 0} (b : Bool) (c : C) (cs : List (Bool × C)) → first_
 first-fails true c cs h = cc
 first-fails false c cs h = refl
 
--- the maker of a quote is known, since it is a recipient
+-- the maker of a quote is in the file, as a recipient
 pub maker-known : (m : Market) (facts : List Fact) (who : ℕ) (d : Quote) (t : ℕ) (r : Room) (count : ℕ) → quote_cause m facts who d t ≡ None → find_room facts d.request_id ≡ Some r → list_all (λ w. nat_lt w count) r.recipients ≡ true → who < count
 maker-known m facts who d t r count h e k =
     let free : first_cause (quote_causes m facts who r d t) ≡ None = sym (ap (quote_cause_in m facts who d t) e) ∙ h in
     any-below count who r.recipients (not-false (list_any (λ p. p == who) r.recipients) (first-fails (not (list_any (λ p. p == who) r.recipients)) quote.NotAsked ((not (is_open facts t r), quote.RoomOver) ∷ (not (bytes_eq d.symbol (symbol_of m.instruments r.instrument)), quote.UnknownInstrument) ∷ (is_quote_id_used facts who d.quote_id, quote.DuplicateQuote) ∷ terms_causes m r d t) free)) k
 
--- the sender of a quote that is planned is known
+-- the sender of a planned quote is in the file
 pub sender-known : (m : Market) (facts : List Fact) (who : ℕ) (d : Quote) (t : ℕ) (p : Plan) → are_known (length m.participants.names) facts ≡ true → quote_cause m facts who d t ≡ None → IsQuotePlanned facts who d p → who < length m.participants.names
 sender-known m facts who d t p known free planned = found (find_room facts d.request_id) refl planned
   where

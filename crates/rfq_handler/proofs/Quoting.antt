@@ -33,7 +33,7 @@ use Rattle.rfq_handler.specs.Sent.{prices_sent, quote_sent, rests, shown_unless,
 use Rattle.rfq_handler.proofs.Lists.{same_some}
 use Rattle.rfq_handler.proofs.Makers.{planned-quote}
 
--- what the rooms say of the rules' answer
+-- the rooms' decision gives the rules' answer
 abbrev pub QuoteLaw : Type 0
 QuoteLaw = (m : Market) (h : History) (s : Sender) (d : Quote) (t : ℕ) → answer_quote m h s d t ≡ quote_emitted m h s d (find_room (room_facts h.facts) d.request_id) (quote_cause m (room_facts h.facts) s.who d t)
 
@@ -63,7 +63,7 @@ quote-holds holds refusal c h k =
     found None c e = cc
     found (Some x) c e = cc
 
--- the answer to a quote that is refused
+-- the answer to a refused quote
 pub refused-answer : (is : List Instrument) (s : Sender) (d : Quote) (c : QuoteRefusal) (room : Option Room) (symbol : Option (List ℕ)) (x : Reply) (p : Plan) (replies : List Reply) (a : Answer)
     → symbol ≡ symbol_in is room → x ≡ quote_status s d symbol (state.Refused c) → replies ≡ x ∷ [] → p ≡ no_plan → a ≡ record { facts = p.facts; replies = replies }
     → a ≡ answers (quote_status s d (symbol_in is room) (state.Refused c) ∷ [])
@@ -72,13 +72,13 @@ refused-answer is s d c room symbol x p replies a named said emitted planned is-
     ∙ ap (λ (p : Plan). let y : Answer = record { facts = p.facts; replies = replies } in y) planned
     ∙ ap (λ (rs : List Reply). let y : Answer = record { facts = []; replies = rs } in y) (emitted ∙ ap (λ y. y ∷ []) (said ∙ ap (λ z. quote_status s d z (state.Refused c)) named))
 
--- none of the replies is a report
+-- no reply is a report
 pub replies-quiet : (file : ParticipantFile) (book : List Fact) (s : Sender) (d : Quote) (quoted : Bool) (r : Room) (symbol : List ℕ) (q : RoomQuote) → 0 ≡ reports_in (quote_replies file book s d quoted r symbol q)
 unfolding quote_replies
 replies-quiet file book s d true r symbol q = refl
 replies-quiet file book s d false r symbol q = refl
 
--- the answer of a plan, by the quote that it makes
+-- the answer of a plan, by its quote
 pub planned-answer : (file : ParticipantFile) (is : List Instrument) (rooms book : List Fact) (s : Sender) (d : Quote) (r : Room) (q : RoomQuote) (p : Plan) (symbol : List ℕ) (replies : List Reply) (a : Answer)
     → find_room rooms d.request_id ≡ Some r → IsQuotePlanned rooms s.who d p → Some q ≡ first_made p.facts
     → symbol ≡ symbol_of is r.instrument → replies ≡ quote_replies file book s d (is_some (first_quote rooms r.number)) r symbol q
@@ -96,7 +96,7 @@ planned-answer file is rooms book s d r q p symbol replies a found planned first
     ∙ ap (λ y. quote_replies file book s d (is_some (first_quote rooms r.number)) r y q) named
     ∙ ap (quote_replies file book s d (is_some (first_quote rooms r.number)) r (symbol_of is r.instrument)) same))
 
--- what is shown of the book is the rules' picture
+-- the book snapshot is the one of the rules
 shown-rules : PictureLaw → (m : Market) (h : History) (r : Room) (book : List Fact) (x : Option RoomQuote) → book_facts h.facts ≡ book → shown_unless (is_some x) r (symbol_of m.instruments r.instrument) (rests book r.instrument) ≡ shown_with m h r x
 unfolding rests
 shown-rules law m h r book None b = ap (λ es. prices_sent r (symbol_of m.instruments r.instrument) es ∷ []) (ap (λ fs. picture fs r.instrument) (sym b) ∙ law h.facts r.instrument)

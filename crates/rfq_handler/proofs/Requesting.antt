@@ -26,7 +26,7 @@ use Rattle.rfq_handler.specs.Sent.{request_sent}
 use Rattle.rfq_handler.proofs.Lists.{both_true, quiet-cons, same_some}
 use Rattle.rfq_handler.proofs.Rooms.{places-known}
 
--- what the rooms say of the rules' answer
+-- the rooms' decision gives the rules' answer
 abbrev pub RequestLaw : Type 0
 RequestLaw = (m : Market) (h : History) (s : Sender) (d : QuoteRequest) (t : ℕ) → answer_request m h s d t ≡ request_emitted m h s d t (request_cause m (room_facts h.facts) s.who d t)
 
@@ -66,7 +66,7 @@ pub sent-quiet : (r : Room) (symbol : List ℕ) (ws : List ℕ) → reports_in (
 sent-quiet r symbol [] = refl
 sent-quiet r symbol (w ∷ ws) = quiet-cons (request_sent r symbol w) (map (request_sent r symbol) ws) refl (sent-quiet r symbol ws)
 
--- the recipients of the room are known
+-- the recipients of the room are in the file
 pub asked-known : (m : Market) (facts : List Fact) (who : ℕ) (d : QuoteRequest) (t : ℕ) (p : Plan) → p ≡ request_plan (room_asked m facts who d t) → are_known (length m.participants.names) p.facts ≡ true
 asked-known m facts who d t p e =
     ap (λ (p : Plan). are_known (length m.participants.names) p.facts) e

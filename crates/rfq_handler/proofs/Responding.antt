@@ -32,7 +32,7 @@ use Rattle.rfq_handler.specs.Responded.{IsAnswerTo, IsResponseEmitted, notify_hi
 use Rattle.rfq_handler.proofs.Lists.{by-number, same_some}
 use Rattle.rfq_handler.proofs.Rooms.{find-listed}
 
--- what the rooms say of the rules' answer
+-- the rooms' decision gives the rules' answer
 abbrev pub ResponseLaw : Type 0
 ResponseLaw = (m : Market) (h : History) (s : Sender) (d : QuoteResponse) (t : ℕ) → answer_response m h s d t ≡ response_emitted m h s d t (find_quote (room_facts h.facts) d.quote_id) (quote_room (room_facts h.facts) d.quote_id) (decide (room_facts h.facts) s.who d t)
 
@@ -55,11 +55,11 @@ response-holds decision refusal c h k =
     found Pass c e = cc
     found (Trade hit) c e = cc
 
--- the room that a quote names by its number is the room of the quote
+-- the room with the quote's room number is the room of the quote
 pub room-of : (facts : List Fact) (id : List ℕ) (q : RoomQuote) → find_quote facts id ≡ Some q → room_by_number facts q.room ≡ quote_room facts id
 room-of facts id q e = sym (ap (room_with facts) e)
 
--- a room that a quote is in is in a listed instrument
+-- a quote's room is in a listed instrument
 pub room-listed : (count : ℕ) (facts : List Fact) (id : List ℕ) (r : Room) → are_listed count facts ≡ true → quote_room facts id ≡ Some r → r.instrument < count
 room-listed count facts id r h e = found count facts (find_quote facts id) r h e
   where
@@ -67,7 +67,7 @@ room-listed count facts id r h e = found count facts (find_quote facts id) r h e
     found count facts None r h e = cc
     found count facts (Some q) r h e = find-listed count (λ r. r.number == q.room) facts r h e
 
--- a plan is of the quote that is named, in a room that is there
+-- a plan is of the quote named, in an existing room
 
 pub planned-quote-there : (facts : List Fact) (who : ℕ) (d : QuoteResponse) (t : ℕ) (decision : Decision) (p : Plan) → IsResponsePlanned facts who d t decision p → IsAnswerTo facts d.quote_id p.facts
 planned-quote-there facts who d t decision p h = found who t decision p (find_quote facts d.quote_id) (quote_room facts d.quote_id) h
@@ -87,7 +87,7 @@ planned-room-there facts who d t decision p h = found who t decision p (find_quo
     found who t decision p (Some q) None h = absurd h
     found who t decision p (Some q) (Some r) h = refl
 
--- that quote is there, and by the plan's number
+-- that quote exists, under the plan's number
 
 pub quote-there : (facts : List Fact) (id : List ℕ) (added : List Fact) → IsAnswerTo facts id added → IsSome (find_quote facts id)
 quote-there facts id added h = found (find_quote facts id) h
@@ -112,7 +112,7 @@ answered-quote facts id added number h e = found (find_quote facts id) refl h
         ap (quote_by_number facts) (same_some number q.number (e ∙ k))
         ∙ by-number (λ (q : RoomQuote). q.number) (λ n. bytes_eq (printed 81 n) id) (quotes facts) q is
 
--- what a plan adds is a trade where it is a hit, and else none
+-- the plan of a hit is a trade, any other none
 one-trade : (who t : ℕ) (p : Plan) (x : Option RoomQuote) (y : Option Room) (z : Decision) → MatchOption x ⊥ (λ q. MatchOption y ⊥ (λ r. IsResponsePlan who t q r z p)) → trades_in p.facts ≡ hits p.hit
 one-trade who t p None y z h = absurd h
 one-trade who t p (Some q) None z h = absurd h
@@ -123,7 +123,7 @@ one-trade who t p (Some q) (Some r) (Trade hit) h = ap (λ (p : Plan). trades_in
 pub planned-trades : (facts : List Fact) (who : ℕ) (d : QuoteResponse) (t : ℕ) (decision : Decision) (p : Plan) → IsResponsePlanned facts who d t decision p → trades_in p.facts ≡ hits p.hit
 planned-trades facts who d t decision p h = one-trade who t p (find_quote facts d.quote_id) (quote_room facts d.quote_id) decision h
 
--- an answer to a quote makes no participant known
+-- a response adds no participant
 none-known : (who t : ℕ) (p : Plan) (count : ℕ) (x : Option RoomQuote) (y : Option Room) (z : Decision) → MatchOption x ⊥ (λ q. MatchOption y ⊥ (λ r. IsResponsePlan who t q r z p)) → are_known count p.facts ≡ true
 none-known who t p count None y z h = absurd h
 none-known who t p count (Some q) None z h = absurd h
@@ -134,13 +134,13 @@ none-known who t p count (Some q) (Some r) (Trade hit) h = ap (λ (p : Plan). ar
 pub response-known : (facts : List Fact) (who : ℕ) (d : QuoteResponse) (t : ℕ) (decision : Decision) (p : Plan) (count : ℕ) → IsResponsePlanned facts who d t decision p → are_known count p.facts ≡ true
 response-known facts who d t decision p count h = none-known who t p count (find_quote facts d.quote_id) (quote_room facts d.quote_id) decision h
 
--- two reports of a trade, and of a pass none
+-- two reports of a trade, none of a pass
 pub replies-counted : (is : List Instrument) (reports traded : ℕ) (s : Sender) (d : QuoteResponse) (r : Room) (q : RoomQuote) (hit : Option Hit) → 2 * hits hit ≡ reports_in (response_replies is reports traded s d r q hit)
 unfolding response_replies pass_emitted notify_hit
 replies-counted is reports traded s d r q None = refl
 replies-counted is reports traded s d r q (Some hit) = refl
 
--- replies of the quote and the room that are found
+-- replies of the quote and room found
 pub emitted-of : (is : List Instrument) (facts : List Fact) (reports traded : ℕ) (s : Sender) (d : QuoteResponse) (hit : Option Hit) (replies : List Reply) (q : RoomQuote) (r : Room)
     → find_quote facts d.quote_id ≡ Some q → quote_room facts d.quote_id ≡ Some r → replies ≡ response_replies is reports traded s d r q hit → IsResponseEmitted is facts reports traded s d hit replies
 emitted-of is facts reports traded s d hit replies q r e f h =
@@ -166,7 +166,7 @@ hit-rules m h s d t r q hit reports traded reported before =
     ap (λ n. notify_hit m.instruments r (n + 1) s.who q.maker hit d reports) (sym before)
     ∙ ap (λ n. notify_hit m.instruments r (next_trade h.facts) s.who q.maker hit d n) (sym reported)
 
--- the answer by what it comes to
+-- the answer by the decision
 decided : (m : Market) (h : History) (s : Sender) (d : QuoteResponse) (t reports traded : ℕ) (p : Plan) (a : Answer) (q : RoomQuote) (r : Room) (z : Decision)
     → h.reports ≡ reports → length (trades h.facts) ≡ traded → a.facts ≡ p.facts → IsResponsePlan s.who t q r z p → a.replies ≡ response_replies m.instruments reports traded s d r q p.hit
     → a ≡ response_emitted m h s d t (Some q) (Some r) z
@@ -194,7 +194,7 @@ accepted-answer law m h s d t facts reports traded p a is reported before planne
     by-option m h s d t reports traded p a (find_quote facts d.quote_id) (quote_room facts d.quote_id) (decide facts s.who d t) reported before e planned emitted
     ∙ response-answer law m h s d t facts (find_quote facts d.quote_id) (quote_room facts d.quote_id) (decide facts s.who d t) is refl refl refl
 
--- both of what holds of a result
+-- two properties of a result
 pub if-both : {X E : Type 0} (x : Result X E) (P Q : X → Type 0) → IfOk x P → IfOk x Q → IfOk x (λ y. P y × Q y)
 if-both (Ok y) P Q h k = (h, k)
 if-both (Err e) P Q h k = tt

@@ -20,7 +20,7 @@ use Rattle.rfq_handler.proofs.Lists.{both, both_true, same_some}
 pub below : (x count : ℕ) → nat_lt x count ≡ true → x < count
 below x count h = grind (arith, nat_tests)
 
--- nothing is added
+-- no facts
 pub quiet-made : (rooms : Contents) (added : List Fact) → added ≡ [] → IsPlanOf rooms added
 quiet-made rooms added e = record { step = Nothing; allowed = tt; made = e; headroom = rw e (omega arith) }
 
@@ -36,7 +36,7 @@ opened-listed count [] r h k = cc
 opened-listed count (Asked a ∷ fs) r h k = below r.instrument count (ap (λ (x : Room). nat_lt x.instrument count) (same_some r a k) ∙ (both (nat_lt a.instrument count) (are_listed count fs) h).0)
 opened-listed count (f ∷ fs) r h k = cc
 
--- and so is a room that is found
+-- and so is a found room
 pub find-listed : (count : ℕ) (p : Room → Bool) (fs : List Fact) (r : Room) → are_listed count fs ≡ true → find p (rooms fs) ≡ Some r → r.instrument < count
 find-listed count p [] r h k = cc
 find-listed count p (Asked a ∷ fs) r h k = asked count p a fs r (p a) refl (both (nat_lt a.instrument count) (are_listed count fs) h) k (find-listed count p fs r)
@@ -62,12 +62,12 @@ places-known file (p ∷ ps) = one (nat_lt (position_or_len (bytes_eq p.id) file
     one true n k rest e h = both_true (nat_lt k n) (list_all (λ who. nat_lt who n) rest) e h
     one false n k rest e h = h
 
--- what holds of each room that may be found holds of the one that is
+-- a property of each possible room holds for the one found
 pub if-listed : {X : Type 0} (f : X → Room) (x : Option X) (count : ℕ) → ((r : Room) → option_map f x ≡ Some r → r.instrument < count) → IfSome x (λ y. (f y).instrument < count)
 if-listed f None count h = tt
 if-listed f (Some y) count h = h (f y) refl
 
--- facts that come to others keep both
+-- appended facts keep both
 
 pub listed_append : (count : ℕ) (fs gs : List Fact) → are_listed count fs ≡ true → are_listed count gs ≡ true → are_listed count (fs ++ gs) ≡ true
 listed_append count fs gs h k = list_all-append (is_listed count) fs gs ∙ both_true (are_listed count fs) (are_listed count gs) h k

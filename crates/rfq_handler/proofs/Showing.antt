@@ -13,12 +13,12 @@ use Rattle.venue_rules.specs.Quotes.{quote_status}
 use Rattle.rfq_handler.specs.Quoted.{quote_replies}
 use Rattle.rfq_handler.specs.Sent.{prices_sent, quote_sent, rests, shown_unless}
 
--- what rests, as it is shown
+-- the resting orders as a snapshot
 pub rests-is : (book : List Fact) (x : ℕ) (es fs : List SnapshotEntry) → fs ≡ picture book x → es ≡ fs → es ≡ rests book x
 unfolding rests
 rests-is book x es fs e f = f ∙ e
 
--- the picture is not sent, or it is
+-- the snapshot is sent or not
 
 pub show-none : (quoted : Bool) (r : Room) (symbol : List ℕ) (es : List SnapshotEntry) (rs : List Reply) → quoted ≡ true → rs ≡ rs ++ shown_unless quoted r symbol es
 show-none quoted r symbol es rs e = sym (ap (λ b. rs ++ shown_unless b r symbol es) e ∙ append-nil rs)

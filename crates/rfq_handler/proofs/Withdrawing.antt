@@ -28,7 +28,7 @@ use Rattle.rfq_handler.specs.Known.{are_known}
 use Rattle.rfq_handler.specs.Sent.{both_sent, both_emitted, to_maker, to_requester}
 use Rattle.rfq_handler.proofs.Lists.{quiet-append, two-more}
 
--- what the rooms say of the rules' answer
+-- the rooms' decision gives the rules' answer
 abbrev pub WithdrawalLaw : Type 0
 WithdrawalLaw = (m : Market) (h : History) (s : Sender) (d : QuoteCancel) (t : ℕ) → answer_withdrawal m h s d t ≡ withdrawal_emitted m h s d (named_quotes (room_facts h.facts) s.who t (withdrawal_id d)) (withdrawal_cause (room_facts h.facts) s.who d t)
 
@@ -48,7 +48,7 @@ withdrawal-holds holds refusal c h k =
     found None c e = cc
     found (Some x) c e = cc
 
--- what is said of a quote, one more
+-- the replies about a further quote
 
 pub emit-none : (is : List Instrument) (facts : List Fact) (q : RoomQuote) (rs : List Reply) → room_by_number facts q.room ≡ None → rs ≡ rs ++ both_emitted is facts q
 emit-none is facts q rs e = sym (ap (λ x. rs ++ both_sent is q x) e ∙ append-nil rs)
@@ -61,7 +61,7 @@ emit-some is facts q rs r symbol e named =
 
 pub ruleset tellings = (emit-none, emit-some)
 
--- it is what the rules say
+-- they are those of the rules
 rules-sent : (m : Market) (h : History) (q : RoomQuote) (x : Option Room) → room_by_number h.facts q.room ≡ x → both_sent m.instruments q x ≡ rules_emitted m h q
 rules-sent m h q None e = sym (rw (e, rules_emitted) refl)
 rules-sent m h q (Some r) e = sym (rw (e, rules_emitted) refl)
@@ -90,7 +90,7 @@ withdraws-all law m h facts qs p replies a e planned emitted is =
     ∙ ap (λ (p : Plan). let x : Answer = record { facts = p.facts; replies = replies } in x) planned
     ∙ ap (λ (rs : List Reply). let x : Answer = record { facts = map withdrawn qs; replies = rs } in x) (emitted ∙ ap (λ (p : Plan). flat_map (both_emitted m.instruments facts) p.quotes) planned ∙ all-same law m h facts qs e)
 
--- a withdrawal makes no participant known
+-- a withdrawal adds no participant
 pub withdrawn-known : (count : ℕ) (qs : List RoomQuote) → are_known count (map withdrawn qs) ≡ true
 withdrawn-known count [] = refl
 withdrawn-known count (q ∷ qs) = withdrawn-known count qs

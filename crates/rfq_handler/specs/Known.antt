@@ -3,7 +3,7 @@ use Rattle.std.specs.List.{list_all}
 use Rattle.venue_rules.specs.declared.facts.Fact.{Fact}
 use Rattle.venue_rules.specs.declared.facts.Fact.TheVariants.{Asked}
 
--- the recipients of a request are among so many participants
+-- the recipients of a request are below a count of participants
 abbrev pub is_known : ℕ → Fact → Bool
 is_known count (Asked r) = list_all (λ who. nat_lt who count) r.recipients
 is_known count _ = true

@@ -1,14 +1,14 @@
--- who sent a message, as the rules have it
+-- the sender of a message, as the rules have it
 pub mod Senders
--- how many replies are reports
+-- counts of reports
 pub mod Counting
--- which participants the rooms know
+-- the participants that the rooms refer to
 pub mod Known
--- what is read off a plan and a room
+-- readings of a plan and a room
 pub mod Read
--- what is sent, by the symbol of its room
+-- replies, by the symbol of their room
 pub mod Sent
--- what is replied to a quote that is made
+-- replies to a quote
 pub mod Quoted
--- what is replied to an answer to a quote
+-- replies to a quote response
 pub mod Responded

@@ -7,7 +7,7 @@ use Rattle.venue_rules.specs.Facts.{room_in, quote_in}
 use Rattle.venue_rules.specs.declared.facts.Room.{Room}
 use Rattle.venue_rules.specs.declared.facts.RoomQuote.{RoomQuote}
 
--- the room that a plan opens, and the quote that it makes, if its first fact does
+-- the room that a plan's first fact opens, and the quote that it makes
 abbrev pub first_room : List Fact → Option Room
 first_room [] = None
 first_room (f ∷ fs) = room_in f
@@ -16,7 +16,7 @@ abbrev pub first_made : List Fact → Option RoomQuote
 first_made [] = None
 first_made (f ∷ fs) = quote_in f
 
--- and the number of the quote that it passes or hits
+-- the number of the quote that it passes or hits
 
 abbrev pub quote_at : TradeSource → Option ℕ
 quote_at (InBook resting entering) = None

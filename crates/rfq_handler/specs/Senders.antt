@@ -5,7 +5,7 @@ use Rattle.venue_rules.specs.Answer.{Sender}
 use Rattle.venue_rules.specs.Market.{Market}
 use Rattle.rfq_handler.specs.declared.sender.Sender.{Sender as Known}
 
--- the sender of a message of this type
+-- the sender of a message with this type
 abbrev pub sent_by : Known → List ℕ → Sender
 sent_by s kind = record { who = s.who; number = s.number; kind = kind }
 

@@ -16,11 +16,11 @@ use Rattle.venue_rules.specs.Book.{opposite, picture}
 use Rattle.venue_rules.specs.Rooms.{printed, room_by_number}
 use Rattle.rfq_room.specs.declared.decision.Hit.{Hit}
 
--- the request of a room as it is sent to a recipient
+-- the request of a room, as sent to a recipient
 abbrev pub request_sent : Room → List ℕ → ℕ → Reply
 request_sent r symbol who = reply who (RequestSent (record { room = r.number; symbol = symbol; side = r.side; quantity = r.quantity }))
 
--- what is said of a quote of a room to its maker, and to the requester
+-- the status of a quote in a room, to its maker and to the requester
 abbrev pub to_maker : Room → List ℕ → RoomQuote → QuoteState → Reply
 to_maker r symbol q what = reply q.maker (QuoteStatus (record { quote_id = Some q.id; request_id = Some (printed 82 r.number); response_id = None; symbol = Some symbol; state = what }))
 
@@ -31,7 +31,7 @@ to_requester r symbol q what = reply r.requester (QuoteStatus (record { quote_id
 abbrev pub named_status : ℕ → Option (List ℕ) → QuoteState → Answer
 named_status who id what = answers (reply who (QuoteStatus (record { quote_id = id; request_id = None; response_id = None; symbol = None; state = what })) ∷ [])
 
--- both are told that a quote is withdrawn, where its room is there
+-- both are sent the withdrawal of a quote, where its room exists
 abbrev pub both_sent : List Instrument → RoomQuote → Option Room → List Reply
 both_sent instruments q None = []
 both_sent instruments q (Some r) = to_maker r (symbol_of instruments r.instrument) q state.Withdrawn ∷ to_requester r (symbol_of instruments r.instrument) q state.Withdrawn ∷ []
@@ -39,23 +39,23 @@ both_sent instruments q (Some r) = to_maker r (symbol_of instruments r.instrumen
 abbrev pub both_emitted : List Instrument → List Fact → RoomQuote → List Reply
 both_emitted instruments facts q = both_sent instruments q (room_by_number facts q.room)
 
--- the symbol of a room, where there is one
+-- the symbol of a room, if any
 abbrev pub symbol_in : List Instrument → Option Room → Option (List ℕ)
 symbol_in instruments room = option_map (λ r. symbol_of instruments r.instrument) room
 
--- a quote as it is sent on to the requester
+-- a quote, as sent on to the requester
 abbrev pub quote_sent : ParticipantFile → Room → List ℕ → RoomQuote → Reply
 quote_sent participants r symbol q = reply r.requester (QuoteSent (record { quote = q.number; request_id = r.id; maker = name_of participants q.maker; symbol = symbol; bid = q.bid; offer = q.offer; quantity = r.quantity; end = q.end }))
 
--- the picture of the book as it is sent to the requester
+-- the book snapshot, as sent to the requester
 abbrev pub prices_sent : Room → List ℕ → List SnapshotEntry → Reply
 prices_sent r symbol entries = reply r.requester (BookSnapshot (record { request_id = r.id; symbol = symbol; entries = entries }))
 
--- what rests in the book of an instrument, as it is shown
+-- the book snapshot of an instrument
 unfoldable pub rests : List Fact → ℕ → List SnapshotEntry
 rests book instrument = picture book instrument
 
--- it is sent unless the room has a quote
+-- sent unless the room has a quote
 abbrev pub shown_unless : Bool → Room → List ℕ → List SnapshotEntry → List Reply
 shown_unless true r symbol entries = []
 shown_unless false r symbol entries = prices_sent r symbol entries ∷ []
@@ -64,6 +64,6 @@ shown_unless false r symbol entries = prices_sent r symbol entries ∷ []
 abbrev pub traded_report : Room → List ℕ → ℕ → ℕ → Hit → Option (List ℕ) → ℕ → Reply
 traded_report r symbol trade who hit response n = reply who (RoomTraded (record { report = n; room = r.number; symbol = symbol; side = hit.side; quantity = r.quantity; price = hit.price; trade = trade; response_id = response }))
 
--- the hit as the maker has it
+-- the hit from the maker's side
 abbrev pub other_side : Hit → Hit
 other_side hit = record { side = opposite hit.side; price = hit.price }

@@ -1,4 +1,4 @@
-//! What the venue answers of its rooms to one message, before it does.
+//! Answers about rooms, before they are applied.
 ghost use Rattle.std.specs.Prelude.{◌≡◌, ◌≤◌, option_map};
 ghost use Rattle.rfq_handler.specs.Counting.{reports_in, trades_in};
 ghost use Rattle.rfq_handler.specs.Read.{first_made};
@@ -7,7 +7,7 @@ use rfq_room::RoomPlan;
 use std::marker::Model;
 use venue_rules::{Fact, Reply, RoomQuote};
 
-/// The quote that a plan makes.
+/// The quote of a plan, if any.
 pub(crate) fn made(plan: &RoomPlan) -> Option<&RoomQuote>
     ensures { option_map (λ q. q.now) result ≡ first_made plan.now.facts }
 {
@@ -17,7 +17,7 @@ pub(crate) fn made(plan: &RoomPlan) -> Option<&RoomQuote>
     }
 }
 
-/// The facts that the rooms gain, and the replies, in order.
+/// The facts that the rooms gain, and the replies in order.
 pub struct RoomAnswer {
     plan: RoomPlan,
     replies: Vec<Reply>,
@@ -25,7 +25,7 @@ pub struct RoomAnswer {
     trades: u64,
 }
 
-// Written out, so that a proof sees one call where it is dropped, and not the drop of each part.
+// Written-out drop (docs/ARCHITECTURE.md).
 impl Drop for RoomAnswer {
     fn drop(self) {
         let RoomAnswer {
@@ -50,7 +50,7 @@ impl Model for RoomAnswer {
 }
 
 impl RoomAnswer {
-    /// These replies, of which so many are execution reports, and what is added to the rooms, with so many trades.
+    /// A plan and its replies, with the counts of execution reports and of trades among them.
     pub(crate) fn of(plan: RoomPlan, replies: Vec<Reply>, reports: u64, trades: u64) -> RoomAnswer
         requires counted { reports ≡ reports_in replies.items }
         requires few { reports ≤ 2 }
@@ -73,14 +73,14 @@ impl RoomAnswer {
         &self.replies
     }
 
-    /// The quote that the rooms gain.
+    /// The quote that the rooms gain, if any.
     pub fn made(&self) -> Option<&RoomQuote>
         ensures { option_map (λ q. q.now) result ≡ first_made self.now.facts }
     {
         made(&self.plan)
     }
 
-    /// How many of the replies are execution reports (message 8).
+    /// The number of execution reports (message 8) among the replies.
     pub fn reports(&self) -> u64
         ensures value { result ≡ reports_in self.now.replies }
         ensures bound { result ≤ 2 }
@@ -88,7 +88,7 @@ impl RoomAnswer {
         self.reports
     }
 
-    /// How many trades are among the facts that the rooms gain.
+    /// The number of trades among the facts that the rooms gain.
     pub fn trades(&self) -> u64
         ensures value { result ≡ trades_in self.now.facts }
         ensures bound { result ≤ 1 }
@@ -96,7 +96,7 @@ impl RoomAnswer {
         self.trades
     }
 
-    /// What the rooms are to apply.
+    /// The plan for the rooms.
     pub fn into_plan(self) -> RoomPlan
         ensures { result.facts ≡ self.facts }
     {

@@ -1,4 +1,4 @@
-//! Messages that are not processed (BusinessMessageReject, j).
+//! BusinessMessageReject (j): messages that are not processed.
 ghost use Rattle.std.specs.Prelude.{◌≡◌, IfOk};
 ghost use Rattle.fix_dictionary.specs.Values.{IsText};
 ghost use Rattle.venue_rules.specs.Answer.{business_reject};
@@ -11,7 +11,7 @@ use rfq_room::RoomPlan;
 use std::alloc::{AllocError, Global};
 use venue_rules::{BusinessRefusal, Reply};
 
-/// The message of this type is not processed, for this cause.
+/// The BusinessMessageReject of a message of this type, for this cause.
 pub(crate) fn business_reject(
     alloc: Global,
     sender: Sender,

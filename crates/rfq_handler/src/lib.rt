@@ -1,5 +1,5 @@
-//! The venue's whole answers to requests for quotes, quotes, withdrawals and answers to quotes: what they add to the rooms,
-//! and what is replied to whom (17 CFR 37.9(a)(2), (a)(3)).
+//! Whole answers to requests for quotes, quotes, withdrawals and quote responses: facts for the rooms, and replies (17
+//! CFR 37.9(a)(2), (a)(3)).
 #![tactic(auto)]
 
 mod answer;

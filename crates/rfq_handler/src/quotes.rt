@@ -1,5 +1,4 @@
-//! A quote in a room (Quote, S): with the room's first quote the requester is shown what rests in the book
-//! (17 CFR 37.9(a)(3)).
+//! Quote (S): with the room's first quote the requester is sent the book snapshot (17 CFR 37.9(a)(3)).
 ghost use Rattle.std.specs.Prelude.{◌≡◌, ◌<◌, ℕ, [], ◌∷◌, ◌++◌, true, codes, length, Some, IfOk};
 ghost use Rattle.venue_rules.specs.Answer.{answers};
 ghost use Rattle.venue_rules.specs.Facts.{History};
@@ -31,7 +30,7 @@ use venue_rules::{
     RoomQuote, SnapshotEntries, name_identifier, symbol_of,
 };
 
-// What is said of a quote to its maker, by the maker's identifiers.
+// The status of a quote to its maker, by the maker's identifiers.
 fn status(sender: Sender, quote: &Quote, symbol: Option<Identifier>, state: QuoteState) -> Reply
     ensures { result ≡ quote_status (sent_by sender (codes "S")) quote.now symbol state }
 {
@@ -48,7 +47,7 @@ fn status(sender: Sender, quote: &Quote, symbol: Option<Identifier>, state: Quot
     }
 }
 
-// A quote refused, in the room that it names if that is there.
+// The refusal of a quote, in the room that it names if that exists.
 fn refused(
     alloc: Global,
     instruments: &Instruments,
@@ -68,7 +67,7 @@ fn refused(
     Ok(RoomAnswer::of(RoomPlan::nothing(alloc), replies, 0, 0))
 }
 
-// The quote as it is sent on to the requester.
+// The quote, as sent on to the requester.
 fn quote_sent(
     participants: &Participants,
     room: &Room,
@@ -94,14 +93,14 @@ fn quote_sent(
     }
 }
 
-// What rests in the book of an instrument, as it is shown.
+// The book snapshot of an instrument.
 fn rests(book: &PriceBook, instrument: u32) -> Result<SnapshotEntries, AllocError>
     ensures { IfOk result (λ entries. entries ≡ rests book.now.facts instrument) }
 {
     Ok(SnapshotEntries::from_vec(book.picture(instrument)?))
 }
 
-// The picture of the book, as it is sent to the requester.
+// The book snapshot, as sent to the requester.
 fn prices_sent(room: &Room, symbol: &Identifier, entries: SnapshotEntries) -> Reply
     ensures { result ≡ prices_sent room.now symbol.now entries }
 {
@@ -116,7 +115,7 @@ fn prices_sent(room: &Room, symbol: &Identifier, entries: SnapshotEntries) -> Re
     }
 }
 
-// The picture is sent unless the room has a quote.
+// Adds the snapshot, unless the room has a quote.
 fn show(
     book: &PriceBook,
     room: &Room,
@@ -134,7 +133,7 @@ fn show(
     Ok(())
 }
 
-// What is replied to the maker of a quote that is made.
+// Adds the status of a quote to its maker.
 fn notify_maker(
     alloc: Global,
     sender: Sender,
@@ -147,7 +146,7 @@ fn notify_maker(
     Ok(vec![in alloc; status]?)
 }
 
-// All replies to a quote that is made.
+// All replies to a quote.
 fn emitted(
     alloc: Global,
     participants: &Participants,
@@ -168,7 +167,7 @@ fn emitted(
     Ok(replies)
 }
 
-// A quote accepted: what the plan adds, and all replies.
+// The answer to an accepted quote.
 fn accepted(
     alloc: Global,
     participants: &Participants,
@@ -203,7 +202,7 @@ fn accepted(
     Ok(RoomAnswer::of(plan, replies, 0, 0))
 }
 
-/// The answer to a quote; makes space for what it adds to the rooms.
+/// The answer to a quote; reserves memory for its plan.
 pub fn plan_quote(
     alloc: Global,
     participants: &Participants,

@@ -1,4 +1,4 @@
-//! A request for quotes (QuoteRequest, R): it goes to all its recipients at once (17 CFR 37.9(a)(3)).
+//! QuoteRequest (R): sent to all its recipients in one answer (17 CFR 37.9(a)(3)).
 ghost use Rattle.std.specs.Prelude.{◌≡◌, true, map, codes, length, option_map, IfOk};
 ghost use Rattle.venue_rules.specs.Facts.{History};
 ghost use Rattle.venue_rules.specs.Requests.{answer_request, request_refused};
@@ -22,7 +22,7 @@ use venue_rules::{
     Fact, Reply, ReplyBody, RequestRefusal, RequestRefused, RequestSent, Room, symbol_of,
 };
 
-// A request refused.
+// The refusal of a request.
 fn refused(
     alloc: Global,
     sender: Sender,
@@ -41,7 +41,7 @@ fn refused(
     Ok(RoomAnswer::of(RoomPlan::nothing(alloc), replies, 0, 0))
 }
 
-// The request of a room as it is sent to a recipient.
+// The request of a room, as sent to a recipient.
 fn request_sent(room: &Room, symbol: &Identifier, to: Who) -> Reply
     ensures { result ≡ request_sent room.now symbol.now to }
 {
@@ -54,7 +54,7 @@ fn request_sent(room: &Room, symbol: &Identifier, to: Who) -> Reply
     Reply { to, what }
 }
 
-// The request of a room as it is sent to all its recipients.
+// The request of a room, as sent to all its recipients.
 fn sent_to_all(alloc: Global, room: &Room, symbol: &Identifier) -> Result<Vec<Reply>, AllocError>
     ensures { IfOk result (λ v. v.items ≡ map (request_sent room.now symbol.now) room.now.recipients) }
 {
@@ -65,7 +65,7 @@ fn sent_to_all(alloc: Global, room: &Room, symbol: &Identifier) -> Result<Vec<Re
     Ok(replies)
 }
 
-// The room that a plan opens.
+// The room that a plan opens, if any.
 fn opened(plan: &RoomPlan) -> Option<&Room>
     ensures { option_map (λ r. r.now) result ≡ first_room plan.now.facts }
 {
@@ -75,7 +75,7 @@ fn opened(plan: &RoomPlan) -> Option<&Room>
     }
 }
 
-/// The answer to a request for quotes; makes space for what it adds to the rooms.
+/// The answer to a request for quotes; reserves memory for its plan.
 pub fn plan_request(
     alloc: Global,
     participants: &Participants,

@@ -1,4 +1,4 @@
-//! An answer to a quote (QuoteResponse, AJ): a hit, which is a trade and closes the room (17 CFR 37.9(a)(2), (a)(3)), or a pass.
+//! QuoteResponse (AJ): a hit, which is a trade and closes the room (17 CFR 37.9(a)(2), (a)(3)), or a pass.
 ghost use Rattle.std.specs.Prelude.{◌≡◌, ◌<◌, ◌≤◌, ◌^◌, ℕ, [], ◌∷◌, true, codes, length, option_map, IfOk, IfSome, IsSome};
 ghost use Rattle.participants.specs.ParticipantFile.{ParticipantFile};
 ghost use Rattle.venue_rules.specs.Answer.{answers};
@@ -32,7 +32,7 @@ use venue_rules::{
     RoomQuote, RoomReport, TradeSource, opposite, symbol_of,
 };
 
-// The requester's identifier of the request of a room, where there is one.
+// The requester's identifier of a room's request, if any.
 fn request_in(room: Option<&Room>) -> Option<Identifier>
     ensures { result ≡ option_map (λ r. r.id) (option_map (λ r. r.now) room.entry) }
 {
@@ -42,7 +42,8 @@ fn request_in(room: Option<&Room>) -> Option<Identifier>
     }
 }
 
-// What is said to the sender: the quote and the answer as sent, and of a room of its own its request and the instrument.
+// The status to the sender: quote and response identifiers as sent, and of a room of its own the request and the
+// instrument.
 fn status(
     instruments: &Instruments,
     sender: Sender,
@@ -66,7 +67,7 @@ fn status(
     }
 }
 
-// The sender alone is told.
+// A status to the sender alone.
 fn emitted(
     alloc: Global,
     instruments: &Instruments,
@@ -83,7 +84,7 @@ fn emitted(
     Ok(RoomAnswer::of(RoomPlan::nothing(alloc), replies, 0, 0))
 }
 
-// What a status says of a refused answer; nothing where the message is not processed.
+// The state in the status of a refused response; none where the message is not processed.
 fn refused_state(cause: ResponseCause) -> Option<QuoteState>
     ensures { result ≡ refused_state cause }
 {
@@ -102,7 +103,7 @@ fn refused_state(cause: ResponseCause) -> Option<QuoteState>
     }
 }
 
-// Whether a refusal for this cause comes after the room is known to be the sender's own.
+// Whether this cause holds only once the room is known to be the sender's own.
 fn is_own_room(cause: ResponseCause) -> bool
     ensures { result ≡ is_own_room cause }
 {
@@ -117,7 +118,6 @@ fn is_own_room(cause: ResponseCause) -> bool
     }
 }
 
-// Two replies.
 fn both(alloc: Global, first: Reply, second: Reply) -> Result<Vec<Reply>, AllocError>
     ensures { IfOk result (λ v. v.items ≡ first ∷ second ∷ []) }
 {
@@ -126,7 +126,7 @@ fn both(alloc: Global, first: Reply, second: Reply) -> Result<Vec<Reply>, AllocE
     Ok(replies)
 }
 
-// An answer refused: the quote's room is named, and looked for, from where it is known to be the sender's own.
+// The refusal of a response; the quote's room is looked up and named only once it is known to be the sender's own.
 fn refused(
     alloc: Global,
     instruments: &Instruments,
@@ -149,7 +149,7 @@ fn refused(
     emitted(alloc, instruments, sender, response, room, state)
 }
 
-// A pass: the sender and the maker are told.
+// The statuses of a pass, to the sender and to the maker.
 #[tactic(auto, unfolding(crate::specs::Responded::pass_emitted))]
 fn passed(
     alloc: Global,
@@ -169,7 +169,7 @@ fn passed(
     both(alloc, own, makers)
 }
 
-// The hit as the maker has it.
+// The hit from the maker's side.
 fn other_side(hit: &Hit) -> Hit
     ensures { result ≡ other_side hit.now }
 {
@@ -204,7 +204,7 @@ fn traded_report(
     Reply { to, what }
 }
 
-// The reports of a hit: the requester's, then the maker's.
+// The reports of a hit: to the requester, then to the maker.
 #[tactic(auto, unfolding(crate::specs::Responded::notify_hit))]
 fn notify_hit(
     alloc: Global,
@@ -230,7 +230,7 @@ fn notify_hit(
     both(alloc, own, makers)
 }
 
-// The replies to an answer that is a pass, or this hit.
+// The replies to a pass, or to this hit.
 #[tactic(auto, unfolding(crate::specs::Responded::response_replies))]
 fn answered(
     alloc: Global,
@@ -264,7 +264,7 @@ fn answered(
     )
 }
 
-// How many trades a plan is.
+// The number of trades in a plan.
 fn trades_of(plan: &RoomPlan) -> u64
     ensures value { result ≡ hits plan.now.hit }
     ensures few { result ≤ 1 }
@@ -275,7 +275,7 @@ fn trades_of(plan: &RoomPlan) -> u64
     }
 }
 
-// An answer accepted, to a quote of a room: what the plan adds, and all replies.
+// The answer to an accepted response, to a quote in a room.
 fn accepted_in(
     alloc: Global,
     instruments: &Instruments,
@@ -309,7 +309,7 @@ fn accepted_in(
     Ok(RoomAnswer::of(plan, replies, 2 * trades, trades))
 }
 
-// The number of the quote at which there is a trade, where it is in a room.
+// The number of the quote that trades, for a trade in a room.
 fn quote_at(place: &TradeSource) -> Option<u64>
     ensures { result ≡ quote_at place.now }
 {
@@ -330,7 +330,7 @@ fn answered_quote(plan: &RoomPlan) -> Option<u64>
     }
 }
 
-// An answer accepted, by the quote that the plan passes or hits and the quote's room.
+// The answer to an accepted response, by the quote that the plan passes or hits and its room.
 fn accepted(
     alloc: Global,
     instruments: &Instruments,
@@ -366,8 +366,8 @@ fn accepted(
     )
 }
 
-/// The answer to an answer to a quote; makes space for what it adds to the rooms. So many execution reports were sent, and
-/// there were so many trades on the venue, before.
+/// The answer to a quote response; reserves memory for its plan. `reports` execution reports were sent and `traded`
+/// trades made before.
 pub fn plan_response(
     alloc: Global,
     instruments: &Instruments,

@@ -1,8 +1,8 @@
-//! Who sent a message.
+//! Senders of messages.
 use fix_dictionary::SequenceNumber;
 use participants::Who;
 
-/// Who sent a message, and its number (34).
+/// Sender of a message, and its number (34).
 #[derive(Clone, Copy)]
 pub struct Sender {
     pub who: Who,

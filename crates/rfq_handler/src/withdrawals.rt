@@ -1,4 +1,4 @@
-//! A withdrawal of quotes (QuoteCancel, Z): each quote's maker and its requester are told.
+//! QuoteCancel (Z): the withdrawal of a quote, reported to its maker and to its requester.
 ghost use Rattle.std.specs.Prelude.{◌≡◌, ◌++◌, ℕ, List, [], Some, true, codes, length, flat_map, IfOk};
 ghost use Rattle.participants.specs.ParticipantFile.{ParticipantFile};
 ghost use Rattle.venue_rules.specs.declared.facts.RoomQuote.{RoomQuote as RoomQuoteValue};
@@ -27,7 +27,7 @@ use venue_rules::{
     printed_identifier, symbol_of,
 };
 
-/// What is said of a quote of a room to its maker: by its own identifier of the quote, and the venue's of the room.
+/// The status of a quote to its maker: by the maker's identifier of the quote, and the venue's of the room.
 pub(crate) fn to_maker(
     room: &Room,
     symbol: &Identifier,
@@ -49,7 +49,7 @@ pub(crate) fn to_maker(
     }
 }
 
-// And to the requester: by the venue's identifier of the quote, and its own of the request.
+// The status to the requester: by the venue's identifier of the quote, and the requester's of the request.
 fn to_requester(room: &Room, symbol: &Identifier, quote: &RoomQuote, state: QuoteState) -> Reply
     ensures { result ≡ to_requester room.now symbol.now quote.now state }
 {
@@ -66,7 +66,7 @@ fn to_requester(room: &Room, symbol: &Identifier, quote: &RoomQuote, state: Quot
     }
 }
 
-// Tells the maker and the requester of a quote that it is withdrawn.
+// Reports the withdrawal of a quote to its maker and to the requester.
 #[tactic(auto, using(crate::proofs::Withdrawing::tellings))]
 fn notify_both(
     instruments: &Instruments,
@@ -86,7 +86,7 @@ fn notify_both(
     Ok(())
 }
 
-// Tells the makers and the requesters of quotes that they are withdrawn.
+// Reports the withdrawals of quotes to their makers and requesters.
 fn notify_all(
     alloc: Global,
     instruments: &Instruments,
@@ -103,7 +103,7 @@ fn notify_all(
     Ok(replies)
 }
 
-// A report that names the quote as it was sent, if it was.
+// A report that names the quote as the message did, if it did.
 fn status(
     alloc: Global,
     sender: Sender,
@@ -124,7 +124,7 @@ fn status(
     Ok(RoomAnswer::of(RoomPlan::nothing(alloc), replies, 0, 0))
 }
 
-// The identifier of the quote that a withdrawal of one names, where it is one (QuoteCancelType, 298, is 5).
+// The identifier that a withdrawal of one quote names (QuoteCancelType, 298, is 5).
 fn named(request: &QuoteCancel) -> Option<Identifier>
     ensures { result ≡ withdrawal_id request.now }
 {
@@ -135,7 +135,7 @@ fn named(request: &QuoteCancel) -> Option<Identifier>
     }
 }
 
-// A withdrawal refused.
+// The refusal of a withdrawal.
 fn refused(
     alloc: Global,
     sender: Sender,
@@ -159,7 +159,7 @@ fn refused(
     }
 }
 
-/// The answer to a withdrawal of quotes; makes space for what it adds to the rooms.
+/// The answer to a withdrawal of quotes; reserves memory for its plan.
 pub fn plan_withdrawal(
     alloc: Global,
     instruments: &Instruments,

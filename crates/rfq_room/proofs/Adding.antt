@@ -9,7 +9,7 @@ use Rattle.venue_rules.specs.Facts.{quote_in, quotes, room_in, rooms}
 use Rattle.rfq_room.specs.Openness.{open_room}
 use Rattle.rfq_room.proofs.Readings.{take-read}
 
--- The rooms and the quotes of one fact more.
+-- The rooms and quotes of a further fact.
 
 quotes-more : (fs : List Fact) (i : ℕ) (f : Fact) → i < length fs → f ≡ get_or fs i f → quotes (take (i + 1) fs) ≡ quotes (take i fs) ++ cons_option (quote_in f) []
 quotes-more fs i f h e = ap quotes (take-read fs i f h e) ∙ filter_map-append quote_in (take i fs) (f ∷ [])

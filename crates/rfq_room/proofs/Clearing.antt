@@ -23,7 +23,7 @@ use Rattle.rfq_room.proofs.Flagging.{last-both}
 use Rattle.rfq_room.proofs.Readings.{take-read}
 use Rattle.rfq_room.proofs.Taking.{named_taken}
 
--- Of those that pass a test, those that pass a stricter one.
+-- A stricter filter of a filtered list.
 
 pub twice : {X : Type 0} (p q : X → Bool) → ((x : X) → q x ≡ true → p x ≡ true) → (xs : List X) → filter q (filter p xs) ≡ filter q xs
 twice p q stricter [] = refl
@@ -37,7 +37,7 @@ twice {X} p q stricter (x ∷ xs) = by (p x) (q x) refl refl (twice p q stricter
 pub stricter-same : {X : Type 0} (p q : X → Bool) (xs ys : List X) → ((x : X) → q x ≡ true → p x ≡ true) → filter p xs ≡ filter p ys → filter q xs ≡ filter q ys
 stricter-same p q xs ys stricter same = sym (twice p q stricter xs) ∙ ap (filter q) same ∙ twice p q stricter ys
 
--- the same where it is stricter for those that pass a third test, which all do
+-- the same, stricter for those that pass a third test, which all do
 
 under-third : {X : Type 0} (p b : X → Bool) (xs : List X) → list_all b xs ≡ true → filter (λ x. b x && p x) xs ≡ filter p xs
 under-third p b [] all = refl
@@ -54,7 +54,7 @@ stricter-under p q b xs ys all every stricter same =
 pub both-more : {X : Type 0} (q : X → Bool) (xs ys zs : List X) → filter q xs ≡ filter q ys → filter q (xs ++ zs) ≡ filter q (ys ++ zs)
 both-more q xs ys zs same = filter-append q xs zs ∙ ap (λ us. us ++ filter q zs) same ∙ sym (filter-append q ys zs)
 
--- one more that is counted
+-- counting one more element
 
 pub count-more : {X : Type 0} (p : X → Bool) (xs : List X) (i : ℕ) (x : X) → i < length xs → x ≡ get_or xs i x → length (filter p (take (i + 1) xs)) ≡ length (filter p (take i xs)) + (if p x then 1 else 0)
 count-more p xs i x h e = ap (λ ys. length (filter p ys)) (take-read xs i x h e) ∙ ap length (filter-append p (take i xs) (x ∷ [])) ∙ length-append (filter p (take i xs)) (filter p (x ∷ [])) ∙ ap (λ n. length (filter p (take i xs)) + n) (by (p x))
@@ -63,7 +63,7 @@ count-more p xs i x h e = ap (λ ys. length (filter p ys)) (take-read xs i x h e
     by true = refl
     by false = refl
 
--- the rooms that are open
+-- open rooms
 
 pub open-counted : (facts : List Fact) (t : ℕ) (rs : List Room) → length (filter (is_still_open facts t) (map open_room rs)) ≡ length (filter (is_open facts t) rs)
 open-counted facts t [] = refl
@@ -117,7 +117,7 @@ live-earlier facts m t q h k =
     let l = live-parts facts t q k in
     live-whole facts m q (record { last = l.last; kept = l.kept; standing = l.standing; timely = earlier-end m t q.end h l.timely })
 
--- Numbers that follow each other.
+-- Consecutive numbers.
 
 pub from-below : {X : Type 0} (num : X → ℕ) (xs : List X) (k n : ℕ) → AreFrom k (map num xs) → k + length xs ≤ n → list_all (λ x. nat_lt (num x) n) xs ≡ true
 from-below num [] k n from h = refl
@@ -145,7 +145,7 @@ filter-all {X} p b (x ∷ xs) all =
     by true h ih = both _ _ h ih
     by false h ih = ih
 
--- None follow, or one does.
+-- None follows, or one does.
 
 pub data IsNextOne {X : Type 0} (num : X → ℕ) (n : ℕ) (xs : List X) : Type 0 where
   NoneMore : xs ≡ [] → IsNextOne num n xs
@@ -168,7 +168,7 @@ below-next num xs ys n m all (OneMore x one e) h =
     less : (a n m : ℕ) → a ≡ n → n + 1 ≤ m → nat_lt a m ≡ true
     less a n m e h = grind (arith, nat_tests)
 
--- What a plan adds.
+-- The additions of a plan.
 
 no-rooms : (qs : List RoomQuote) → rooms (map withdrawn qs) ≡ []
 no-rooms [] = refl
@@ -200,7 +200,7 @@ plan-rooms from added plan = rw plan.made (step-rooms from.facts plan.step plan.
 pub plan-quotes : (from : Contents) (added : List Fact) → IsPlanOf from added → IsNextOne (λ (q : RoomQuote). q.number) (next_quote from.facts) (quotes added)
 plan-quotes from added plan = rw plan.made (step-quotes from.facts plan.step plan.allowed)
 
--- What is open or live once more was added was so before.
+-- What is open or live after further facts was so before.
 
 not-either : (a b : Bool) → not (a || b) ≡ true → not a ≡ true
 not-either true b h = h
@@ -241,7 +241,7 @@ live-before facts added t next q low h =
       timely = l.timely;
     })
 
--- What is kept once more was added.
+-- What is kept after further facts.
 
 pub open-added : (facts added : List Fact) (t : ℕ) (os : List OpenRoom) → filter (is_still_open facts t) os ≡ filter (is_still_open facts t) (map open_room (rooms facts)) → filter (is_still_open (facts ++ added) t) (os ++ map open_room (rooms added)) ≡ filter (is_still_open (facts ++ added) t) (map open_room (rooms (facts ++ added)))
 open-added facts added t os same =
@@ -257,7 +257,7 @@ live-added facts added t live next from low same =
 pub next-added : (facts added : List Fact) → next_quote facts + length (quotes added) ≡ next_quote (facts ++ added)
 next-added facts added = let whole : length (quotes (facts ++ added)) ≡ length (quotes facts) + length (quotes added) = ap length (filter_map-append quote_in facts added) ∙ length-append (quotes facts) (quotes added) in omega (arith, whole)
 
--- what holds of an Ok, once more
+-- facts about an Ok
 
 pub ok-also : {X E : Type 0} (P Q : X → Type 0) (r : Result X E) → ((x : X) → P x → Q x) → IfOk r P → IfOk r Q
 ok-also P Q (Ok x) so h = so x h

@@ -27,7 +27,7 @@ use Rattle.rfq_room.specs.Emitted.{quote_refused, quote_emitted, request_emitted
 use Rattle.rfq_room.specs.Views.{first_cause}
 use Rattle.rfq_room.proofs.RoomFacts.{decide-room, find_quote-room, find_room-room, named_quotes-room, quote_cause-room, quote_room-room, request_cause-room, withdrawal_cause-room}
 
--- The answers of the rules are those by the first cause.
+-- The rules' answers are those by the first cause.
 
 by-cause : {C : Type 0} (say : C → Answer) (emitted : Option C → Answer) (a : Answer) (cs : List (Bool × C)) → a ≡ emitted None → ((c : C) → say c ≡ emitted (Some c)) → first_of (map (λ c. (c.0, say c.1)) cs) a ≡ emitted (first_cause cs)
 by-cause say emitted a [] none some = none
@@ -78,7 +78,7 @@ withdrawal-emitted m h s d t =
     ∙ ap (withdrawal_emitted m h s d (named_quotes h.facts s.who t (withdrawal_id d))) (sym (withdrawal_cause-room h.facts s.who d t))
     ∙ ap (λ qs. withdrawal_emitted m h s d qs (withdrawal_cause (room_facts h.facts) s.who d t)) (sym (named_quotes-room h.facts s.who t (withdrawal_id d)))
 
--- an answer to a quote
+-- a quote response
 
 hit-at : (m : Market) (h : History) (s : Sender) (r : Room) (q : RoomQuote) (d : QuoteResponse) (t : ℕ) (side : Side) (x : Option ℤ) → answer_hit_at m h s r q d t side x ≡ response_emitted m h s d t (Some q) (Some r) (hit_at side x)
 hit-at m h s r q d t side None = refl

@@ -18,7 +18,7 @@ use Rattle.rfq_room.specs.declared.room_index.IdKind.TheVariants as named
 use Rattle.rfq_room.specs.Flagged.{AreThere, IsThere, count_of, is_flagged, is_numbered, last_number, names_in}
 use Rattle.rfq_room.proofs.Readings.{found-any, take-read}
 
--- One fact more of those that are added.
+-- A further added fact.
 
 or-moved : (a b c : Bool) → (a || (b || c)) ≡ ((b || (a || false)) || c)
 or-moved true true c = refl
@@ -37,7 +37,7 @@ any-some p kind fs i f x after before h e some is =
 pub any-none : {X : Type 0} (p : X → Bool) (kind : Fact → Option X) (fs : List Fact) (i : ℕ) (f : Fact) (after before : Bool) → i < length fs → f ≡ get_or fs i f → kind f ≡ None → after ≡ (list_any p (filter_map kind (take i fs)) || before) → after ≡ (list_any p (filter_map kind (take (i + 1) fs)) || before)
 any-none p kind fs i f after before h e none is = is ∙ sym (ap (λ xs. list_any p xs || before) (kind-more kind fs i f h e ∙ ap (λ o. filter_map kind (take i fs) ++ cons_option o []) none ∙ append-nil (filter_map kind (take i fs))))
 
--- all that are added
+-- all added facts
 
 or-turned : (a b : Bool) → (a || b) ≡ (b || a)
 or-turned true true = refl
@@ -82,7 +82,7 @@ last-both facts added room maker =
 pub last-added : (facts added : List Fact) (room maker : ℕ) → option_or (last_number added room maker) (last_number facts room maker) ≡ last_number (facts ++ added) room maker
 last-added facts added room maker = or-number (last_quote added room maker) (last_quote facts room maker) ∙ ap (option_map (λ (q : RoomQuote). q.number)) (sym (last-both facts added room maker))
 
--- the numbers that facts mark, once more
+-- the numbers that facts flag
 
 pub there-same : (m : FlagKind) (facts added same : List Fact) (count : ℕ) → count ≡ count_of m facts → same ≡ added → AreThere facts added → All (IsThere count m) same
 there-same m facts added same count e f h = rw (e, f) (h m)
@@ -98,7 +98,7 @@ number-not_given m fs i f h e given = count_by_more_no (is_numbered m) fs i f h 
 pub count-added : (m : FlagKind) (facts added : List Fact) → count_of m (facts ++ added) ≡ count_of m facts + count_of m added
 count-added m facts added = sum_by-append (λ f. cond (is_numbered m f) 1 0) facts added
 
--- What is marked is what the rules read.
+-- The flags are what the rules read.
 
 turned : (n m : ℕ) (b : Bool) → (nat_eq n m || b) ≡ (m == n || b)
 turned n m b = ap (λ c. c || b) (nat_eq_equiv.symm n m)

@@ -55,7 +55,7 @@ step-small facts (Leaves maker t id) h = withdrawn-small (named_quotes facts mak
 step-small facts (Passes id q) h = refl
 step-small facts (Trades id q r trade) h = refl
 
--- what was planned from here keeps what stays true
+-- a planned step keeps the invariant
 pub plan-kept : (rooms : Contents) (added : List Fact) → IsRooms rooms.facts → IsPlanOf rooms added → IsRooms (rooms.facts ++ added)
 plan-kept rooms added kept plan = record {
   own = list_all-append is_room_fact rooms.facts added ∙ both _ _ kept.own (ap are_own plan.made ∙ step-own rooms.facts plan.step plan.allowed);
@@ -78,11 +78,11 @@ fails ((b, c) ∷ cs) h = one b c cs (fails cs) h
 at_most : (n : ℕ) → nat_lt recipient_room n ≡ false → n ≤ recipient_room
 at_most n h = grind (arith, nat_tests)
 
--- a request that is not refused has no more recipients than it may, and is for a listed instrument
+-- an accepted request has at most 12 recipients, and is for a listed instrument
 pub free-small : (m : Market) (facts : List Fact) (who : ℕ) (d : QuoteRequest) (t : ℕ) → request_cause m facts who d t ≡ None → length (recipients m d) ≤ recipient_room
 free-small m facts who d t h = at_most (length (recipients m d)) (fails (request_causes m facts who d t) h).1.1.1.1.1.1.0
 
--- what was planned is a step that is allowed
+-- a planned step is allowed
 
 pub record Stepped (facts : List Fact) (added : List Fact) : Type 0 where
   pub step : Step
@@ -123,7 +123,7 @@ stepped-plan facts rooms added same s headroom = record {
   headroom = headroom;
 }
 
--- what is no request is for no instrument
+-- a fact that is no request is for no instrument
 
 withdrawn-listed : (count : ℕ) (qs : List RoomQuote) → are_listed count (map withdrawn qs) ≡ true
 withdrawn-listed count [] = refl

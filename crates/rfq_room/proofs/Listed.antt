@@ -18,7 +18,7 @@ same_room r a h = ap (λ x. elim x [ None ↦ a | Some y ↦ y ]) h
 below : (x count : ℕ) → nat_lt x count ≡ true → x < count
 below x count h = grind (arith, nat_tests)
 
--- a room that is found is in a listed instrument
+-- a found room is in a listed instrument
 pub find-listed : (count : ℕ) (p : Room → Bool) (fs : List Fact) (r : Room) → are_listed count fs ≡ true → find p (rooms fs) ≡ Some r → r.instrument < count
 find-listed count p [] r h k = cc
 find-listed count p (Entered e ∷ fs) r h k = find-listed count p fs r h k

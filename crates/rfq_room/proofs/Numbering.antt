@@ -10,7 +10,7 @@ use Rattle.std.proofs.lemmas.Slice.Eq.{bytes_eq-Decides}
 use Rattle.venue_rules.specs.Rooms.{printed}
 use Rattle.rfq_room.specs.Numbered.{AreFrom}
 
--- numbers that are not the same
+-- different numbers
 
 apart : (a b : ℕ) → (a ≡ b → ⊥) → a == b ≡ false
 apart a b h = by (a == b) refl
@@ -19,7 +19,7 @@ apart a b h = by (a == b) refl
     by true e = absurd (h (eqb-true a b e))
     by false e = e
 
--- one of numbers that follow each other stands at its place
+-- each of consecutive numbers is at its place
 
 pub at-place : {X : Type 0} (num : X → ℕ) (xs : List X) (k i : ℕ) → AreFrom k (map num xs) → find (λ x. num x == k + i) xs ≡ slice_get xs i
 at-place num [] k i from = refl
@@ -41,7 +41,7 @@ none-below num (x ∷ xs) k from =
     let e : num x ≡ suc k = from.0 in
     rw (apart (num x) 0 (λ h. absurd (omega (arith, h, e)))) (none-below num xs (suc k) from.1)
 
--- what is printed for one number is printed for no other
+-- different numbers are printed differently
 
 tail-same : (prefix : ℕ) (ds es : List ℕ) → prefix ∷ ds ≡ prefix ∷ es → ds ≡ es
 tail-same prefix ds es h = cc
@@ -49,7 +49,7 @@ tail-same prefix ds es h = cc
 printed-once : (prefix m n : ℕ) (id : List ℕ) → m < 2 ^ 64 → n < 2 ^ 64 → bytes_eq (printed prefix m) id ≡ true → bytes_eq (printed prefix n) id ≡ true → m ≡ n
 printed-once prefix m n id h k e f = decimal_injective m n h k (tail-same prefix (decimal m) (decimal n) ((bytes_eq-Decides (printed prefix m) id).0 e ∙ sym ((bytes_eq-Decides (printed prefix n) id).0 f)))
 
--- so what is printed for a number finds what has the number
+-- so the text printed for a number finds what has the number
 
 pub printed-found : {X : Type 0} (num : X → ℕ) (prefix n : ℕ) (id : List ℕ) (xs : List X) (k : ℕ) → n < 2 ^ 64 → bytes_eq (printed prefix n) id ≡ true → AreFrom k (map num xs) → k + length xs ≤ 2 ^ 64 → find (λ x. bytes_eq (printed prefix (num x)) id) xs ≡ find (λ x. num x == n) xs
 printed-found num prefix n id [] k h e from few = refl
@@ -70,7 +70,7 @@ printed-none num prefix id (x ∷ xs) k none from few =
     let first : num x ≡ k = from.0 in
     rw (none (num x) (omega (arith, first, few))) (printed-none num prefix id xs (suc k) none from.1 (omega (arith, few)))
 
--- what is lent of a list at a place
+-- a reference to a place of a list
 
 pub got : {X : Type 0} (xs : List X) (i : ℕ) (r : Option (Bor X)) → IsItemAt xs i r → option_map (λ (x : Bor X). x.now) r ≡ slice_get xs i
 got xs i None h = sym (slice_get_past xs i h.3)
@@ -84,12 +84,12 @@ zero-alone (suc n) h e = absurd (omega (arith, e, first_decimal (suc n) (omega a
 pub plain-decimal : (n : ℕ) → n < 2 ^ 64 → (0 < length (decimal n)) × (get_or (decimal n) 0 0 ≡ 48 → length (decimal n) ≡ 1)
 plain-decimal n h = (decimal_nonempty n h, zero-alone n h)
 
--- digits behind others make the number no less
+-- more digits make the number no less
 value-more : (n : ℕ) (ds : List ℕ) → n ≤ digits_value_after 10 n ds
 value-more n [] = omega arith
 value-more n (d ∷ ds) = let more = value-more (n * 10 + digit_value d) ds in omega (arith, more)
 
--- a place of digits has a digit, and with those before it it makes no more than all do
+-- a place of digits has a digit, and the digits up to it make no more than all do
 pub digit-of : (ds : List ℕ) (n m i : ℕ) → i < length ds → AllDigits 10 ds → digits_value_after 10 m ds ≡ n → (digit_value (get_or ds i 0) < 10) × (digits_value_after 10 m (take i ds) * 10 + digit_value (get_or ds i 0) ≤ n)
 digit-of [] n m i less digits e = absurd (omega (arith, less))
 digit-of (d ∷ ds) n m zero less digits e = (digits.0, omega (arith, e, value-more (m * 10 + digit_value d) ds))

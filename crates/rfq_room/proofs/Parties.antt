@@ -23,7 +23,7 @@ append-none : {X : Type 0} (xs : List X) → xs ++ [] ≡ xs
 append-none [] = refl
 append-none (x ∷ xs) = ap (λ ys. x ∷ ys) (append-none xs)
 
--- one party more
+-- a further party
 pub recipient-known : (file : ParticipantFile) (ps : List Party) (i : ℕ) (p : Party) (who : ℕ) → i < length ps → p ≡ get_or ps i p → is_recipient p ≡ true → find_participant file p.id ≡ Some who → recipients_of file (take (i + 1) ps) ≡ recipients_of file (take i ps) ++ who ∷ []
 recipient-known file ps i p who h e k f = more file ps i p h e ∙ rw k (rw f refl)
 
@@ -33,7 +33,7 @@ recipient-unknown file ps i p h e k f = more file ps i p h e ∙ rw k (rw f (app
 pub recipient-other : (file : ParticipantFile) (ps : List Party) (i : ℕ) (p : Party) → i < length ps → p ≡ get_or ps i p → is_recipient p ≡ false → recipients_of file (take (i + 1) ps) ≡ recipients_of file (take i ps)
 recipient-other file ps i p h e k = more file ps i p h e ∙ rw k (append-none (recipients_of file (take i ps)))
 
--- whether one stands twice, one on
+-- whether an element occurs twice, one place on
 pub twice-found : (rs : List ℕ) (i r : ℕ) → i < length rs → r ≡ get_or rs i r → list_any (λ q. q == r) (drop (i + 1) rs) ≡ true → has_twice (drop i rs) ≡ true
 twice-found rs i r h e k = rw (drop-read rs i r h e) (rw (k, has_twice) refl)
 

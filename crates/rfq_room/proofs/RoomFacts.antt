@@ -20,7 +20,7 @@ use Rattle.rfq_room.specs.Named.{named_quotes, quote_room, room_with}
 use Rattle.rfq_room.specs.Plans.{quote_made, room_asked}
 use Rattle.rfq_room.specs.RoomFacts.{is_in_room, room_facts}
 
--- What the rules read of rooms off all facts of a venue is what they read off the facts of its rooms.
+-- The rules read the same of rooms off all facts of a venue as off the facts of its rooms.
 
 rooms-room : (fs : List Fact) → rooms (room_facts fs) ≡ rooms fs
 rooms-room [] = refl

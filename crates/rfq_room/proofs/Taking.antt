@@ -9,7 +9,7 @@ use Rattle.rfq_room.specs.Named.{named_quotes}
 use Rattle.rfq_room.specs.Views.{taken_of}
 use Rattle.rfq_room.proofs.Readings.{take-read}
 
--- the quotes that a withdrawal takes away, one more
+-- the quotes that a withdrawal withdraws, and a further one
 
 more-taken : (p : RoomQuote → Bool) (qs : List RoomQuote) (i : ℕ) (q : RoomQuote) → i < length qs → q ≡ get_or qs i q → filter p (take (i + 1) qs) ≡ filter p (take i qs) ++ filter p (q ∷ [])
 more-taken p qs i q h e = ap (filter p) (take-read qs i q h e) ∙ filter-append p (take i qs) (q ∷ [])
@@ -22,7 +22,7 @@ taken-passed p qs i q h e b = more-taken p qs i q h e ∙ rw b (append-nil (filt
 
 pub ruleset takings = (taken-found, taken-passed)
 
--- they are the maker's live quotes that are named
+-- they are the maker's named live quotes
 
 all-named : (p : RoomQuote → Bool) (qs : List RoomQuote) → filter (λ q. p q && true) qs ≡ filter p qs
 all-named p [] = refl

@@ -19,7 +19,7 @@ use Rattle.rfq_room.specs.Numbered.{AreFrom}
 use Rattle.rfq_room.specs.Plans.{withdrawn}
 use Rattle.rfq_room.specs.Steps.{IsAllowed, IsPlanOf, Leaves, Nothing, Opens, Passes, Quotes, Step, Trades, facts_of}
 
--- what is found is one of the list
+-- a found element is one of the list
 
 found : {X : Type 0} (P : X → Type 0) (p : X → Bool) (xs : List X) (x : X) → All P xs → find p xs ≡ Some x → P x
 found P p [] x all h = cc
@@ -29,7 +29,7 @@ found {X} P p (y ∷ ys) x all h = by (p y) (found P p ys x (All-tail P y ys all
     by true rest h = let same : y ≡ x = cc in subst P same (All-head P y ys all)
     by false rest h = rest h
 
--- of the numbers that facts give, each is one of their count
+-- the numbers that facts give are at most their count
 
 counted : {X : Type 0} (kind : Fact → Option X) (facts : List Fact) → length (filter_map kind facts) ≡ count_by (λ f. is_some (kind f)) facts
 counted {X} kind = is_count_by (λ fs. length (filter_map kind fs)) (λ f. is_some (kind f)) refl (λ f fs. by (kind f) (filter_map kind fs))
@@ -44,7 +44,7 @@ up-to num (x ∷ xs) k count from h =
     let first : num x ≡ suc k = from.0 in
     All-cons (λ x. IsWithin count (num x)) x xs (omega (arith, first), omega (arith, first, h)) (up-to num xs (suc k) count from.1 (omega (arith, h)))
 
--- what each step marks is there
+-- what each step flags exists
 
 one : (P : Fact → Type 0) (f : Fact) → P f → All P (f ∷ [])
 one P f h = All-cons P f [] h (All-nil P)
@@ -104,7 +104,7 @@ step-there facts (Trades id q r trade) rs qs h m =
     let closed : Fact = Closed (record { room = r.number }) in
     All-cons (IsThere (count_of m facts) m) (Traded trade) (closed ∷ []) (traded-there (count_of m facts) trade m) (one (IsThere (count_of m facts) m) closed (closed-there facts r.number number m))
 
--- what was planned from here marks rooms and quotes that are there
+-- a planned step flags existing rooms and quotes
 pub plan-there : (from : Contents) (added : List Fact) → AreFrom 1 (map (λ r. r.number) (rooms from.facts)) → AreFrom 1 (map (λ q. q.number) (quotes from.facts)) → IsPlanOf from added → AreThere from.facts added
 plan-there from added rs qs plan =
     let facts = from.facts in

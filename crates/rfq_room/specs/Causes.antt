@@ -29,7 +29,7 @@ use Rattle.rfq_room.specs.declared.refusal.ResponseCause.TheVariants as response
 use Rattle.rfq_room.specs.Named.{named_quotes, quote_room}
 use Rattle.rfq_room.specs.Views.{first_cause}
 
--- why a request is refused, in the order in which it is looked for: of its recipients, and of the rooms that are open
+-- causes that refuse a request, in order: of its recipients, and of the open rooms
 abbrev pub recipient_causes : Market → List Fact → ℕ → QuoteRequest → ℕ → List (Bool × RequestRefusal)
 recipient_causes m facts who d t =
     (list_any is_none (named_recipients m d), request.UnknownParticipant)
@@ -41,7 +41,7 @@ recipient_causes m facts who d t =
     ∷ (nat_le open_room (length (open_rooms facts t)), request.TooManyRequests)
     ∷ []
 
--- before them of what it is for
+-- before them, of its instrument and quantity
 abbrev pub request_causes : Market → List Fact → ℕ → QuoteRequest → ℕ → List (Bool × RequestRefusal)
 request_causes m facts who d t =
     (is_request_id_used facts who d.request_id, request.DuplicateRequest)
@@ -52,7 +52,7 @@ request_causes m facts who d t =
 abbrev pub request_cause : Market → List Fact → ℕ → QuoteRequest → ℕ → Option RequestRefusal
 request_cause m facts who d t = first_cause (request_causes m facts who d t)
 
--- why a quote in a room is refused, in the order in which it is looked for: for its own terms
+-- causes that refuse a quote in a room, in order: of its own terms
 abbrev pub terms_causes : Market → Room → Quote → ℕ → List (Bool × QuoteRefusal)
 terms_causes m r d t =
     (not (is_absent_or (λ c. c == 49) d.quote_type), quote.NotTradeable)
@@ -61,7 +61,7 @@ terms_causes m r d t =
     ∷ (not (is_absent_or (λ u. not (nat_lt u t)) d.valid_until), quote.EndPassed)
     ∷ []
 
--- before them of whose it is, and where
+-- before them, of its sender and room
 abbrev pub quote_causes : Market → List Fact → ℕ → Room → Quote → ℕ → List (Bool × QuoteRefusal)
 quote_causes m facts who r d t =
     (not (list_any (λ p. p == who) r.recipients), quote.NotAsked)
@@ -77,7 +77,7 @@ quote_cause_in m facts who d t (Some r) = first_cause (quote_causes m facts who 
 abbrev pub quote_cause : Market → List Fact → ℕ → Quote → ℕ → Option QuoteRefusal
 quote_cause m facts who d t = quote_cause_in m facts who d t (find_room facts d.request_id)
 
--- a withdrawal is refused for its form, by whether QuoteCancelType (298) is 5, and whether it is 4
+-- the form of a withdrawal: by whether QuoteCancelType (298) is 5, and whether it is 4
 abbrev pub form_cause_of : QuoteCancel → Bool → Bool → Option WithdrawalRefusal
 form_cause_of d true all = elim (is_none d.quote_id) [ true ↦ Some withdrawal.QuoteMissing | false ↦ None ]
 form_cause_of d false true = None
@@ -86,11 +86,11 @@ form_cause_of d false false = Some withdrawal.Unsupported
 abbrev pub form_cause : QuoteCancel → Option WithdrawalRefusal
 form_cause d = form_cause_of d (d.cancel_type == 5) (d.cancel_type == 4)
 
--- the identifier that a withdrawal goes by: with 298 of 5 its own, else none
+-- the identifier of a withdrawal: its own with 298 of 5, else none
 abbrev pub withdrawal_id : QuoteCancel → Option (List ℕ)
 withdrawal_id d = elim (d.cancel_type == 5) [ true ↦ d.quote_id | false ↦ None ]
 
--- or since no quote is found
+-- or no quote is found
 abbrev pub none_found : List RoomQuote → Option WithdrawalRefusal
 none_found [] = Some withdrawal.NotFound
 none_found (q ∷ qs) = None
@@ -102,7 +102,7 @@ cause_or last (Some first) = Some first
 abbrev pub withdrawal_cause : List Fact → ℕ → QuoteCancel → ℕ → Option WithdrawalRefusal
 withdrawal_cause facts who d t = cause_or (none_found (named_quotes facts who t (withdrawal_id d))) (form_cause d)
 
--- what an answer to a quote comes to
+-- decisions on a quote response
 
 -- a hit, by the requester's side and the quote's price for it
 abbrev pub hit_at : Side → Option ℤ → Decision
@@ -113,7 +113,7 @@ abbrev pub hit_on : RoomQuote → Option Side → Decision
 hit_on q None = Refuse response.SideMissing
 hit_on q (Some side) = hit_at side (price_for side q)
 
--- what comes before a hit, in the order in which it is looked for
+-- checks before a hit, in order
 abbrev pub before_hit : List Fact → ℕ → Room → RoomQuote → QuoteResponse → ℕ → List (Bool × Decision)
 before_hit facts who r q d t =
     (not (r.requester == who), Refuse response.NotYours)
@@ -143,7 +143,7 @@ is_supported d = d.response_type == 1 || d.response_type == 6
 abbrev pub decide : List Fact → ℕ → QuoteResponse → ℕ → Decision
 decide facts who d t = elim (is_supported d) [ true ↦ decide_in facts who d t (find_quote facts d.quote_id) (quote_room facts d.quote_id) | false ↦ Refuse response.Unsupported ]
 
--- the cause where it is a refusal
+-- the cause of a refusal
 abbrev pub refused_by : Decision → Option ResponseCause
 refused_by (Refuse cause) = Some cause
 refused_by Pass = None

@@ -1,11 +1,11 @@
 use Rattle.std.specs.Prelude.{ℕ, List}
 use Rattle.venue_rules.specs.declared.facts.Fact.{Fact}
 
--- what the rooms have space for without more memory: so many facts
+-- spare capacity, in facts
 pub record Spare : Type 0 where
   pub headroom : ℕ
 
--- the facts of the rooms, in order, and what they have space for
+-- the facts of the rooms, in order, and spare capacity
 pub record Contents : Type 0 where
   pub facts : List Fact
   pub spare : Spare

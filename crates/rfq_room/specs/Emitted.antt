@@ -32,11 +32,11 @@ abbrev pub request_emitted : Market → History → Sender → QuoteRequest → 
 request_emitted m h s d t None = request_accepted m (opened m h s d t)
 request_emitted m h s d t (Some cause) = request_refused s d cause
 
--- the symbol of a room, where there is one
+-- the symbol of a room, if any
 abbrev pub room_symbol : Market → Option Room → Option (List ℕ)
 room_symbol m room = option_map (λ r. symbol_of m.instruments r.instrument) room
 
--- a quote refused, in a room if there is one
+-- the refusal of a quote, in a room if any
 abbrev pub quote_refused : Market → Sender → Quote → Option Room → QuoteRefusal → Answer
 quote_refused m s d room cause = answers (quote_status s d (room_symbol m room) (state.Refused cause) ∷ [])
 
@@ -57,7 +57,7 @@ withdrawal_emitted m h s d qs (Some withdrawal.Unsupported) = cancel_status s d 
 abbrev pub status_in : Market → Sender → QuoteResponse → Option Room → QuoteState → Answer
 status_in m s d room what = answers (response_status s d (option_map (λ r. r.id) room) (room_symbol m room) what ∷ [])
 
--- an answer to a quote refused: the room is named from where it is known to be the sender's own
+-- the refusal of a quote response: the room is named once it is known to be the sender's own
 abbrev pub response_refused : Market → Sender → QuoteResponse → Option Room → ResponseCause → Answer
 response_refused m s d room response.Unsupported = status_in m s d None (state.ResponseRefused refusal.UnsupportedResponse)
 response_refused m s d room response.UnknownQuote = status_in m s d None state.NotFound
@@ -69,7 +69,7 @@ response_refused m s d room response.OtherSide = status_in m s d room (state.Res
 response_refused m s d room response.SideMissing = business_reject s business.SideMissing
 response_refused m s d room response.NoPrice = status_in m s d room (state.ResponseRefused refusal.InvalidPrice)
 
--- the answer to an answer to a quote, by the quote that it names, its room, and what it comes to
+-- the answer to a quote response, by the quote that it names, its room, and the decision
 abbrev pub response_emitted : Market → History → Sender → QuoteResponse → ℕ → Option RoomQuote → Option Room → Decision → Answer
 response_emitted m h s d t q room (Refuse cause) = response_refused m s d room cause
 response_emitted m h s d t (Some q) (Some r) Pass = passed m s r q d

@@ -16,7 +16,7 @@ use Rattle.rfq_room.specs.Flags.{IsWithin, is_set}
 use Rattle.rfq_room.specs.LastQuotes.{last_in}
 use Rattle.rfq_room.specs.GhostHistory.{facts_in}
 
--- the number that a fact marks: of a room that has traded, of a quote that is withdrawn, of a room in which there is a quote
+-- the number that a fact flags: of a room that has traded, of a withdrawn quote, of a room with a quote
 abbrev pub number_in : FlagKind → Fact → Option ℕ
 number_in flag.Traded (Closed c) = Some c.room
 number_in flag.Traded _ = None
@@ -28,21 +28,21 @@ number_in flag.Quoted _ = None
 abbrev pub numbers_in : FlagKind → List Fact → List ℕ
 numbers_in m facts = filter_map (number_in m) facts
 
--- the facts mark a number
+-- the facts flag a number
 abbrev pub is_flagged : FlagKind → List Fact → ℕ → Bool
 is_flagged m facts n = list_any (nat_eq n) (numbers_in m facts)
 
--- a fact gives a number that may be marked so: a room's, or a quote's
+-- a fact gives a number of the flag's kind: a room's, or a quote's
 abbrev pub is_numbered : FlagKind → Fact → Bool
 is_numbered flag.Traded fact = is_some (room_in fact)
 is_numbered flag.Withdrawn fact = is_some (quote_in fact)
 is_numbered flag.Quoted fact = is_some (room_in fact)
 
--- how many such numbers facts give
+-- the count of such numbers that facts give
 abbrev pub count_of : FlagKind → List Fact → ℕ
 count_of m facts = count_by (is_numbered m) facts
 
--- a fact marks one of so many numbers, and facts that are added mark numbers that facts gave
+-- a fact flags a number up to a count, and added facts flag numbers given before
 abbrev pub IsThere : ℕ → FlagKind → Fact → Type 0
 IsThere count m fact = IfSome (number_in m fact) (IsWithin count)
 
@@ -63,14 +63,14 @@ names_in n facts = filter_map (name_in n) facts
 abbrev pub last_number : List Fact → ℕ → ℕ → Option ℕ
 last_number facts room maker = option_map (λ q. q.number) (last_quote facts room maker)
 
--- a room of this number and this end is open at t
+-- a room with this number and end is open at t
 abbrev pub still_open : List Fact → ℕ → ℕ → ℕ → Bool
 still_open facts t room end = not (is_closed facts room) && nat_le t end
 
 abbrev pub contents : Inside → Contents
 contents m = record { facts = facts_in m.past; spare = record { headroom = m.headroom } }
 
--- what is marked is what the facts mark, with a flag for each number that they give
+-- the flags are those of the facts, one for each number that they give
 pub record AreFlagged (m : Inside) : Type 0 where
   pub traded : (n : ℕ) → is_set m.traded.flags n ≡ is_flagged flag.Traded (facts_in m.past) n
   pub withdrawn : (n : ℕ) → is_set m.withdrawn.flags n ≡ is_flagged flag.Withdrawn (facts_in m.past) n

@@ -3,7 +3,7 @@ use Rattle.std.specs.Map.{lookup}
 use Rattle.std.specs.HashMap.{spare}
 use Rattle.rfq_room.specs.declared.last_quotes.LastQuotes.TheInside.{Inside}
 
--- the number of the last quote by room and maker, and room for so many more
+-- the number of the last quote by room and maker, and spare capacity
 pub record Latest : Type 0 where
   pub entries : List ((ℕ × ℕ) × ℕ)
   pub headroom : ℕ
@@ -11,6 +11,6 @@ pub record Latest : Type 0 where
 abbrev pub latest : Inside → Latest
 latest a = record { entries = a.numbers.entries; headroom = spare a.numbers }
 
--- the number of the last quote of a maker in a room, if there is one
+-- the number of the last quote of a maker in a room, if any
 abbrev pub last_in : List ((ℕ × ℕ) × ℕ) → ℕ → ℕ → Option ℕ
 last_in entries room maker = lookup (λ k. nat_eq room k.0 && nat_eq maker k.1) entries

@@ -1,22 +1,22 @@
--- which facts of a venue are its rooms'
+-- the facts of a venue's rooms
 pub mod RoomFacts
--- what is read off a fact, and the first test of a list that holds
+-- readings of a fact, and the first test of a list that holds
 pub mod Views
--- which room a quote is in
+-- the room of a quote
 pub mod Named
--- what each request comes to
+-- the decision on each request
 pub mod Causes
--- why nothing changes
+-- refusals
 pub mod Refusals
--- what a request adds
+-- the additions of a request
 pub mod Plan
 pub mod Plans
--- what the rooms hold, and what stays true of it
+-- the contents of the rooms and their invariant
 pub mod Contents
 pub mod RoomStore
--- what may happen to rooms in one step
+-- the steps of rooms
 pub mod Steps
--- what the venue answers, by what its rooms decide
+-- the venue's answers, by the decisions of its rooms
 pub mod Emitted
 -- what is kept of the facts
 pub mod GhostHistory

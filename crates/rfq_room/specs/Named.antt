@@ -13,11 +13,11 @@ abbrev pub room_with : List Fact → Option RoomQuote → Option Room
 room_with facts None = None
 room_with facts (Some q) = room_by_number facts q.room
 
--- the room of the quote that the venue numbered so
+-- the room of the quote with this identifier of the venue's
 abbrev pub quote_room : List Fact → List ℕ → Option Room
 quote_room facts id = room_with facts (find_quote facts id)
 
--- a maker's live quotes; where one is named, those with this identifier of the maker's
+-- a maker's live quotes; with a name, those with this identifier of the maker's
 abbrev pub named_quotes : List Fact → ℕ → ℕ → Option (List ℕ) → List RoomQuote
 named_quotes facts maker t None = live_quotes facts maker t
 named_quotes facts maker t (Some id) = filter (λ q. bytes_eq q.id id) (live_quotes facts maker t)

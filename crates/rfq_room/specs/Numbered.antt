@@ -1,6 +1,6 @@
 use Rattle.std.specs.Prelude.{⊤, ◌≡◌, ℕ, suc, List, [], ◌∷◌}
 
--- these numbers follow each other, the first of them n
+-- consecutive numbers from n
 abbrev pub AreFrom : ℕ → List ℕ → Type 0
 AreFrom n [] = ⊤
 AreFrom n (m ∷ ms) = (m ≡ n) × AreFrom (suc n) ms

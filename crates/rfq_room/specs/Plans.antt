@@ -19,14 +19,14 @@ use Rattle.rfq_room.specs.declared.decision.Decision.{Decision}
 use Rattle.rfq_room.specs.declared.decision.Decision.TheVariants.{Refuse, Pass, Trade}
 use Rattle.rfq_room.specs.Plan.{Plan}
 
--- the rules read no more of a history and a sender here than facts and a place
+-- here the rules read facts of a history and the place of a sender alone
 abbrev pub history : List Fact → History
 history facts = record { facts = facts; reports = 0 }
 
 abbrev pub sender : ℕ → Sender
 sender who = record { who = who; number = 0; kind = [] }
 
--- the room that a request opens, and the quote that is made in a room
+-- the room that a request opens, and the quote of a message in a room
 abbrev pub room_asked : Market → List Fact → ℕ → QuoteRequest → ℕ → Room
 room_asked m facts who d t = opened m (history facts) (sender who) d t
 
@@ -60,12 +60,12 @@ pass_plan q = record { facts = withdrawn q ∷ []; quotes = []; hit = None }
 abbrev pub hit_plan : ℕ → ℕ → RoomQuote → Room → Hit → Plan
 hit_plan who t q r hit = record { facts = Traded (hit_trade (sender who) r q hit.side hit.price t) ∷ Closed (record { room = r.number }) ∷ []; quotes = []; hit = Some hit }
 
--- the plan of an answer to a quote of a room, by what it comes to
+-- the plan of a response to a quote in a room, by the decision
 abbrev pub IsResponsePlan : ℕ → ℕ → RoomQuote → Room → Decision → Plan → Type 0
 IsResponsePlan who t q r (Refuse cause) p = ⊥
 IsResponsePlan who t q r Pass p = p ≡ pass_plan q
 IsResponsePlan who t q r (Trade hit) p = p ≡ hit_plan who t q r hit
 
--- the plan of an answer to the quote that it names, in that quote's room
+-- the plan of a response to the quote that it names, in that quote's room
 abbrev pub IsResponsePlanned : List Fact → ℕ → QuoteResponse → ℕ → Decision → Plan → Type 0
 IsResponsePlanned facts who d t decision p = MatchOption (find_quote facts d.quote_id) ⊥ (λ q. MatchOption (quote_room facts d.quote_id) ⊥ (λ r. IsResponsePlan who t q r decision p))

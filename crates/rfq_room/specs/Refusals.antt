@@ -59,7 +59,7 @@ refusal_of (cause.Quote c) = quote_refusal c
 refusal_of (cause.Withdrawal c) = withdrawal_refusal c
 refusal_of (cause.Response c) = response_refusal c
 
--- what a refusal carries
+-- the cause that a refusal carries
 abbrev pub cause_of : Refusal → Option Cause
 cause_of (TooFew c) = Some c
 cause_of (NotUnrelated c) = Some c
@@ -74,7 +74,7 @@ cause_of (Duplicate c) = Some c
 cause_of (Other c) = Some c
 cause_of NoMemory = None
 
--- the refusal is for want of memory, or is that of the cause that holds
+-- the refusal is an allocation failure, or that of the cause that holds
 abbrev pub IsRefusalOf : Option Cause → Refusal → Option Cause → Type 0
 IsRefusalOf holds refusal None = Unit {0}
 IsRefusalOf holds refusal (Some c) = (holds ≡ Some c) × (refusal ≡ refusal_of c)
@@ -82,7 +82,7 @@ IsRefusalOf holds refusal (Some c) = (holds ≡ Some c) × (refusal ≡ refusal_
 abbrev pub IsRefusedFor : Option Cause → Refusal → Type 0
 IsRefusedFor holds refusal = IsRefusalOf holds refusal (cause_of refusal)
 
--- the same by what was asked for
+-- the same, by kind of request
 
 abbrev pub IsRequestRefused : Option RequestRefusal → Refusal → Type 0
 IsRequestRefused holds refusal = IsRefusedFor (option_map (λ c. cause.Request c) holds) refusal

@@ -20,6 +20,6 @@ is_room_fact (Quoted q) = true
 is_room_fact (Withdrawn w) = true
 is_room_fact (Closed c) = true
 
--- of a venue's facts, those of its rooms
+-- the facts of the rooms among a venue's facts
 abbrev pub room_facts : List Fact → List Fact
 room_facts facts = filter is_room_fact facts

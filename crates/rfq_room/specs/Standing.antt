@@ -11,8 +11,8 @@ use Rattle.rfq_room.specs.Openness.{is_still_open, open_room}
 abbrev pub contents : Inside → Contents
 contents k = record { facts = k.known_flags.facts; spare = record { headroom = k.headroom } }
 
--- what is kept is what the facts leave: the rooms and the quotes, each at the place of its number; of those that may not yet be over, at each moment
--- from the one that was seen on, those that are not, in order
+-- what is kept of the facts: rooms and quotes by number; and, of those that may not be over yet, at each moment from
+-- the last one seen on, exactly those that are not, in order
 pub record IsKept (k : Inside) : Type 0 where
   pub all_rooms : k.rooms.items ≡ rooms k.known_flags.facts
   pub all_quotes : k.quotes.items ≡ quotes k.known_flags.facts

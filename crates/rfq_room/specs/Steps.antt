@@ -12,8 +12,8 @@ use Rattle.rfq_room.specs.Contents.{Contents}
 use Rattle.rfq_room.specs.Named.{named_quotes, quote_room}
 use Rattle.rfq_room.specs.Plans.{withdrawn}
 
--- what may happen to rooms in one step: nothing; a room opens; a quote is made in the room of a number; a maker's live quotes go, of a
--- moment and where one is named of an identifier; the quote of a number is passed; there is a trade at it
+-- a step of rooms: nothing; a room opens; a quote is made in the room with a number; a maker's live quotes at a moment,
+-- with a name those with this identifier, are withdrawn; the quote with a number is passed; it trades
 pub data Step : Type 0 where
   Nothing : Step
   Opens : Room → Step
@@ -22,7 +22,7 @@ pub data Step : Type 0 where
   Passes : List ℕ → RoomQuote → Step
   Trades : List ℕ → RoomQuote → Room → Trade → Step
 
--- the facts that a step adds
+-- the facts of a step
 abbrev pub facts_of : List Fact → Step → List Fact
 facts_of facts Nothing = []
 facts_of facts (Opens r) = Asked r ∷ []
@@ -31,7 +31,7 @@ facts_of facts (Leaves maker t id) = map withdrawn (named_quotes facts maker t i
 facts_of facts (Passes id q) = withdrawn q ∷ []
 facts_of facts (Trades id q r trade) = Traded trade ∷ Closed (record { room = r.number }) ∷ []
 
--- a room and a quote have the next number; a quote, a pass and a trade are of a room and a quote that are there
+-- a room and a quote have the next number; a quote, a pass and a trade are of an existing room and quote
 abbrev pub IsAllowed : List Fact → Step → Type 0
 IsAllowed facts Nothing = Unit {0}
 IsAllowed facts (Opens r) = (r.number ≡ next_room facts) × (length r.recipients ≤ recipient_room)
@@ -40,7 +40,7 @@ IsAllowed facts (Leaves maker t id) = Unit {0}
 IsAllowed facts (Passes id q) = find_quote facts id ≡ Some q
 IsAllowed facts (Trades id q r trade) = (find_quote facts id ≡ Some q) × (quote_room facts id ≡ Some r) × (trade.place ≡ InRoom r.number q.number)
 
--- these facts are those of a step from this state, and there is space for them
+-- the facts of a step from this state, within capacity
 pub record IsPlanOf (rooms : Contents) (added : List Fact) : Type 0 where
   pub step : Step
   pub allowed : IsAllowed rooms.facts step

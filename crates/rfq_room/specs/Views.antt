@@ -13,7 +13,7 @@ abbrev pub first_cause : {C : Type 0} → List (Bool × C) → Option C
 first_cause [] = None
 first_cause (c ∷ cs) = elim c.0 [ true ↦ Some c.1 | false ↦ first_cause cs ]
 
--- a fact of the kind that is looked at, of which this holds
+-- a fact of the kind, with this property
 abbrev pub holds_of : {X : Type 0} → (X → Bool) → Option X → Bool
 holds_of p None = false
 holds_of p (Some x) = p x
@@ -29,16 +29,16 @@ is_quote_of who id f = holds_of (λ q. is_name who id q.maker q.id) (quote_in f)
 abbrev pub is_quote_in : ℕ → Fact → Bool
 is_quote_in room f = holds_of (λ q. q.room == room) (quote_in f)
 
--- of the rooms that the second facts open, those that are open after the first
+-- the rooms that the second facts open, filtered to those open after the first
 abbrev pub open_of : List Fact → ℕ → List Fact → List Room
 open_of all t facts = filter (is_open all t) (rooms facts)
 
--- an identifier is the one that is named, if one is
+-- an identifier is the named one, if any
 abbrev pub is_named : List ℕ → Option (List ℕ) → Bool
 is_named id None = true
 is_named id (Some named) = bytes_eq id named
 
--- of the quotes in the second facts, a maker's that are live after the first and named
+-- a quote of the second facts that is the maker's, live after the first, and named
 abbrev pub is_taken : List Fact → ℕ → ℕ → Option (List ℕ) → RoomQuote → Bool
 is_taken all maker t named q = (q.maker == maker && is_live all t q) && is_named q.id named
 
@@ -49,7 +49,7 @@ taken_of all maker t named facts = filter (is_taken all maker t named) (quotes f
 abbrev pub is_recipient : Party → Bool
 is_recipient p = p.source == 68 && p.role == 35
 
--- the places of these parties' recipients: of each if it is in the file, and those that are
+-- the places of these parties' recipients: each, or none outside of the file; and those in the file
 abbrev pub places_of : ParticipantFile → List Party → List (Option ℕ)
 places_of file parties = map (λ p. find_participant file p.id) (filter is_recipient parties)
 

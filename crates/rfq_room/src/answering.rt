@@ -1,4 +1,4 @@
-//! An answer to a quote (QuoteResponse, AJ).
+//! QuoteResponse (AJ): responses to a quote.
 ghost use Rattle.std.specs.Prelude.{◌≡◌, IfOk, IfErr};
 ghost use Rattle.venue_rules.specs.Responses.{hit_trade, is_other_side, price_for, taken_side};
 ghost use Rattle.rfq_room.specs.Causes.{decide, decide_room, hit_on, is_supported, refused_by};
@@ -23,7 +23,7 @@ fn is_supported(response: &QuoteResponse) -> bool
     response.response_type.get() == 1 || response.response_type.get() == 6
 }
 
-// The answer names the side that was not asked for.
+// Whether the response names the side that was not asked for.
 fn is_other_side(asked: Option<Side>, given: Option<Side>) -> bool
     ensures { result ≡ is_other_side asked given }
 {
@@ -33,7 +33,7 @@ fn is_other_side(asked: Option<Side>, given: Option<Side>) -> bool
     }
 }
 
-// The side that was asked for, or, where both were, the one that is named.
+// The side asked for, or the one that the response names where both were.
 fn taken_side(asked: Option<Side>, given: Option<Side>) -> Option<Side>
     ensures { result ≡ taken_side asked given }
 {
@@ -53,7 +53,7 @@ fn price_for(side: Side, quote: &RoomQuote) -> Option<Price>
     }
 }
 
-// What a hit comes to, by the requester's side.
+// A hit, by the requester's side.
 fn hit_on(quote: &RoomQuote, side: Option<Side>) -> Decision
     ensures { result ≡ hit_on quote.now side }
 {
@@ -66,7 +66,7 @@ fn hit_on(quote: &RoomQuote, side: Option<Side>) -> Decision
     }
 }
 
-// What an answer to a quote of a room comes to.
+// The decision on a response to a quote in a room.
 fn decide_room(
     kept: &RoomStore,
     who: Who,
@@ -99,7 +99,7 @@ fn decide_room(
     hit_on(quote, taken_side(room.side, response.side))
 }
 
-// The trade of a hit: of the asked quantity, at the quote's price.
+// The trade of a hit: the requested quantity, at the quote's price.
 fn hit_trade(
     who: Who,
     room: &Room,
@@ -129,7 +129,7 @@ fn draft_pass(alloc: Global, quote: &RoomQuote) -> Result<RoomPlan, AllocError>
     Ok(RoomPlan::of(facts, Vec::new(alloc), None))
 }
 
-// The plan of a hit: a trade, and the room is closed.
+// The plan of a hit: a trade, which closes the room.
 fn draft_hit(
     alloc: Global,
     who: Who,
@@ -146,7 +146,7 @@ fn draft_hit(
     Ok(RoomPlan::of(facts, Vec::new(alloc), Some(hit)))
 }
 
-// The plan of what an answer to a quote comes to.
+// The plan of a decision.
 fn draft_decided(
     alloc: Global,
     who: Who,
@@ -169,7 +169,7 @@ fn draft_decided(
     }
 }
 
-/// The plan of an answer to a quote, before space is made for it.
+/// The plan of a quote response, before memory is reserved for it.
 pub(crate) fn draft_answer(
     alloc: Global,
     kept: &RoomStore,

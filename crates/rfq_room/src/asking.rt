@@ -1,4 +1,4 @@
-//! A request for quotes (QuoteRequest, R).
+//! QuoteRequest (R): requests for quotes.
 ghost use Rattle.std.specs.Prelude.{◌≡◌, ◌<◌, length, None, Some, is_none, IfOk, IfErr};
 ghost use Rattle.std.specs.List.{list_any};
 ghost use Rattle.rfq_room.specs.Refusals.{IsRequestRefused};
@@ -19,13 +19,11 @@ use sef_moment::Moment;
 use std::alloc::Global;
 use venue_rules::{Fact, Recipients, RequestRefusal, Room};
 
-/// How many recipients a request may have.
 const MAX_RECIPIENTS: usize = 12;
 
-/// How many rooms may be open.
 const MAX_OPEN_ROOMS: usize = 1_000;
 
-// Why a request that is for enough of a listed instrument is refused.
+// Causes that refuse a request whose instrument and quantity are accepted.
 fn recipients_cause(
     participants: &Participants,
     instruments: &Instruments,
@@ -64,7 +62,7 @@ fn recipients_cause(
     None
 }
 
-/// The instrument that a request is for, by its place in the file, or why the request is refused.
+/// The instrument of a request, by its place in the file, or the cause that refuses the request.
 fn instrument_asked(
     participants: &Participants,
     instruments: &Instruments,
@@ -138,7 +136,7 @@ fn room_asked(
     }
 }
 
-/// The plan of a request, before space is made for it.
+/// The plan of a request, before memory is reserved for it.
 pub(crate) fn draft_ask(
     alloc: Global,
     participants: &Participants,

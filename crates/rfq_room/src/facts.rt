@@ -1,10 +1,10 @@
-//! What a single fact is.
+//! Readings of a single fact.
 ghost use Rattle.std.specs.Prelude.{◌≡◌, option_map};
 ghost use Rattle.venue_rules.specs.Facts.{quote_in, room_in};
 
 use venue_rules::{Fact, Room, RoomQuote};
 
-/// The room that the fact opens.
+/// The room that the fact opens, if any.
 pub(crate) fn room_in(fact: &Fact) -> Option<&Room>
     ensures { option_map (λ r. r.now) result ≡ room_in fact.now }
 {
@@ -14,7 +14,7 @@ pub(crate) fn room_in(fact: &Fact) -> Option<&Room>
     }
 }
 
-/// The quote that the fact is.
+/// The quote that the fact is, if any.
 pub(crate) fn quote_in(fact: &Fact) -> Option<&RoomQuote>
     ensures { option_map (λ q. q.now) result ≡ quote_in fact.now }
 {

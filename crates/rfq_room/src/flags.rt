@@ -1,11 +1,11 @@
-//! Flags of numbers, each at the place of its number from 1.
+//! Flags indexed by number, from 1.
 ghost use Rattle.std.specs.Prelude.{◌≡◌, ℕ, ◌+◌, ◌≤◌, ◌||◌, [], length, nat_eq, IfOk};
 ghost use Rattle.rfq_room.specs.Flags.{IsWithin, is_set};
 
 use std::alloc::{AllocError, Global};
 use std::marker::Model;
 
-/// The flags of the numbers from 1 on, one more at a time.
+/// A growing list of flags for the numbers from 1 on.
 #[derive(Drop)]
 pub(crate) struct Flags {
     flags: Vec<bool>,
@@ -28,7 +28,7 @@ impl Flags {
         }
     }
 
-    /// Makes room for so many flags more.
+    /// Reserves capacity for this many further flags.
     pub(crate) fn reserve(&mut self, more: usize) -> Result<(), AllocError>
         ensures flags { self.new.flags ≡ self.old.flags }
         ensures headroom { IfOk result (λ _. more ≤ self.new.headroom) }
@@ -37,7 +37,7 @@ impl Flags {
         self.flags.reserve(more)
     }
 
-    /// Whether the flag of the number is there, and set.
+    /// Whether the number has a flag, and it is set.
     pub(crate) fn is_set(&self, number: u64) -> bool
         ensures { result ≡ is_set self.now.flags number }
     {
@@ -50,7 +50,7 @@ impl Flags {
             .unwrap_or(false)
     }
 
-    /// One flag more, which is not set, for which there is room.
+    /// Appends a cleared flag, within reserved capacity.
     pub(crate) fn push(&mut self)
         requires { 1 ≤ self.old.headroom }
         ensures flags { (n : ℕ) → is_set self.new.flags n ≡ is_set self.old.flags n }
@@ -60,7 +60,6 @@ impl Flags {
         self.flags.push_reserved(false);
     }
 
-    /// Sets the flag of the number.
     pub(crate) fn set(&mut self, number: u64)
         requires { IsWithin (length self.old.flags) number }
         ensures flags { (n : ℕ) → is_set self.new.flags n ≡ (nat_eq n number || is_set self.old.flags n) }

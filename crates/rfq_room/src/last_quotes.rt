@@ -8,7 +8,7 @@ use std::collections::HashMap;
 use std::hash::{BuildHasherDefault, FoldHasher};
 use std::marker::Model;
 
-/// The number of the last quote of each maker in each room, found by a hash, whatever the count of them.
+/// The number of each maker's last quote in each room, with constant-time lookup.
 #[derive(Drop)]
 pub(crate) struct LastQuotes {
     numbers: HashMap<(u64, u32), u64, BuildHasherDefault<FoldHasher>, Global>,
@@ -31,7 +31,7 @@ impl LastQuotes {
         }
     }
 
-    /// Makes room for the quotes of so many makers in rooms more.
+    /// Reserves capacity for this many further pairs of room and maker.
     pub(crate) fn reserve(&mut self, more: usize) -> Result<(), AllocError>
         ensures entries { (room maker : ℕ) → last_in self.new.entries room maker ≡ last_in self.old.entries room maker }
         ensures headroom { IfOk result (λ _. more ≤ self.new.headroom) }
@@ -46,7 +46,7 @@ impl LastQuotes {
         self.numbers.get(&(room, maker.place())).copied()
     }
 
-    /// A later quote of a maker in a room, for which there is room.
+    /// Sets a maker's last quote in a room, within reserved capacity.
     pub(crate) fn set(&mut self, room: u64, maker: Who, number: u64)
         requires { 1 ≤ self.old.headroom }
         ensures entries { (r m : ℕ) → last_in self.new.entries r m ≡ cond (nat_eq room r && nat_eq maker m) (Some number) (last_in self.old.entries r m) }

@@ -1,4 +1,4 @@
-//! How what the rooms decide makes the answers of the rules.
+//! From the decisions of the rooms to the answers of the rules.
 ghost use Rattle.std.specs.Prelude.{◌≡◌, ℕ, List, is_some};
 ghost use Rattle.fix_dictionary.specs.declared.messages.QuoteRequest.{QuoteRequest};
 ghost use Rattle.fix_dictionary.specs.declared.messages.Quote.{Quote};
@@ -20,8 +20,8 @@ ghost use Rattle.rfq_room.specs.Plans.{quote_made, room_asked};
 ghost use Rattle.rfq_room.specs.RoomFacts.{room_facts};
 ghost use Rattle.rfq_room.specs.Emitted.{quote_emitted, request_emitted, response_emitted, withdrawal_emitted};
 
-/// The answers of the rules to a request, a quote, a withdrawal and an answer to a quote are those by the cause or the
-/// decision that the rooms have, and what else the rules read of rooms off all facts of a venue they read off its rooms'.
+/// The rules' answers to a request, a quote, a withdrawal and a quote response are those by the rooms' cause or
+/// decision. The rules' other readings of rooms are the same off all facts of a venue as off the facts of its rooms.
 pub fn rooms_decide()
     ensures request { (m : Market) (h : History) (s : Sender) (d : QuoteRequest) (t : ℕ) → answer_request m h s d t ≡ request_emitted m h s d t (request_cause m (room_facts h.facts) s.who d t) }
     ensures quote { (m : Market) (h : History) (s : Sender) (d : Quote) (t : ℕ) → answer_quote m h s d t ≡ quote_emitted m h s d (find_room (room_facts h.facts) d.request_id) (quote_cause m (room_facts h.facts) s.who d t) }

@@ -1,8 +1,8 @@
-//! The rooms of a venue: requests for quotes, the quotes in them, and what each request, quote, withdrawal and answer comes to
-//! (17 CFR 37.9(a)(2), (a)(3)).
+//! Rooms of a venue: requests for quotes, the quotes in them, and the decision on each request, quote, withdrawal and
+//! quote response (17 CFR 37.9(a)(2), (a)(3)).
 //!
-//! The rooms, their quotes and the identifiers that were used are kept; contracts see the facts of the day, and the definitions of
-//! `venue_rules` that read everything off them.
+//! It keeps the rooms, their quotes and the used identifiers. Contracts see the facts of the day, and the definitions
+//! of `venue_rules` read off them.
 #![tactic(auto)]
 
 mod answering;

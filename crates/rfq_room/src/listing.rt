@@ -1,11 +1,11 @@
-//! What the instrument file says of an instrument.
+//! Readings of the instrument file.
 ghost use Rattle.std.specs.Prelude.{◌≡◌, ◌<◌, true, false, length, nat_lt, MatchOption};
 ghost use Rattle.instruments.specs.Listing.{instrument_of, is_unknown_instrument, least_of};
 
 use fix_dictionary::{Identifier, Quantity};
 use instruments::Instruments;
 
-/// The instrument of a symbol, by its place in the file.
+/// The instrument with a symbol, by its place in the file.
 pub(crate) fn instrument_of(instruments: &Instruments, symbol: &Identifier) -> Option<u32>
     ensures { MatchOption result (is_unknown_instrument instruments.now symbol.now ≡ true) (λ x. (x ≡ instrument_of instruments.now symbol.now) × (x < length instruments.now) × (is_unknown_instrument instruments.now symbol.now ≡ false)) }
 {

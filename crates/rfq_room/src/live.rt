@@ -1,4 +1,4 @@
-//! The quotes that may be hit, of those that are not known to be over.
+//! Live quotes, among those not known to be over.
 ghost use Rattle.std.specs.Prelude.{◌≡◌, ◌≤◌, filter, length, option_map, IfOk, ◌+◌, ◌++◌};
 ghost use Rattle.std.specs.Vec.{vec_capacity, vec_len};
 ghost use Rattle.venue_rules.specs.Facts.{quotes};
@@ -13,7 +13,7 @@ use sef_moment::Moment;
 use std::alloc::{AllocError, Global};
 use venue_rules::{Fact, RoomQuote};
 
-// Whether an identifier is the one that is named, if one is.
+// Whether an identifier is the named one, if any.
 fn is_named(id: &Identifier, named: Option<&Identifier>) -> bool
     ensures { result ≡ is_named id.now (option_map (λ n. n.now) named.entry) }
 {
@@ -23,7 +23,7 @@ fn is_named(id: &Identifier, named: Option<&Identifier>) -> bool
     }
 }
 
-// Whether a withdrawal takes the quote away.
+// Whether a withdrawal withdraws the quote.
 fn is_taken(
     known_flags: &RoomIndex,
     maker: Who,
@@ -37,7 +37,7 @@ fn is_taken(
         && is_named(&quote.id, named)
 }
 
-/// Of these quotes, a maker's live ones; where one is named, those with this identifier.
+/// A maker's live quotes among these; with a name, those with this identifier.
 #[tactic(auto, using(crate::proofs::Taking::takings))]
 pub(crate) fn taken_quotes(
     alloc: Global,
@@ -58,7 +58,7 @@ pub(crate) fn taken_quotes(
     Ok(taken)
 }
 
-/// Leaves out those that are over at a moment.
+/// Removes the quotes that are over at a moment.
 pub(crate) fn clear_live(known_flags: &RoomIndex, moment: Moment, live: &mut Vec<RoomQuote>)
     ensures items { live.new.items ≡ filter (is_live known_flags.now.facts moment) live.old.items }
     ensures len { vec_len live.new ≤ vec_len live.old }
@@ -67,7 +67,7 @@ pub(crate) fn clear_live(known_flags: &RoomIndex, moment: Moment, live: &mut Vec
     live.retain(|quote| known_flags.is_live(moment, quote));
 }
 
-/// The quotes that facts more are, for which there is room.
+/// Appends the quotes among facts, within reserved capacity.
 #[tactic(auto, using(crate::proofs::Adding::quotes_on))]
 pub(crate) fn add_quotes(kept: &mut Vec<RoomQuote>, facts: &[Fact])
     requires { vec_len kept.old + length facts.now ≤ vec_capacity kept.old }

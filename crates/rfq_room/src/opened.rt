@@ -1,4 +1,4 @@
-//! The rooms that are open, of those that are not known to be over.
+//! Open rooms, among those not known to be over.
 ghost use Rattle.std.specs.Prelude.{◌≡◌, ◌≤◌, filter, length, map, ◌+◌, ◌++◌, if◌then◌else◌};
 ghost use Rattle.std.specs.Vec.{vec_capacity, vec_len};
 ghost use Rattle.venue_rules.specs.Facts.{rooms as asked};
@@ -10,7 +10,7 @@ use crate::room_index::RoomIndex;
 use sef_moment::Moment;
 use venue_rules::{Fact, Room};
 
-/// A room that may yet be open: its number and its end.
+/// A room that may still be open: its number and its end.
 #[derive(Clone, Copy)]
 pub(crate) struct OpenRoom {
     pub number: u64,
@@ -32,7 +32,7 @@ fn is_still_open(known_flags: &RoomIndex, moment: Moment, room: &OpenRoom) -> bo
     known_flags.is_open(moment, room.number, room.end)
 }
 
-// One for what is counted.
+// 1 for what is counted, else 0.
 fn counted(counts: bool) -> usize
     ensures value { result ≡ if counts then 1 else 0 }
     ensures bound { result ≤ 1 }
@@ -40,7 +40,7 @@ fn counted(counts: bool) -> usize
     if counts { 1 } else { 0 }
 }
 
-/// How many of these are open at a moment.
+/// The number of these that are open at a moment.
 pub(crate) fn count_open(known_flags: &RoomIndex, moment: Moment, rooms: &[OpenRoom]) -> usize
     ensures { result ≡ length (filter (is_still_open known_flags.now.facts moment) rooms.now) }
 {
@@ -51,7 +51,7 @@ pub(crate) fn count_open(known_flags: &RoomIndex, moment: Moment, rooms: &[OpenR
     count
 }
 
-/// How many of these rooms are open at a moment.
+/// The number of these rooms that are open at a moment.
 pub(crate) fn count_all_open(known_flags: &RoomIndex, moment: Moment, rooms: &[Room]) -> usize
     ensures { result ≡ length (filter (is_open known_flags.now.facts moment) rooms.now) }
 {
@@ -62,7 +62,7 @@ pub(crate) fn count_all_open(known_flags: &RoomIndex, moment: Moment, rooms: &[R
     count
 }
 
-/// Leaves out those that are over at a moment.
+/// Removes those that are over at a moment.
 pub(crate) fn clear_open(known_flags: &RoomIndex, moment: Moment, rooms: &mut Vec<OpenRoom>)
     ensures items { rooms.new.items ≡ filter (is_still_open known_flags.now.facts moment) rooms.old.items }
     ensures len { vec_len rooms.new ≤ vec_len rooms.old }
@@ -71,7 +71,7 @@ pub(crate) fn clear_open(known_flags: &RoomIndex, moment: Moment, rooms: &mut Ve
     rooms.retain(|room| is_still_open(known_flags, moment, room));
 }
 
-/// The rooms that facts more open, for which there is room.
+/// Appends the rooms that facts open, within reserved capacity.
 #[tactic(auto, using(crate::proofs::Adding::open_on))]
 pub(crate) fn add_open(rooms: &mut Vec<OpenRoom>, facts: &[Fact])
     requires { vec_len rooms.old + length facts.now ≤ vec_capacity rooms.old }

@@ -1,4 +1,4 @@
-//! What a request adds to the rooms, before it does.
+//! Plans: the additions of a request to the rooms.
 ghost use Rattle.std.specs.Prelude.{◌≡◌};
 ghost use Rattle.rfq_room.specs.Plans.{no_plan};
 
@@ -7,14 +7,14 @@ use std::alloc::Global;
 use std::marker::Model;
 use venue_rules::{Fact, RoomQuote};
 
-/// What a request adds to the rooms: its facts, the quotes that it withdraws, and the hit that it is.
+/// The facts that a request adds, the quotes that it withdraws, and its hit.
 pub struct RoomPlan {
     facts: Vec<Fact>,
     quotes: Vec<RoomQuote>,
     hit: Option<Hit>,
 }
 
-// Written out, so that a proof sees one call where it is dropped, and not the drop of each part.
+// Written-out drop (docs/ARCHITECTURE.md).
 impl Drop for RoomPlan {
     fn drop(self) {
         let RoomPlan {
@@ -51,21 +51,20 @@ impl RoomPlan {
         }
     }
 
-    /// The facts that the rooms gain.
     pub fn facts(&self) -> &[Fact]
         ensures { result.now ≡ self.now.facts }
     {
         &self.facts
     }
 
-    /// The quotes that a withdrawal takes away, by their numbers.
+    /// The quotes that a withdrawal withdraws, by number.
     pub fn quotes(&self) -> &[RoomQuote]
         ensures { result.now ≡ self.now.quotes }
     {
         &self.quotes
     }
 
-    /// The hit that an answer to a quote is; none where it is a pass.
+    /// The hit of a quote response; none for a pass.
     pub fn hit(&self) -> Option<Hit>
         ensures { result ≡ self.now.hit }
     {

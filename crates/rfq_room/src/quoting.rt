@@ -1,4 +1,4 @@
-//! A quote in a room (Quote, S).
+//! Quote (S): quotes in a room.
 ghost use Rattle.std.specs.Prelude.{◌≡◌, ◌<◌, ◌==◌, None, IfOk, IfErr, length, nat_lt, not, true};
 ghost use Rattle.venue_rules.specs.Quotes.{is_absent_or, is_crossed, is_price_off_tick, lacks_price, quote_end};
 ghost use Rattle.rfq_room.specs.Causes.{quote_cause, quote_causes, terms_causes};
@@ -28,7 +28,7 @@ fn is_tradeable(quote_type: Option<FixChar>) -> bool
     }
 }
 
-// The quote lacks the price that the requester's side needs.
+// Whether the quote lacks the price for the requester's side.
 fn lacks_price(side: Option<Side>, bid: Option<Price>, offer: Option<Price>) -> bool
     ensures { result ≡ lacks_price side bid offer }
 {
@@ -54,7 +54,7 @@ fn is_price_off_tick(
     }
 }
 
-// The bid is above the offer.
+// Whether the bid is above the offer.
 fn is_crossed(bid: Option<Price>, offer: Option<Price>) -> bool
     ensures { result ≡ is_crossed bid offer }
 {
@@ -64,7 +64,7 @@ fn is_crossed(bid: Option<Price>, offer: Option<Price>) -> bool
     }
 }
 
-// A size is absent or the asked one.
+// Whether a size is absent or the requested quantity.
 fn is_size(size: Option<Quantity>, quantity: Quantity) -> bool
     ensures { result ≡ is_absent_or (λ q. q == quantity) size }
 {
@@ -74,7 +74,7 @@ fn is_size(size: Option<Quantity>, quantity: Quantity) -> bool
     }
 }
 
-// The end is absent or not yet passed.
+// Whether the end is absent or not passed.
 fn is_to_come(end: Option<Moment>, moment: Moment) -> bool
     ensures { result ≡ is_absent_or (λ u. not (nat_lt u moment)) end }
 {
@@ -84,7 +84,7 @@ fn is_to_come(end: Option<Moment>, moment: Moment) -> bool
     }
 }
 
-// Why a quote is refused for its own terms.
+// Causes that refuse a quote for its own terms.
 fn terms_cause(
     participants: &Participants,
     instruments: &Instruments,
@@ -118,7 +118,7 @@ fn terms_cause(
     None
 }
 
-// Why a quote in a room is refused.
+// Causes that refuse a quote in a room.
 fn quote_cause(
     participants: &Participants,
     instruments: &Instruments,
@@ -150,7 +150,7 @@ fn quote_cause(
     terms_cause(participants, instruments, room, quote, moment)
 }
 
-// A quote lives until the earlier of its own end and the room's.
+// The earlier of the quote's own end and the room's.
 fn quote_end(room: &Room, quote: &Quote) -> Moment
     ensures { result ≡ quote_end room.now quote.now }
 {
@@ -166,7 +166,7 @@ fn quote_end(room: &Room, quote: &Quote) -> Moment
     }
 }
 
-/// The quote that a message makes in a room.
+/// The quote of a message in a room.
 fn quote_made(kept: &RoomStore, who: Who, room: &Room, quote: &Quote) -> RoomQuote
     ensures { result ≡ quote_made kept.now.facts who room.now quote.now }
 {
@@ -181,7 +181,7 @@ fn quote_made(kept: &RoomStore, who: Who, room: &Room, quote: &Quote) -> RoomQuo
     }
 }
 
-/// The plan of a quote in a room, before space is made for it.
+/// The plan of a quote in a room, before memory is reserved for it.
 fn draft_in(
     alloc: Global,
     kept: &RoomStore,
@@ -196,7 +196,7 @@ fn draft_in(
     Ok(RoomPlan::of(facts, Vec::new(alloc), None))
 }
 
-/// The plan of a quote, before space is made for it.
+/// The plan of a quote, before memory is reserved for it.
 pub(crate) fn draft_quote(
     alloc: Global,
     participants: &Participants,

@@ -1,4 +1,4 @@
-//! The recipients of a request.
+//! Recipients of a request.
 ghost use Rattle.std.specs.Prelude.{◌≡◌, ◌==◌, filter, length, is_none, IfOk};
 ghost use Rattle.std.specs.List.{list_any};
 ghost use Rattle.venue_rules.specs.Requests.{has_twice};
@@ -16,14 +16,14 @@ fn is_recipient(party: &Party) -> bool
     party.source.get() == b'D' && party.role.get() == 35
 }
 
-// How many recipients are named, in the file or not.
+// The number of recipients named, in the file or not.
 fn count_named(parties: &[Party]) -> usize
     ensures { result ≡ length (filter is_recipient parties.now) }
 {
     parties.iter().filter(|party| is_recipient(party)).count()
 }
 
-/// Whether a recipient is not in the file: then fewer were found than are named.
+/// Whether a named recipient is not in the file: fewer were found than named.
 #[tactic(auto, using(crate::proofs::Parties::fewer_found))]
 pub(crate) fn has_unknown(parties: &[Party], recipients: &[Who]) -> bool
     ensures { (file : ParticipantFile) → recipients.now ≡ recipients_of file parties.now → result ≡ list_any is_none (places_of file parties.now) }
@@ -31,14 +31,13 @@ pub(crate) fn has_unknown(parties: &[Party], recipients: &[Who]) -> bool
     recipients.len() < count_named(parties)
 }
 
-/// Whether this participant is among the recipients.
 pub(crate) fn is_among(recipients: &[Who], who: Who) -> bool
     ensures { result ≡ list_any (λ r. r == who) recipients.now }
 {
     recipients.iter().any(|r| r.place() == who.place())
 }
 
-/// Whether a recipient stands twice.
+/// Whether a recipient occurs twice.
 #[tactic(auto, using(crate::proofs::Parties::parties))]
 pub(crate) fn has_twice(recipients: &[Who]) -> bool
     ensures { result ≡ has_twice recipients.now }
@@ -51,7 +50,7 @@ pub(crate) fn has_twice(recipients: &[Who]) -> bool
     false
 }
 
-/// The recipients, in the request's order; those that are not in the file are left out.
+/// The recipients found in the file, in the request's order.
 #[tactic(auto, using(crate::proofs::Parties::parties))]
 pub(crate) fn recipients(
     alloc: Global,

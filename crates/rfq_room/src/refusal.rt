@@ -1,4 +1,4 @@
-//! Why nothing changes.
+//! Refusals of requests, quotes, withdrawals and quote responses.
 ghost use Rattle.std.specs.Prelude.{◌≡◌, Option, Some, MatchOption};
 ghost use Rattle.rfq_room.specs.declared.refusal.Cause.{Cause as CauseValue};
 ghost use Rattle.rfq_room.specs.Refusals.{cause_of, quote_refusal, refusal_of, request_refusal, response_refusal, withdrawal_refusal, IsRefusedFor};
@@ -8,37 +8,37 @@ use venue_rules::{QuoteRefusal, RequestRefusal};
 /// Refusals of a withdrawal.
 #[derive(Clone, Copy, PartialEq, Eq)]
 pub enum WithdrawalRefusal {
-    /// A withdrawal of one quote that names none.
+    /// a withdrawal of one quote that names none
     QuoteMissing,
-    /// No such quote is live.
+    /// no such quote is live
     NotFound,
-    /// Neither a withdrawal of one quote nor of all.
+    /// a withdrawal neither of one quote nor of all
     Unsupported,
 }
 
-/// Refusals of an answer to a quote.
+/// Refusals of a quote response.
 #[derive(Clone, Copy, PartialEq, Eq)]
 pub enum ResponseCause {
-    /// Neither a hit nor a pass.
+    /// neither a hit nor a pass
     Unsupported,
     UnknownQuote,
-    /// The room is another's.
+    /// the room is another participant's
     NotYours,
-    /// The room has traded, or the quote was replaced.
+    /// the room has traded, or the quote was replaced
     Over,
-    /// The quote was withdrawn or passed.
+    /// the quote was withdrawn or passed
     Withdrawn,
-    /// The quote's end has passed.
+    /// the quote's end has passed
     Expired,
-    /// The side is not the one asked for.
+    /// the side is not the one asked for
     OtherSide,
-    /// Both sides were asked for, and none is named.
+    /// both sides were asked for, and none is named
     SideMissing,
-    /// The quote has no price for the side.
+    /// the quote has no price for the side
     NoPrice,
 }
 
-/// What decides the message that answers a refusal.
+/// The cause behind a refusal, by the message refused: it decides the reply.
 #[derive(Clone, Copy, PartialEq, Eq)]
 pub enum Cause {
     Request(RequestRefusal),
@@ -47,7 +47,7 @@ pub enum Cause {
     Response(ResponseCause),
 }
 
-/// Why a request, a quote, a withdrawal or an answer changes nothing.
+/// Refusals by number, and allocation failure.
 #[derive(Clone, Copy, PartialEq, Eq)]
 pub enum Refusal {
     /// 1: fewer than three recipients.
@@ -62,9 +62,9 @@ pub enum Refusal {
     NotAsked(Cause),
     /// 6: no such quote.
     UnknownQuote(Cause),
-    /// 7: the room is another's.
+    /// 7: the room is another participant's.
     NotYours(Cause),
-    /// 8: no more rooms may be open.
+    /// 8: the open rooms are at capacity.
     Full(Cause),
     /// 9: a price is missing, off tick, or crossed.
     BadPrice(Cause),
@@ -76,7 +76,7 @@ pub enum Refusal {
 }
 
 impl Refusal {
-    /// What decides the message that answers the refusal; none where memory was refused.
+    /// The cause behind the refusal; none after an allocation failure.
     pub fn cause(self) -> Option<Cause>
         ensures value { result ≡ cause_of self }
     {
@@ -97,7 +97,6 @@ impl Refusal {
     }
 }
 
-/// The refusal of a request for this cause.
 pub(crate) fn request_refusal(refusal: RequestRefusal) -> Refusal
     ensures { result ≡ request_refusal refusal }
 {
@@ -116,7 +115,6 @@ pub(crate) fn request_refusal(refusal: RequestRefusal) -> Refusal
     }
 }
 
-/// The refusal of a quote for this cause.
 pub(crate) fn quote_refusal(refusal: QuoteRefusal) -> Refusal
     ensures { result ≡ quote_refusal refusal }
 {
@@ -133,7 +131,6 @@ pub(crate) fn quote_refusal(refusal: QuoteRefusal) -> Refusal
     }
 }
 
-/// The refusal of a withdrawal for this cause.
 pub(crate) fn withdrawal_refusal(refusal: WithdrawalRefusal) -> Refusal
     ensures { result ≡ withdrawal_refusal refusal }
 {
@@ -144,7 +141,6 @@ pub(crate) fn withdrawal_refusal(refusal: WithdrawalRefusal) -> Refusal
     }
 }
 
-/// The refusal of an answer to a quote for this cause.
 pub(crate) fn response_refusal(refusal: ResponseCause) -> Refusal
     ensures { result ≡ response_refusal refusal }
 {

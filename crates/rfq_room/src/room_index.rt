@@ -1,4 +1,4 @@
-//! What has become of rooms and quotes, and the identifiers that were used.
+//! States of rooms and quotes, and used identifiers.
 ghost use Rattle.std.specs.Prelude.{◌≡◌, ℕ, ◌+◌, ◌≤◌, ◌||◌, ◌++◌, [], length, is_some, option_map, IfOk, OnErr, List, All};
 ghost use Rattle.std.specs.List.{list_any};
 ghost use Rattle.std.specs.Option.{option_or};
@@ -21,10 +21,10 @@ use std::alloc::{AllocError, Global};
 use std::marker::Model;
 use venue_rules::{Fact, RoomQuote};
 
-// Room is made for no fewer facts at once.
+// Least number of facts to reserve capacity for.
 const ALLOCATION_STEP: usize = 64;
 
-// What a number is marked for: a room that has traded, a quote that was withdrawn or passed, a room in which there was a quote.
+// Kind of a flag: a room that has traded, a quote withdrawn or passed, a room with a quote.
 #[derive(Clone, Copy)]
 enum FlagKind {
     Traded,
@@ -32,15 +32,15 @@ enum FlagKind {
     Quoted,
 }
 
-// Whose identifiers are kept.
+// Kind of a used identifier.
 #[derive(Clone, Copy)]
 enum IdKind {
     Requests,
     Quotes,
 }
 
-/// What has become of rooms and quotes, by flags at the places of their numbers, and by their hashes the last quotes and the
-/// identifiers that were used; contracts see the facts of the day.
+/// Flags of rooms and quotes by number, and the last quotes and used identifiers by hash. Contracts see the day's
+/// facts.
 #[derive(Drop)]
 pub(crate) struct RoomIndex {
     past: GhostHistory,
@@ -64,7 +64,7 @@ impl Model for RoomIndex {
     ghost invariant = { AreFlagged };
 }
 
-// The number that a fact marks.
+// The number that a fact flags.
 fn number_in(flag: FlagKind, fact: &Fact) -> Option<u64>
     ensures { result ≡ number_in flag fact.now }
 {
@@ -76,7 +76,7 @@ fn number_in(flag: FlagKind, fact: &Fact) -> Option<u64>
     }
 }
 
-// Whether the fact gives a number more that may be marked so: a room's, or a quote's.
+// Whether the fact gives a new number of the flag's kind: a room's, or a quote's.
 fn is_numbered(flag: FlagKind, fact: &Fact) -> bool
     ensures { result ≡ is_numbered flag fact.now }
 {
@@ -87,7 +87,8 @@ fn is_numbered(flag: FlagKind, fact: &Fact) -> bool
     }
 }
 
-// A flag for each number that facts more give, for which there is room; that of each number that they mark, which is there, is set.
+// Appends a flag for each number that facts give, within reserved capacity, and sets those of the numbers that they
+// flag.
 #[inline(always)]
 fn add_flags(flags: &mut Flags, flag: FlagKind, facts: &[Fact])
     requires there { All (IsThere (length flags.old.flags) flag) facts.now }
@@ -123,7 +124,7 @@ fn name_in(named: IdKind, fact: &Fact) -> Option<ClientId>
     }
 }
 
-// The identifiers that facts more use, for which there is room.
+// Adds the identifiers of facts, within reserved capacity.
 fn add_names(used: &mut UsedIds, named: IdKind, facts: &[Fact])
     requires { length facts.now ≤ used.old.headroom }
     ensures names { (who : ℕ) (id : List ℕ) → list_any (is_of who id) used.new.names ≡ (list_any (is_of who id) (names_in named facts.now) || list_any (is_of who id) used.old.names) }
@@ -136,7 +137,7 @@ fn add_names(used: &mut UsedIds, named: IdKind, facts: &[Fact])
     }
 }
 
-// The last quotes after facts more, for which there is room.
+// Adds the last quotes of facts, within reserved capacity.
 fn add_lasts(lasts: &mut LastQuotes, facts: &[Fact])
     requires { length facts.now ≤ lasts.old.headroom }
     ensures entries { (room maker : ℕ) → last_in lasts.new.entries room maker ≡ option_or (last_number facts.now room maker) (last_in lasts.old.entries room maker) }
@@ -166,7 +167,7 @@ impl RoomIndex {
         }
     }
 
-    /// Makes room for so many facts, where there is less.
+    /// Reserves capacity for this many facts, where there is less.
     pub(crate) fn reserve(&mut self, count: usize) -> Result<(), AllocError>
         ensures kept { self.new.facts ≡ self.old.facts }
         ensures headroom { IfOk result (λ _. count ≤ self.new.spare.headroom) }
@@ -186,28 +187,27 @@ impl RoomIndex {
         Ok(())
     }
 
-    /// Whether the participant has used the identifier for a request.
+    /// Whether the participant used the identifier for a request.
     pub(crate) fn is_request_id_used(&self, who: Who, id: &Identifier) -> bool
         ensures { result ≡ is_request_id_used self.now.facts who id.now }
     {
         self.requests.has(who, id)
     }
 
-    /// Whether the participant has used the identifier for a quote.
+    /// Whether the participant used the identifier for a quote.
     pub(crate) fn is_quote_id_used(&self, who: Who, id: &Identifier) -> bool
         ensures { result ≡ is_quote_id_used self.now.facts who id.now }
     {
         self.quotes.has(who, id)
     }
 
-    /// Whether there was a quote in the room.
+    /// Whether the room had a quote.
     pub(crate) fn has_quote(&self, room: u64) -> bool
         ensures { result ≡ is_some (first_quote self.now.facts room) }
     {
         self.quoted.is_set(room)
     }
 
-    /// Whether the room has traded.
     pub(crate) fn is_closed(&self, room: u64) -> bool
         ensures { result ≡ is_closed self.now.facts room }
     {
@@ -240,14 +240,14 @@ impl RoomIndex {
                 && (!self.is_closed(quote.room) && moment.ms() <= quote.end.ms()))
     }
 
-    /// Whether a room of this number and this end is open at a moment.
+    /// Whether a room with this number and end is open at a moment.
     pub(crate) fn is_open(&self, moment: Moment, room: u64, end: Moment) -> bool
         ensures { result ≡ still_open self.now.facts moment room end }
     {
         !self.is_closed(room) && moment.ms() <= end.ms()
     }
 
-    /// Facts more, for which there is room, of rooms and quotes that are there.
+    /// Adds facts of existing rooms and quotes, within reserved capacity.
     pub(crate) fn add(&mut self, facts: &Vec<Fact>)
         requires headroom { length facts.now.items ≤ self.old.spare.headroom }
         requires there { AreThere self.old.facts facts.now.items }

@@ -1,4 +1,4 @@
-//! What is kept of rooms, in the place of their facts.
+//! What is kept of the rooms, in place of their facts.
 ghost use Rattle.std.specs.Prelude.{◌≡◌, ◌≤◌, ◌+◌, [], ◌++◌, length, IfOk, is_some, option_map};
 ghost use Rattle.std.specs.Vec.{vec_capacity, vec_len};
 ghost use Rattle.venue_rules.specs.Facts.{next_quote, next_room, rooms as asked};
@@ -17,8 +17,8 @@ use std::alloc::{AllocError, Global};
 use std::marker::Model;
 use venue_rules::{Fact, Room, RoomQuote};
 
-/// The rooms and the quotes of a day, each at the place of its number, what has become of them, and those that may not yet be over;
-/// contracts see the facts of the day. A room or a quote that is over by its end alone is known to be so from the moment `seen` on.
+/// Rooms and quotes of a day by number, their states, and those that may not be over yet. Contracts see the day's
+/// facts. An end that has passed is known from the moment `seen` on.
 #[derive(Drop)]
 pub(crate) struct RoomStore {
     known_flags: RoomIndex,
@@ -41,7 +41,7 @@ impl Model for RoomStore {
     ghost invariant = { IsKept };
 }
 
-// The rooms that facts more open, for which there is room.
+// Appends the rooms that facts open, within reserved capacity.
 fn add_rooms(kept: &mut Vec<Room>, facts: Vec<Fact>)
     requires { vec_len kept.old + length facts.items ≤ vec_capacity kept.old }
     ensures { kept.new.items ≡ kept.old.items ++ asked facts.items }
@@ -53,7 +53,7 @@ fn add_rooms(kept: &mut Vec<Room>, facts: Vec<Fact>)
     }
 }
 
-// As much room again as is taken.
+// Reserves spare capacity of the current length in both lists.
 fn widen(opened: &mut Vec<OpenRoom>, live: &mut Vec<RoomQuote>) -> Result<(), AllocError>
     ensures opened { opened.new.items ≡ opened.old.items }
     ensures opened_len { vec_len opened.new ≡ vec_len opened.old }
@@ -67,7 +67,7 @@ fn widen(opened: &mut Vec<OpenRoom>, live: &mut Vec<RoomQuote>) -> Result<(), Al
     live.reserve(live_count)
 }
 
-// Room for so many more that may not yet be over.
+// Reserves capacity for this many further ones that may not be over yet.
 fn reserve_living(
     opened: &mut Vec<OpenRoom>,
     live: &mut Vec<RoomQuote>,
@@ -87,7 +87,7 @@ fn reserve_living(
     Ok(())
 }
 
-// Room for so many rooms and quotes more.
+// Reserves capacity for this many further rooms and quotes.
 fn reserve_all(
     rooms: &mut Vec<Room>,
     quotes: &mut Vec<RoomQuote>,
@@ -122,19 +122,17 @@ impl RoomStore {
         }
     }
 
-    /// The allocator of what is kept.
     pub(crate) fn alloc(&self) -> Global {
         *self.rooms.allocator()
     }
 
-    /// What has become of rooms and quotes.
     pub(crate) fn known_flags(&self) -> &RoomIndex
         ensures { result.now.facts ≡ self.now.facts }
     {
         &self.known_flags
     }
 
-    /// A room by the identifier that the venue gave it.
+    /// A room by the venue's identifier.
     pub(crate) fn find_room(&self, id: &Identifier) -> Option<&Room>
         ensures { option_map (λ r. r.now) result ≡ find_room self.now.facts id.now }
     {
@@ -148,7 +146,7 @@ impl RoomStore {
         room_by_number(&self.rooms, number)
     }
 
-    /// A quote by the identifier that the venue gave it.
+    /// A quote by the venue's identifier.
     pub(crate) fn find_quote(&self, id: &Identifier) -> Option<&RoomQuote>
         ensures { option_map (λ q. q.now) result ≡ find_quote self.now.facts id.now }
     {
@@ -162,7 +160,7 @@ impl RoomStore {
         quote_by_number(&self.quotes, number)
     }
 
-    /// The room of the quote that the venue gave this identifier.
+    /// The room of the quote with this identifier of the venue's.
     pub(crate) fn quote_room(&self, id: &Identifier) -> Option<&Room>
         ensures { option_map (λ r. r.now) result ≡ quote_room self.now.facts id.now }
     {
@@ -172,28 +170,25 @@ impl RoomStore {
         }
     }
 
-    /// The number that the next room is given.
     pub(crate) fn next_room(&self) -> u64
         ensures { result ≡ next_room self.now.facts }
     {
         self.rooms.len() as u64 + 1
     }
 
-    /// The number that the next quote is given.
     pub(crate) fn next_quote(&self) -> u64
         ensures { result ≡ next_quote self.now.facts }
     {
         self.quotes.len() as u64 + 1
     }
 
-    /// Whether the room is open at a moment.
     pub(crate) fn is_open(&self, moment: Moment, room: &Room) -> bool
         ensures { result ≡ is_open self.now.facts moment room.now }
     {
         self.known_flags.is_open(moment, room.number, room.end)
     }
 
-    /// How many rooms are open at a moment.
+    /// The number of rooms open at a moment.
     pub(crate) fn count_open(&self, moment: Moment) -> usize
         ensures { result ≡ length (open_rooms self.now.facts moment) }
     {
@@ -203,7 +198,7 @@ impl RoomStore {
         count_open(&self.known_flags, moment, &self.opened)
     }
 
-    /// A maker's live quotes by their numbers; where one is named, those with this identifier.
+    /// A maker's live quotes by number; with a name, those with this identifier.
     pub(crate) fn named_quotes(
         &self,
         maker: Who,
@@ -219,7 +214,7 @@ impl RoomStore {
         taken_quotes(alloc, &self.known_flags, maker, moment, named, &self.live)
     }
 
-    // Leaves out the rooms and the quotes that are over at a moment.
+    // Removes the rooms and quotes that are over at a moment.
     fn clear(&mut self, moment: Moment)
         ensures { self.new.facts ≡ self.old.facts }
     {
@@ -228,13 +223,13 @@ impl RoomStore {
         self.seen = self.seen.max(moment.ms());
     }
 
-    // Whether rooms and quotes that are over have to be left out before so many are added.
+    // Whether adding this many first requires a removal of those that are over.
     fn is_full(&self, count: usize) -> bool {
         self.opened.capacity() - self.opened.len() < count
             || self.live.capacity() - self.live.len() < count
     }
 
-    // Leaves out what is over at a moment where it takes the room of so many, and makes as much room again as is left.
+    // Where this many lack capacity: removes what is over at a moment, then reserves as much again as is left.
     fn clear_full(&mut self, count: usize, moment: Moment) -> Result<(), AllocError>
         ensures { self.new.facts ≡ self.old.facts }
     {
@@ -245,7 +240,7 @@ impl RoomStore {
         widen(&mut self.opened, &mut self.live)
     }
 
-    /// Makes room for so many facts, at a moment. What is over then is left out where it takes the room.
+    /// Reserves capacity for this many facts; removes what is over at the moment where capacity lacks.
     pub(crate) fn reserve_for(&mut self, count: usize, moment: Moment) -> Result<(), AllocError>
         ensures kept { self.new.facts ≡ self.old.facts }
         ensures headroom { IfOk result (λ _. count ≤ self.new.spare.headroom) }
@@ -258,7 +253,7 @@ impl RoomStore {
         Ok(())
     }
 
-    /// What a plan adds that was made from this state.
+    /// Adds the facts of a plan made from this state.
     pub(crate) fn add(&mut self, facts: Vec<Fact>)
         requires { IsPlanOf self.old facts.items }
         ensures { self.new.facts ≡ self.old.facts ++ facts.items }

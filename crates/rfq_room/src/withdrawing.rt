@@ -1,4 +1,4 @@
-//! A withdrawal of quotes (QuoteCancel, Z).
+//! QuoteCancel (Z): withdrawals of quotes.
 ghost use Rattle.std.specs.Prelude.{◌≡◌, map, None, IfOk, IfErr, option_map};
 ghost use Rattle.rfq_room.specs.Causes.{form_cause, none_found, withdrawal_cause, withdrawal_id};
 ghost use Rattle.rfq_room.specs.Named.{named_quotes};
@@ -23,7 +23,7 @@ pub(crate) fn withdrawn(quote: &RoomQuote) -> Fact
     })
 }
 
-// Why no quotes are withdrawn: there are none.
+// The refusal where there are no quotes to withdraw.
 fn none_found(quotes: &[RoomQuote]) -> Option<WithdrawalRefusal>
     ensures { result ≡ none_found quotes.now }
 {
@@ -34,7 +34,7 @@ fn none_found(quotes: &[RoomQuote]) -> Option<WithdrawalRefusal>
     }
 }
 
-// Why a withdrawal is refused before any quote is looked for.
+// Causes that refuse a withdrawal before any search for quotes.
 fn form_cause(request: &QuoteCancel) -> Option<WithdrawalRefusal>
     ensures { result ≡ form_cause request.now }
 {
@@ -50,7 +50,7 @@ fn form_cause(request: &QuoteCancel) -> Option<WithdrawalRefusal>
     Some(WithdrawalRefusal::Unsupported)
 }
 
-// The identifier that a withdrawal goes by: of one quote its own, else none.
+// The identifier of a withdrawal of one quote, else none.
 fn withdrawal_id(request: &QuoteCancel) -> Option<&Identifier>
     ensures { option_map (λ id. id.now) result ≡ withdrawal_id request.now }
 {
@@ -72,7 +72,7 @@ fn all_withdrawn(alloc: Global, quotes: &[RoomQuote]) -> Result<Vec<Fact>, Alloc
     Ok(facts)
 }
 
-/// The plan of a withdrawal, before space is made for it.
+/// The plan of a withdrawal, before memory is reserved for it.
 pub(crate) fn draft_withdraw(
     alloc: Global,
     kept: &RoomStore,

@@ -1,4 +1,4 @@
--- What was heard, counted, as it grows.
+-- The count of messages received, as it rises.
 use Rattle.std.proofs.Common.{◌≡◌, ◌+◌, ◌≤◌, ◌<◌, ℕ, List, [], ◌++◌, length, take, get_or, sym, ap, ◌∙◌, arith, subst, All, append-nil, append_assoc}
 use Rattle.std.proofs.lemmas.List.{take_all, take_more}
 use Rattle.std.proofs.lemmas.List.Elements.{All-push}
@@ -27,11 +27,11 @@ more_awaited m n (steps.Await count) le h = omega (arith, le, h)
 more_awaited m n steps.Break le h = h
 more_awaited m n steps.Logout le h = h
 
--- what was waited for is there when more was heard
+-- what was waited for is there when more was received
 pub awaited_grown : (old new : List Message) (count : ℕ) (script : List ScriptStep) → Grows old new → AreAwaited (applications old) count script → AreAwaited (applications new) count script
 awaited_grown old new count script g all = λ k d inside. more_awaited (applications old) (applications new) _ (applications_grow old new g) (all k d inside)
 
--- one step more
+-- one step further
 pub awaited_next : (heard count : ℕ) (script : List ScriptStep) (step : ScriptStep) → count < length script → AreAwaited heard count script → IsAwaited heard (get_or script count step) → AreAwaited heard (count + 1) script
 awaited_next heard count script step inside all next =
     subst (All (IsAwaited heard)) (sym (take_more script count step inside)) (All-push (IsAwaited heard) (take count script) (get_or script count step) all next)
@@ -40,7 +40,7 @@ awaited_next heard count script step inside all next =
 pub all_awaited : (heard count : ℕ) (script : List ScriptStep) → length script ≤ count → AreAwaited heard count script → All (IsAwaited heard) script
 all_awaited heard count script reached all = subst (All (IsAwaited heard)) (take_all count script reached) all
 
--- a turn in which nothing was heard at first, and then more
+-- a turn in which nothing was received at first, and then more
 pub awaited_still : (before between after : List Message) (count : ℕ) (script script' : List ScriptStep)
     → between ≡ before → Grows between after → script ≡ script' → AreAwaited (applications before) count script → AreAwaited (applications after) count script'
 awaited_still before between after count script script' same grown is all =

@@ -1,4 +1,4 @@
--- The faults of what a line says, counted one by one.
+-- The faults in the account of a line, counted one by one.
 use Rattle.std.proofs.Common.{◌≡◌, ◌+◌, ℕ, List, [], ◌∷◌, ◌++◌, arith}
 use Rattle.gateway.specs.Said.{Said, fault_of, faults_in}
 
@@ -6,7 +6,7 @@ faults_more : (xs : List Said) (x : Said) → faults_in (xs ++ x ∷ []) ≡ fau
 faults_more [] x = omega arith
 faults_more (y ∷ ys) x = let e = faults_more ys x in rw e (omega arith)
 
--- what the line says more tells so many faults
+-- a further entry of the line adds its faults
 pub emitted : (old new : List Said) (x : Said) (n : ℕ) → new ≡ old ++ x ∷ [] → fault_of x ≡ n → faults_in new ≡ faults_in old + n
 emitted old new x n is counts = rw (is, ← counts) (faults_more old x)
 

@@ -1,4 +1,4 @@
--- What a run tells of its line.
+-- The faults of a run's line.
 use Rattle.std.specs.Prelude.{◌≡◌, ℕ, ◌+◌, List}
 use Rattle.gateway.specs.Said.{Said, faults_in}
 use Rattle.sef_client.specs.declared.fault.ClientFault.{ClientFault}
@@ -6,7 +6,7 @@ use Rattle.sef_client.specs.declared.fault.ClientFault.TheVariants as faults
 use Rattle.sef_client.specs.declared.fault.Stop.{Stop}
 use Rattle.sef_client.specs.declared.fault.Stop.TheVariants as stops
 
--- how many faults of the line a fault tells
+-- the count of line faults that a fault stands for
 abbrev pub faults_of : ClientFault → ℕ
 faults_of faults.LineFault = 1
 faults_of faults.Turns = 0
@@ -16,14 +16,14 @@ abbrev pub stopped_by : Stop → ℕ
 stopped_by stops.LineFault = 1
 stopped_by stops.NoMemory = 0
 
--- the line told no fault more
+-- the line reported no further fault
 abbrev pub Unfaulted : List Said → List Said → Type 0
 Unfaulted old new = faults_in new ≡ faults_in old
 
--- the line told one fault more, where this fault is the line's, and else none
+-- the line reported one further fault, where this fault is the line's, and else none
 abbrev pub Faulted : List Said → List Said → ClientFault → Type 0
 Faulted old new fault = faults_in new ≡ faults_in old + faults_of fault
 
--- so it is where a turn did not come to its end
+-- the same where a turn did not end
 abbrev pub Stopped : List Said → List Said → Stop → Type 0
 Stopped old new stop = faults_in new ≡ faults_in old + stopped_by stop

@@ -1,4 +1,4 @@
--- What was heard.
+-- Messages received.
 use Rattle.std.specs.Prelude.{◌≡◌, ◌≤◌, ◌++◌, ℕ, Bool, true, false, List, All, take}
 use Rattle.std.specs.List.{count_by}
 use Rattle.fix_dictionary.specs.declared.messages.Body.{Body}
@@ -11,23 +11,23 @@ abbrev pub is_app_body : Body → Bool
 is_app_body (bodies.App app) = true
 is_app_body (bodies.Admin m) = false
 
--- no message of the session
+-- no session message
 abbrev pub is_application : Message → Bool
 is_application m = is_app_body m.body
 
--- how many application messages were heard
+-- the count of application messages received
 abbrev pub applications : List Message → ℕ
 applications heard = count_by is_application heard
 
--- what a step waits for was heard, where so many application messages were
+-- what a step waits for was received, with this count of application messages
 abbrev pub IsAwaited : ℕ → ScriptStep → Type 0
 IsAwaited heard (steps.Await count) = count ≤ heard
 IsAwaited heard step = Unit {0}
 
--- so it is for the first so many steps
+-- the same of the first `count` steps
 abbrev pub AreAwaited : ℕ → ℕ → List ScriptStep → Type 0
 AreAwaited heard count script = All (IsAwaited heard) (take count script)
 
--- nothing of what was heard is lost
+-- no message received is lost
 abbrev pub Grows : List Message → List Message → Type 0
 Grows old new = (more : List Message) × (new ≡ old ++ more)

@@ -1,4 +1,4 @@
-//! What a counterparty does with its line in one turn.
+//! One turn of a counterparty with its line.
 
 ghost use Rattle.std.specs.Prelude.{◌≡◌, MatchResult};
 ghost use Rattle.sef_client.specs.Heard.{Grows};
@@ -14,7 +14,7 @@ use sef_moment::Moment;
 use std::alloc::{AllocError, Global};
 use std::sync::Wait;
 
-/// Asks for a connection where one is wanted; on one that there is, writes what waits, and reads once.
+/// Asks for a connection where one is wanted; on an open one, writes what waits, and reads once.
 pub(crate) fn exchange<R: Wait, L: Line>(
     rt: &R,
     alloc: Global,
@@ -63,7 +63,7 @@ fn call<R: Wait, L: Line>(
     }
 }
 
-// Writes what waits, if anything does.
+// Writes what waits, if anything.
 fn write_out<R: Wait, L: Line>(rt: &R, line: &mut L, party: &mut Party) -> Result<(), Stop>
     ensures emitted { MatchResult result (λ _. Unfaulted (L.said line.old) (L.said line.new)) (Stopped (L.said line.old) (L.said line.new)) }
     ensures heard { party.new.heard ≡ party.old.heard }
@@ -80,7 +80,7 @@ fn write_out<R: Wait, L: Line>(rt: &R, line: &mut L, party: &mut Party) -> Resul
     }
 }
 
-// Reads once, and hears what came.
+// Reads once, and receives the messages that came.
 fn receive_once<R: Wait, L: Line>(
     rt: &R,
     alloc: Global,
@@ -107,7 +107,7 @@ fn receive_once<R: Wait, L: Line>(
     }
 }
 
-// Hears what is whole with this piece.
+// Receives the messages that this piece completes.
 fn receive_piece(
     alloc: Global,
     incoming: &mut Cutter,
@@ -129,7 +129,7 @@ fn receive_piece(
     }
 }
 
-// Hears the message of a body, if it spells one.
+// Receives the message of a body, if it spells one.
 fn receive_body(alloc: Global, party: &mut Party, body: &[u8], t: Moment) -> Result<(), AllocError>
     ensures heard { Grows party.old.heard party.new.heard }
 {

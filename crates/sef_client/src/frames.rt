@@ -10,21 +10,21 @@ use fix_frame::write_frame;
 use sef_moment::Moment;
 use std::alloc::{AllocError, Global};
 
-/// Who sends, and to whom (49, 56).
+/// Sender and target (49, 56).
 #[derive(Clone, Copy)]
 pub(crate) struct CompIds {
     pub own: Identifier,
     pub peer: Identifier,
 }
 
-/// The frames that wait to be written, and the text of the last one, whose memory the next one uses again.
+/// The frames that wait to be written, and the text of the last one, whose memory is reused.
 #[derive(Drop)]
 pub(crate) struct Frames {
     pub(crate) bytes: Vec<u8>,
     text: Vec<u8>,
 }
 
-// The header of a message that is sent at moment t, and first was at another, where it is sent again.
+// The header of a message sent at moment t, with the moment of its first sending where it is resent.
 fn header(
     ids: &CompIds,
     number: SequenceNumber,
@@ -33,7 +33,7 @@ fn header(
 ) -> HeaderRef<'_>
     ensures { lent_header result ≡ header_of ids.now number t first_sent }
 {
-    // 43=Y where the message is sent again.
+    // 43=Y where the message is resent.
     let possible_duplicate = match first_sent {
         Some(_) => Some(true),
         None => None,
@@ -51,7 +51,7 @@ fn header(
 }
 
 impl Frames {
-    /// None.
+    /// No frame waits.
     pub(crate) fn new(alloc: Global) -> Frames
         ensures { result.bytes.items ≡ [] }
     {
@@ -61,14 +61,14 @@ impl Frames {
         }
     }
 
-    /// Nothing waits any more.
+    /// Drops all frames.
     pub(crate) fn clear(&mut self)
         ensures { self.new.bytes.items ≡ [] }
     {
         self.bytes.clear();
     }
 
-    /// Appends the frame of a message, which was sent first at another moment if one is given.
+    /// Appends the frame of a message, with the moment of its first sending where it is resent.
     #[tactic(auto, unfolding(crate::specs::Sent::framed))]
     pub(crate) fn append(
         &mut self,

@@ -1,4 +1,4 @@
-//! What a counterparty heard.
+//! The messages that a counterparty received.
 
 ghost use Rattle.std.specs.Prelude.{◌≡◌, ◌∷◌, [], ◌++◌, OnOk, OnErr};
 ghost use Rattle.sef_client.specs.Heard.{applications, is_application};
@@ -7,8 +7,8 @@ use fix_dictionary::{Body, Message};
 use std::alloc::{AllocError, Global};
 use std::marker::Model;
 
-/// The messages that a counterparty read: each message of the session as it came, and each application message once, as its number
-/// (34) was due. What came too early or again is not among them.
+/// The messages that a counterparty received: each session message as it came, and each application message once, in
+/// the order of sequence numbers (34). Messages with a higher or an earlier number are not among them.
 #[derive(Drop)]
 pub struct Heard {
     messages: Vec<Message>,
@@ -40,14 +40,14 @@ impl Heard {
         Ok(())
     }
 
-    /// How many application messages were heard.
+    /// The count of application messages received.
     pub fn applications(&self) -> usize
         ensures { result ≡ applications self.now }
     {
         applications_in(&self.messages)
     }
 
-    /// The messages, in the order in which they were heard.
+    /// The messages, in the order in which they were received.
     pub fn as_slice(&self) -> &[Message]
         ensures { result.now ≡ self.now }
     {
@@ -55,7 +55,7 @@ impl Heard {
     }
 }
 
-// How many of these are application messages.
+// The count of application messages among these.
 fn applications_in(messages: &[Message]) -> usize
     ensures { result ≡ applications messages.now }
 {
@@ -68,7 +68,7 @@ fn applications_in(messages: &[Message]) -> usize
     count
 }
 
-/// Whether a message is no message of the session.
+/// Whether a message is no session message.
 pub(crate) fn is_application(message: &Message) -> bool
     ensures { result ≡ is_application message.now }
 {

@@ -1,4 +1,4 @@
-//! A counterparty of the venue that plays a script over a line, for tests.
+//! A scripted counterparty of the venue, for tests: runs a script over a line.
 #![tactic(auto)]
 
 mod exchange;

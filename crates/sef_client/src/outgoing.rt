@@ -1,4 +1,4 @@
-//! What a counterparty numbers and sends.
+//! Numbering, storing and resending a counterparty's messages.
 
 ghost use Rattle.std.specs.Prelude.{◌≡◌, ◌+◌, IfSome, length};
 
@@ -10,10 +10,10 @@ use resend_store::{Resend, Store};
 use sef_moment::Moment;
 use std::alloc::{AllocError, Global};
 
-/// The greatest number (34).
+/// The greatest sequence number (34).
 const MAX_SEQ_NUM: u32 = 999_999_999;
 
-/// What a counterparty has numbered, kept to be sent again, and the frames that wait to be written.
+/// The messages that a counterparty numbered, stored for resends, and the frames that wait to be written.
 #[derive(Drop)]
 pub(crate) struct Outgoing {
     ids: CompIds,
@@ -29,7 +29,7 @@ fn gap_fill(new: NewSequenceNumber) -> Admin {
     })
 }
 
-// Queues what is sent again: a repeat under its old number, with the moment at which it was first sent, or a gap fill.
+// Queues a resend: a message under its old number, with the moment of its first sending, or a gap fill.
 fn queue_again(
     frames: &mut Frames,
     ids: &CompIds,
@@ -50,7 +50,7 @@ fn queue_again(
 }
 
 impl Outgoing {
-    /// Nothing is numbered.
+    /// Nothing numbered yet.
     pub(crate) fn new(alloc: Global, ids: CompIds) -> Outgoing {
         Outgoing {
             ids,
@@ -64,17 +64,17 @@ impl Outgoing {
         &self.frames.bytes
     }
 
-    /// Nothing waits any more.
+    /// Drops the frames that wait.
     pub(crate) fn clear(&mut self) {
         self.frames.clear();
     }
 
-    /// Whether a header names the peer as its sender (49) and us as its target (56).
+    /// Whether a header has the peer as its sender (49) and us as its target (56).
     pub(crate) fn is_to_us(&self, header: &Header) -> bool {
         header.sender.is(&self.ids.peer) && header.target.is(&self.ids.own)
     }
 
-    // The number that comes next, if one is left.
+    // The next number, if one is left.
     fn next_number(&self) -> Option<SequenceNumber>
         ensures { IfSome result (λ number. number ≡ length self.now.store.entries + 1) }
     {
@@ -85,7 +85,7 @@ impl Outgoing {
         Some(SequenceNumber::new(number))
     }
 
-    /// Numbers a message of the session and queues its frame, where a number is left.
+    /// Numbers a session message and queues its frame, where a number is left.
     pub(crate) fn send_admin(&mut self, admin: &Admin, t: Moment) -> Result<(), AllocError> {
         let Some(number) = self.next_number() else {
             return Ok(());
@@ -97,7 +97,8 @@ impl Outgoing {
             .append(&self.ids, number, t, None, BodyRef::Admin(admin))
     }
 
-    /// Numbers and keeps an application message, where a number is left, and queues its frame where that is to be written.
+    /// Numbers and stores an application message, where a number is left, and queues its frame where that is to be
+    /// written.
     pub(crate) fn send_app(
         &mut self,
         app: &App,
@@ -117,8 +118,8 @@ impl Outgoing {
             .append(&self.ids, number, t, None, BodyRef::App(app))
     }
 
-    /// Queues what the peer asks for again: each application message under its old number, with 43=Y and the moment at which it was
-    /// first sent (122), and a gap fill for each run of messages of the session.
+    /// Queues what the peer asks for again: each application message under its old number, with 43=Y and the moment of
+    /// its first sending (122), and a gap fill for each run of session messages.
     pub(crate) fn send_again(&mut self, asked: ResendRequest, t: Moment) -> Result<(), AllocError> {
         let mut resends = self.store.resends(asked.begin(), asked.end().get());
         while let Some(resend) = resends.next() {

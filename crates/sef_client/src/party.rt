@@ -1,4 +1,4 @@
-//! How a counterparty stands to its venue: its connection, the number that is due, and what it heard.
+//! The state of a counterparty: its connection, the expected number, and the messages received.
 
 ghost use Rattle.std.specs.Prelude.{◌≡◌, ◌≤◌, ◌<◌, [], IfSome};
 ghost use Rattle.sef_client.specs.Heard.{Grows};
@@ -13,34 +13,34 @@ use fix_dictionary::{
 use sef_moment::Moment;
 use std::alloc::{AllocError, Global};
 
-/// The interval of heartbeats (108) that a Logon asks for, in seconds.
+/// The heartbeat interval (108) of a Logon, in seconds.
 const INTERVAL: u32 = 30;
 
-/// Where a counterparty stands with its line.
+/// The state of a counterparty's connection.
 #[derive(Clone, Copy, PartialEq, Eq)]
 pub(crate) enum Link {
     /// There is no connection.
     Down,
     /// A connection is asked for.
     Calling,
-    /// There is a connection, and no Logon went.
+    /// There is a connection, and no Logon was sent.
     Open,
-    /// Our Logon is to be answered.
+    /// Our Logon waits for its answer.
     Greeting,
     LoggedOn,
-    /// Our Logout is to be answered.
+    /// Our Logout waits for its answer.
     Leaving,
-    /// What waits is written, and then the connection is given up.
+    /// What waits is written, and then the connection is dropped.
     Closing,
 }
 
-/// A counterparty.
 #[derive(Drop)]
 pub(crate) struct Party {
     link: Link,
-    /// The number that is due of the venue.
+    /// The next number expected of the venue.
     due: u32,
-    /// The number at which the venue was last asked to send again, on this connection; the request stands until that one is past.
+    /// The number from which the venue was last asked for a resend, on this connection; outstanding until that number
+    /// is past.
     asked_at: u32,
     outgoing: Outgoing,
     pub(crate) heard: Heard,
@@ -48,7 +48,7 @@ pub(crate) struct Party {
 }
 
 impl Party {
-    /// One that has heard nothing, and has no connection.
+    /// A counterparty without a connection, which has received nothing.
     pub(crate) fn new(alloc: Global, ids: CompIds) -> Party
         ensures heard { result.heard ≡ [] }
     {
@@ -79,7 +79,6 @@ impl Party {
         self.heard
     }
 
-    /// The frames that wait to be written.
     pub(crate) fn waiting(&self) -> &[u8] {
         self.outgoing.waiting()
     }
@@ -105,7 +104,7 @@ impl Party {
         self.link = Link::Open;
     }
 
-    /// Gives up the connection, and what was not written on it. The numbers go on.
+    /// Drops the connection, and what was not written on it. The numbers go on.
     pub(crate) fn give_up(&mut self)
         ensures heard { self.new.heard ≡ self.old.heard }
         ensures due { self.new.due ≡ self.old.due }
@@ -115,7 +114,7 @@ impl Party {
         self.outgoing.clear();
     }
 
-    /// Sends a Logon, which the venue is to answer.
+    /// Sends a Logon, and waits for its answer.
     pub(crate) fn log_on(&mut self, t: Moment) -> Result<(), AllocError>
         ensures heard { self.new.heard ≡ self.old.heard }
     {
@@ -128,7 +127,7 @@ impl Party {
         Ok(())
     }
 
-    /// Sends a Logout, which the venue is to answer.
+    /// Sends a Logout, and waits for its answer.
     pub(crate) fn log_out(&mut self, t: Moment) -> Result<(), AllocError>
         ensures heard { self.new.heard ≡ self.old.heard }
     {
@@ -145,7 +144,7 @@ impl Party {
             .send_admin(&Admin::Logout(Logout { text: None }), t)
     }
 
-    /// Sends an application message. Without a Logon it is numbered and kept, and the venue will ask for it.
+    /// Sends an application message. Without a Logon it is numbered and stored, and the venue will ask for it.
     pub(crate) fn send(&mut self, app: &App, t: Moment) -> Result<(), AllocError>
         ensures heard { self.new.heard ≡ self.old.heard }
     {
@@ -153,7 +152,7 @@ impl Party {
         self.outgoing.send_app(app, t, is_written)
     }
 
-    /// Hears a message. One that names others is passed over.
+    /// Receives a message. One with other CompIDs is ignored.
     pub(crate) fn receive(&mut self, message: Message, t: Moment) -> Result<(), AllocError>
         ensures heard { Grows self.old.heard self.new.heard }
     {
@@ -170,7 +169,7 @@ impl Party {
         self.heard.push(message)
     }
 
-    // An application message is heard where its number is due. One that comes again is passed over, and for one that is early the
+    // Receives an application message with the expected number. A duplicate is ignored, and for a higher number the
     // messages before it are asked for.
     fn receive_app(
         &mut self,
@@ -188,7 +187,8 @@ impl Party {
         self.ask_before(number, t)
     }
 
-    // A message of the session. What is below the number due is passed over, but for a SequenceReset that is no gap fill.
+    // Receives a session message. One below the expected number is ignored, but for a SequenceReset that is no gap
+    // fill.
     fn receive_admin(
         &mut self,
         number: SequenceNumber,
@@ -213,7 +213,8 @@ impl Party {
         self.ask_before(number, t)
     }
 
-    // Does what a message of the session asks for: a Logon, a Logout and a ResendRequest are answered where they come early too.
+    // Does what a session message asks for: a Logon, a Logout and a ResendRequest are answered with a higher number
+    // too.
     fn answer(&mut self, admin: &Admin, is_due: bool, t: Moment) -> Result<(), AllocError>
         ensures heard { self.new.heard ≡ self.old.heard }
         ensures due { self.new.due ≡ self.old.due }
@@ -255,7 +256,7 @@ impl Party {
         self.outgoing.send_admin(&heartbeat, t)
     }
 
-    // The venue logged out: where it answers us the connection is given up, and else it is answered first.
+    // The venue's Logout: the answer to ours drops the connection, another is answered first.
     fn part(&mut self, t: Moment) -> Result<(), AllocError>
         ensures heard { self.new.heard ≡ self.old.heard }
         ensures due { self.new.due ≡ self.old.due }
@@ -269,7 +270,8 @@ impl Party {
         Ok(())
     }
 
-    // Asks for the messages from the number due on, where this number is beyond it and no such request stands.
+    // Asks for the messages from the expected number on, where this number is higher and no such request is
+    // outstanding.
     fn ask_before(&mut self, number: SequenceNumber, t: Moment) -> Result<(), AllocError>
         ensures heard { self.new.heard ≡ self.old.heard }
     {
@@ -291,7 +293,7 @@ fn number_of(message: &Message) -> SequenceNumber
     message.header.number
 }
 
-// The number that a SequenceReset without a gap fill puts, whatever was due.
+// The number that a SequenceReset without a gap fill sets, whatever was expected.
 fn reset_of(admin: &Admin) -> Option<u32>
     ensures { IfSome result (λ new. new ≤ 1000000000) }
 {
@@ -309,7 +311,7 @@ fn reset_of(admin: &Admin) -> Option<u32>
     }
 }
 
-// The number that is due behind a message of the session that came as it was due.
+// The number expected after a session message with the expected number.
 fn number_after(number: SequenceNumber, admin: &Admin) -> u32
     ensures behind { number < result }
     ensures within { result ≤ 1000000000 }

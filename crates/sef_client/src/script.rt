@@ -1,4 +1,4 @@
-//! What a counterparty does, step by step.
+//! A counterparty's script.
 
 ghost use Rattle.std.specs.Prelude.{◌≡◌, ◌≤◌, ◌+◌, true, Err, All, IfOk, MatchResult, length};
 ghost use Rattle.sef_client.specs.Heard.{AreAwaited, IsAwaited, applications};
@@ -21,19 +21,20 @@ use venue_worker::Clock;
 /// A step of a script.
 #[derive(Drop)]
 pub enum ScriptStep {
-    /// A connection is asked for, a Logon is sent, and the venue's is heard. Where the connection ends before, it is done again.
+    /// Asks for a connection, sends a Logon, and waits for the venue's. Where the connection ends before, it does so
+    /// again.
     Logon,
-    /// The message is sent. Without a Logon it is numbered and kept, and sent as the venue asks for it.
+    /// Sends the message. Without a Logon it is numbered and stored, and sent as the venue asks for it.
     Send(App),
-    /// So many application messages were heard, from the start of the script on.
+    /// Waits until this many application messages were received since the start of the script.
     Await(usize),
-    /// The connection is given up; the numbers go on.
+    /// Drops the connection; the numbers go on.
     Break,
-    /// A Logout is sent, and the venue's is heard or the connection ends.
+    /// Sends a Logout, and waits for the venue's or for the end of the connection.
     Logout,
 }
 
-/// A scripted counterparty of a venue, for tests: its own name, that of the venue, and its steps.
+/// A scripted counterparty of a venue, for tests: its own CompID, that of the venue, and its steps.
 #[derive(Drop)]
 pub struct Script {
     pub own: Identifier,
@@ -42,16 +43,16 @@ pub struct Script {
 }
 
 impl Script {
-    /// Of this name, for the venue of the other, with these steps.
+    /// A script of the counterparty `own`, for the venue `peer`, with these steps.
     pub fn new(own: Identifier, peer: Identifier, steps: Vec<ScriptStep>) -> Script {
         Script { own, peer, steps }
     }
 
-    /// Plays the steps in order over a line, and gives what was heard. A turn asks the clock, tries the step that comes next, writes
-    /// what waits and reads once; so it may wait where the line does. As a session does, it answers a TestRequest and a
-    /// ResendRequest, and asks for messages that it lost.
+    /// Runs the steps in order over a line, and gives the messages received. A turn asks the clock, tries the next
+    /// step, writes what waits and reads once; so it may wait where the line does. As a session does, it answers a
+    /// TestRequest and a ResendRequest, and asks for messages that it lost.
     ///
-    /// `Turns`: so many turns were made, and a step is still to be done. `LineFault`: the line told a fault.
+    /// `Turns`: the given turns are over, and a step is not done. `LineFault`: the line reported a fault.
     pub fn run<R: Wait, L: Line, C: Clock>(
         &self,
         rt: &R,
@@ -91,7 +92,7 @@ impl Script {
     }
 }
 
-// Tries the step that comes next, where there is one, and tells how many are done.
+// Tries the next step, if there is one, and gives the count of steps done.
 fn steps_done(
     party: &mut Party,
     steps: &[ScriptStep],
@@ -113,7 +114,7 @@ fn steps_done(
     Ok(done)
 }
 
-// Does what is to be done of a step now, and tells whether that was the last of it.
+// Does what a step needs now, and says whether that completed it.
 fn is_done(party: &mut Party, step: &ScriptStep, t: Moment) -> Result<bool, AllocError>
     ensures awaited { IfOk result (λ done. done ≡ true → IsAwaited (applications party.old.heard) step.now) }
     ensures heard { party.new.heard ≡ party.old.heard }

@@ -1,4 +1,4 @@
--- The test of UTC texts decides what it says.
+-- The test of UTC texts decides their definition.
 use Rattle.std.proofs.Common.{◌≡◌, ℕ, zero, suc, ◌<◌, ◌≤◌, true, false, Bool, List, [], ◌∷◌, length, drop, get_or, refl, sym, arith, rules, ◌==◌, nat_le, nat_lt, ◌&&◌, inl, inr, Result, Ok, Err}
 use Rattle.std.specs.Prelude.{slice_index, All}
 use Rattle.std.specs.List.{list_all}

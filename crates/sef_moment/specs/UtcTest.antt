@@ -1,4 +1,4 @@
--- Whether a text has the form of a UTC text, as a test that computes. The law `test_decides` says that it decides `IsUtc`.
+-- The form of a UTC text as a computable test. The law `test_decides` says that it decides `IsUtc`.
 use Rattle.std.specs.Prelude.{ℕ, ◌==◌, Bool, true, ◌&&◌, nat_lt, nat_le, if◌then◌else◌, List, [], ◌∷◌, length, drop, slice_index, pos}
 use Rattle.std.specs.List.{list_all}
 use Rattle.jiff_core.specs.Calendar.{days_in_month}
@@ -7,7 +7,7 @@ use Rattle.sef_moment.specs.Utc.{pattern, two_at, year_in, moment_of, greatest}
 abbrev pub is_digit : ℕ → Bool
 is_digit c = nat_le 48 c && nat_le c 57
 
--- a digit where the pattern has 0, and else the pattern's own byte
+-- a digit where the pattern has 0, else the pattern's own byte
 abbrev pub matches : ℕ → ℕ → Bool
 matches p c = if p == 48 then is_digit c else c == p
 

@@ -1,4 +1,4 @@
--- Why the program ends as it does, and what stands where nothing was printed.
+-- Why the program ends as it does, and what was written where nothing was printed.
 use Rattle.std.proofs.Common.{None, refl}
 use Rattle.sqlite.specs.Effect.{Database}
 use Rattle.venue_rules.specs.declared.trail.TrailFault.{TrailFault}
@@ -7,7 +7,7 @@ use Rattle.audit_trail.specs.Open.{OpenFault}
 use Rattle.sef_replay.specs.Day.{IsFailureOf, UnlessPrinting}
 use Rattle.sef_replay.specs.Failures.{trail_failure}
 
--- a fault of the database is told by its number
+-- a fault of the database is reported by its number
 pub fault_emitted : (db : Database) (fault : TrailFault) → OpenFault None db fault → IsFailureOf db (trail_failure fault)
 fault_emitted db Refused why = (Refused, why, refl)
 fault_emitted db OtherFiles why = (OtherFiles, why, refl)

@@ -1,4 +1,4 @@
--- How the program ends where it does not end well.
+-- The program's exit statuses other than 0.
 use Rattle.std.specs.Prelude.{ℕ}
 use Rattle.sqlite.specs.declared.error.Error.{Error}
 use Rattle.sqlite.specs.declared.error.Error.TheVariants.{SqliteFailure}
@@ -11,7 +11,7 @@ use Rattle.sef_replay.specs.declared.failure.Failure.TheVariants.{Stopped, Comma
 use Rattle.sef_replay.specs.declared.failure.Stop.{Stop}
 use Rattle.sef_replay.specs.declared.failure.Stop.TheVariants as stop
 
--- the status that the program ends with
+-- the exit status
 abbrev pub status_of : Failure → ℕ
 status_of (Stopped cause) = 1
 status_of CommandLine = 2
@@ -27,12 +27,12 @@ trail_failure trail.OtherVersion = TrailRefused 4
 trail_failure (trail.BadDelay x) = TrailRefused 5
 trail_failure trail.NoMemory = Stopped stop.Memory
 
--- what stops the program where an opened trail does not give its rows
+-- the cause of status 1 where an opened trail does not give its rows
 abbrev pub rows_stop : TrailFault → Stop
 rows_stop trail.NoMemory = stop.Memory
 rows_stop _ = stop.Trail
 
--- and where the file is not opened: somebody else has it, or the disk failed; else it is no database
+-- and where the file is not opened: another process has it, or the disk failed; else it is no database
 abbrev pub code_failure : ErrorCode → Failure
 code_failure code.OutOfMemory = Stopped stop.Memory
 code_failure code.DatabaseBusy = Stopped stop.Trail

@@ -1,4 +1,4 @@
--- What is told of what is wanted of a trail, why it is refused, and what a crash may leave.
+-- The output of a report on a trail, why it is refused, and what a crash may leave.
 use Rattle.std.specs.Prelude.{ℕ, List, Option, ⊤}
 use Rattle.sqlite_trees.specs.Tree.{Trees}
 use Rattle.sqlite.specs.Effect.{Database}
@@ -13,13 +13,14 @@ use Rattle.sef_replay.specs.Older.{BeginsEither, IsEitherFailure, LeavesThird, R
 use Rattle.sef_replay.specs.Stops.{StopsAfter}
 use Rattle.sef_replay.specs.Trade.{IsTradeFailureOf, EmitsTradeOf, UnlessEmitted}
 
--- what was written tells the day of a trail of version 3, or of any of the three versions, in the form that is wanted, or the trade that is wanted
+-- the output is the day of a trail of version 3, or of any of the three versions, in the form asked for, or the trade
+-- asked for
 abbrev pub EmitsWanted : Report → Database → (before after : Option (List ℕ)) → Type 0
 EmitsWanted (Day form) db before after = EmitsDay form db before after
 EmitsWanted (MigratedDay form) db before after = EmitsEither form db before after
 EmitsWanted (Trade number) db before after = EmitsTradeOf db number before after
 
--- where memory is wanting it may begin to; of a trade nothing is written before all is made
+-- where an allocation fails it may be a first part; of a trade nothing is written before all is made
 abbrev pub BeginsWanted : Report → Database → (before after : Option (List ℕ)) → Type 0
 BeginsWanted (Day form) db before after = BeginsDay form db before after
 BeginsWanted (MigratedDay form) db before after = BeginsEither form db before after
@@ -31,7 +32,8 @@ IsWantedFailure (Day form) db failure = IsFailureOf db failure
 IsWantedFailure (MigratedDay form) db failure = IsEitherFailure db failure
 IsWantedFailure (Trade number) db failure = IsTradeFailureOf db number failure
 
--- why it is refused with the number 1: the trail is not opened, or, where it is brought up to version 3 first, not brought up or not opened then
+-- why it is refused with the number 1: the trail is not opened, or, where it is brought up to version 3 first, not
+-- brought up or not opened then
 abbrev pub RefusesWanted : Report → State → State → Type 0
 RefusesWanted (Day form) old new = RefusesToOpen old new
 RefusesWanted (MigratedDay form) old new = RefusesEither old new
@@ -43,13 +45,14 @@ StopsWanted (Day form) failure old new = StopsAfter failure old new
 StopsWanted (MigratedDay form) failure old new = StopsEither failure old new
 StopsWanted (Trade number) failure old new = StopsAfter failure old new
 
--- the fact, unless what is wanted was being written
+-- the fact, unless the report was being written
 abbrev pub UnlessWritten : Report → Failure → Type 0 → Type 0
 UnlessWritten (Day form) failure fact = UnlessPrinting failure fact
 UnlessWritten (MigratedDay form) failure fact = UnlessPrinting failure fact
 UnlessWritten (Trade number) failure fact = UnlessEmitted failure fact
 
--- what a crash may leave beside what it could leave before: nothing, or, where the trail is to be brought up, the whole one of version 3
+-- what a crash may leave besides what it could leave before: nothing, or, where the trail is to be brought up, the
+-- whole one of version 3
 abbrev pub MayCommit : Report → State → Trees → Type 0
 MayCommit (Day form) old = λ _. ⊥
 MayCommit (MigratedDay form) old = MayBecomeThird old

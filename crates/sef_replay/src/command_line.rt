@@ -7,12 +7,12 @@ use clap::{Arg, ArgAction, ArgMatches, Command, Error};
 use std::alloc::{AllocError, Global};
 use std::{env, io};
 
-/// What the words of the command line ask for.
+/// The request of the command line.
 #[derive(Drop)]
 pub enum Task {
-    /// `TRAIL`, and `--csv` for a table
+    /// `TRAIL`, with `--csv` for a table
     Print { path: String, form: Form },
-    /// `--migrate TRAIL`, and `--csv` for a table: a trail of an older version is first made into one of version 3.
+    /// `--migrate TRAIL`, with `--csv` for a table: first updates a trail of an older version to version 3.
     Migrate { path: String, form: Form },
     /// `TRAIL --trade WORD`
     Trade { path: String, word: String },
@@ -20,7 +20,7 @@ pub enum Task {
     Help,
 }
 
-/// What the process's words ask for.
+/// The request in the process's arguments.
 pub fn task_given(rt: &HostRuntime) -> Result<Task, Failure> {
     let words = words_given(rt)?;
     let task = task_in(rt.alloc(), &words);
@@ -36,7 +36,7 @@ pub fn task_given(rt: &HostRuntime) -> Result<Task, Failure> {
     }
 }
 
-/// The process's words. One that is not UTF-8 is refused.
+/// The process's arguments. One that is not UTF-8 is refused.
 fn words_given(rt: &HostRuntime) -> Result<Vec<String>, Failure> {
     match env::args(rt) {
         Ok(words) => match words.collect(rt.alloc()) {
@@ -50,7 +50,7 @@ fn words_given(rt: &HostRuntime) -> Result<Vec<String>, Failure> {
     }
 }
 
-/// What stands below the words in the help.
+/// The help's examples, below the arguments.
 const EXAMPLES: &str = "Examples:
   sef_replay day.trail                 each trade of the day: T1 book IRS5Y 60 @ 2.5 buyer ALPHA seller BETA
   sef_replay day.trail --csv           the same, for a spreadsheet
@@ -59,7 +59,7 @@ const EXAMPLES: &str = "Examples:
 
 Read from a copy of the file and of its log (day.trail-wal), if there is one. docs/COMPLIANCE.md explains what is printed.";
 
-/// A word that names nothing but itself.
+/// An argument without a value.
 fn flag<'a>(alloc: Global, name: &'a str, help: &'a str) -> Arg<'a> {
     Arg::new(alloc, name)
         .long(name)
@@ -101,8 +101,8 @@ fn with_trade<'a>(alloc: Global, command: Command<'a>) -> Result<Command<'a>, Al
     command.arg(trade)
 }
 
-/// The program's own command. (Each word is added by a function of its own: where several wait in one function, a proof tells at each `?`
-/// what becomes of all.)
+/// The program's command. Each argument is added by a function of its own: several in one function cost the proof a
+/// case for each at every `?`.
 fn program<'a>(alloc: Global) -> Result<Command<'a>, AllocError> {
     let command = Command::new(alloc, "sef_replay")
         .about(
@@ -115,7 +115,7 @@ fn program<'a>(alloc: Global) -> Result<Command<'a>, AllocError> {
     with_trade(alloc, command)
 }
 
-/// What these words ask for, if they ask for anything.
+/// The request in these arguments, if they are understood and ask for more than help.
 fn task_in(alloc: Global, words: &[String]) -> Result<Option<Task>, Error> {
     let matches = program(alloc)?.try_get_matches_from(words)?;
     let task = task_of(alloc, &matches);
@@ -158,7 +158,7 @@ fn printing_of(path: String, migrates: bool, form: Form) -> Task {
     }
 }
 
-/// Help is printed where it was asked for; other words are refused.
+/// Prints help where it was asked for; refuses other arguments.
 fn answer_to_error(rt: &HostRuntime, error: &Error) -> Result<Task, Failure> {
     match error.kind() {
         ErrorKind::DisplayHelp => match error.print(rt) {

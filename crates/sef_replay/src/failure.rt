@@ -1,4 +1,4 @@
-//! How the program ends where it does not end well.
+//! The program's exit statuses other than 0.
 
 ghost use Rattle.std.specs.Prelude.{◌≡◌};
 ghost use Rattle.sef_replay.specs.Failures.{code_failure, open_failure, status_of, trail_failure};
@@ -9,19 +9,19 @@ use std::alloc::AllocError;
 use thiserror::Error;
 use venue_rules::TrailFault;
 
-/// What stopped the program.
+/// The cause of status 1.
 #[derive(Clone, Copy, Debug, PartialEq, Eq, Error)]
 pub enum Stop {
-    /// Memory was refused.
+    /// An allocation failed.
     #[error("memory")]
     Memory,
-    /// The file is there and cannot be read.
+    /// The file exists and cannot be read.
     #[error("input")]
     Input,
     /// A write failed.
     #[error("output")]
     Output,
-    /// Somebody else has the trail open, the disk failed, or what was opened was not read back as it was.
+    /// Another process has the trail open, the disk failed, or what was opened was not read back as it was.
     #[error("trail")]
     Trail,
 }
@@ -44,7 +44,7 @@ pub enum Failure {
 }
 
 impl Failure {
-    /// The status that the program ends with.
+    /// The exit status.
     pub fn status(&self) -> u8
         ensures { result ≡ status_of self.now }
     {

@@ -1,4 +1,4 @@
-//! A look at the file before it is opened.
+//! A check of the file before it is opened.
 
 ghost use Rattle.std.specs.Prelude.{◌≡◌, codes, IfOk, IfSome, ◌↔◌, IsTrue, take};
 
@@ -7,11 +7,11 @@ use std::alloc::Global;
 use std::fs;
 use std::io::{self, ErrorKind, Read};
 
-/// What an SQLite database begins with, and a byte 0.
+/// The first bytes of an SQLite database, with the byte 0 at the end.
 const SQLITE_MAGIC: &[u8] = b"SQLite format 3\0";
 
-/// Refuses a path at which there is no file, and a file that does not begin as an SQLite database does: opened as a database it would
-/// be made into one. `Input` where the file is there and cannot be read.
+/// Refuses a path without a file, and a file that does not begin as an SQLite database does: opened as a database it
+/// would become one. `Input` where the file exists and cannot be read.
 pub fn require_database(rt: &HostRuntime, path: &str) -> Result<(), Failure> {
     match fs::open(rt, path) {
         Ok(file) => require_magic(rt.alloc(), file),

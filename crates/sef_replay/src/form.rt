@@ -1,6 +1,6 @@
-//! How the trades of a day are printed.
+//! The two forms of a printed day.
 
-/// How the trades of a day are printed.
+/// The form of a printed day.
 #[derive(Clone, Copy, PartialEq, Eq)]
 pub enum Form {
     /// A line for each trade.

@@ -1,4 +1,4 @@
-//! Prints the trades of the day that a trail keeps, read back from its rows alone.
+//! Prints the trades of the day in a trail, read back from its rows alone.
 #![tactic(auto)]
 
 mod command_line;
@@ -24,7 +24,7 @@ use std::io::Write;
 use std::process::ExitCode;
 pub use trade::{print_trade, trade_number};
 
-// Over any store, so that what is proved of the one kind is passed on in one call.
+// Generic over the store, so that the contracts of `print_wanted` are passed on in one call.
 fn print_and_close<S: Alter + Drop, W: Write>(
     alloc: Global,
     conn: Connection<S>,
@@ -36,8 +36,8 @@ fn print_and_close<S: Alter + Drop, W: Write>(
     emitted
 }
 
-/// Prints what is wanted of the trail at a path. The file is looked at before, so that none is made where there is none, and none that is
-/// no database is touched.
+/// Prints the report of the trail at a path. The file is checked first, so that no file is made, and none that is no
+/// database is touched.
 fn print_trail(rt: &HostRuntime, path: &str, wanted: Report) -> Result<(), Failure> {
     file::require_database(rt, path)?;
     match Connection::open(rt, path) {
@@ -62,7 +62,7 @@ fn main(rt: HostRuntime) -> ExitCode {
     match run(&rt) {
         Ok(()) => ExitCode::SUCCESS,
         Err(failure) => {
-            // Where standard error fails too there is nobody left to tell.
+            // Where standard error fails too there is nobody left to report to.
             let _ = eprintln!(rt; "sef_replay: {failure}");
             ExitCode::from(failure.status())
         }

@@ -1,4 +1,4 @@
-//! The market that a trail keeps.
+//! The market of a trail.
 
 ghost use Rattle.std.specs.Prelude.{◌⊎◌, IfOk, IfErr};
 ghost use Rattle.audit_trail.specs.Readings.{RefusesInstruments, RefusesParticipants};
@@ -11,7 +11,7 @@ use instruments::{DelayFault, FileFault as InstrumentsFault, Instruments};
 use participants::{FileFault as ParticipantsFault, Participants};
 use std::alloc::Global;
 
-/// The participants that the kept text tells.
+/// The participants of the stored text.
 fn participants_kept(alloc: Global, text: &[u8]) -> Result<Participants, Stop>
     ensures read { IfOk result (λ file. ReadsParticipants text.now file) }
     ensures stopped { IfErr result (StopsReading (RefusesParticipants text.now)) }
@@ -23,8 +23,8 @@ fn participants_kept(alloc: Global, text: &[u8]) -> Result<Participants, Stop>
     }
 }
 
-/// The instruments that the kept text tells, each with the kept delay in the place of the one that the text tells: the delay by which
-/// the day ran.
+/// The instruments of the stored text, each with the stored delay instead of the text's: the delay by which the day
+/// ran.
 fn instruments_kept(alloc: Global, text: &[u8], delays: &[u64]) -> Result<Instruments, Stop>
     ensures read { IfOk result (λ rows. ReadsInstruments text.now delays.now rows) }
     ensures stopped { IfErr result (StopsReading (RefusesInstruments text.now ⊎ RefusesDelays text.now delays.now)) }
@@ -40,8 +40,8 @@ fn instruments_kept(alloc: Global, text: &[u8], delays: &[u64]) -> Result<Instru
     }
 }
 
-/// Who may trade, and what, as a trail keeps it. Where the trail was opened its readers took the texts and the delays, so that one that
-/// is refused here was not read back as it was.
+/// Participants and instruments as a trail stores them. Where the trail was opened, its readers accepted the texts and
+/// the delays, so that one refused here was not read back as it was.
 #[tactic(auto, using(crate::proofs::Stops::instruments_stop))]
 pub fn market_kept(
     alloc: Global,

@@ -1,4 +1,4 @@
-//! The trades of the day of a trail of version 3 or of an older one, printed.
+//! Printing the trades of a trail of version 3 or older.
 
 ghost use Rattle.std.specs.Prelude.{◌≡◌, ◌⊎◌, IfOk, IfErr};
 ghost use Rattle.std.specs.Io.KnownBytes.{Keeps};
@@ -41,8 +41,9 @@ fn brought_up<S: Alter>(
     }
 }
 
-/// Writes each trade of the day that a database keeps as a trail, as `print_day` does. A trail of version 1 or 2 is made into
-/// one of version 3 before, in one transaction, and stays so, also where its trades are then not written. The connection comes back.
+/// Writes each trade of the day in a database's trail, as `print_day` does. A trail of version 1 or 2 is first made
+/// into one of version 3, in one transaction, and stays so, also where its trades are then not written. The connection
+/// comes back.
 #[tactic(auto, using(crate::proofs::Ends::refused_unwritten, crate::proofs::Older::failure_emitted))]
 pub fn print_migrated<S: Alter, W: Write>(
     alloc: Global,
@@ -58,7 +59,8 @@ pub fn print_migrated<S: Alter, W: Write>(
     ensures unwritten { IfErr result (λ e. UnlessPrinting e.0 (Keeps (W.contents writer.old) (W.contents writer.new))) }
     ensures begun { IfErr result (λ e. HasCleanDisk (state S.Store e.1) → e.0 ≡ Stopped Memory → Keeps (W.contents writer.old) (W.contents writer.new) ⊎ BeginsEither form (state S.Store conn).now (W.contents writer.old) (W.contents writer.new)) }
 
-    // A crash leaves what it could leave before, or of an older trail the whole one of version 3; after Ok, that one alone.
+    // A crash leaves what it could leave before, or of an older trail the whole one of version 3; after Ok, that one
+    // alone.
     ensures crash { IfOk result (λ back. Survives (state S.Store conn) (state S.Store back) (MayBecomeThird (state S.Store conn))) }
     ensures durable { IfOk result (λ back. HasCleanDisk (state S.Store back) → LeavesThird (state S.Store conn) (state S.Store back)) }
     ensures crash_err { IfErr result (λ e. Survives (state S.Store conn) (state S.Store e.1) (MayBecomeThird (state S.Store conn))) }

@@ -1,4 +1,4 @@
-//! The trades of the day that a database keeps as a trail, printed.
+//! Printing the trades of a trail.
 
 ghost use Rattle.std.specs.Prelude.{◌≡◌, ◌⊎◌, IfOk, IfErr, OnOk};
 ghost use Rattle.std.specs.Io.KnownBytes.{Appends, Keeps};
@@ -40,7 +40,7 @@ fn print_in<W: Write>(
     }
 }
 
-/// Writes the trades of the day that a trail keeps.
+/// Writes the trades of the day in a trail.
 #[tactic(auto, using(crate::proofs::Kept::not_begun, crate::proofs::Stops::stops_printing))]
 fn print_kept<S: Alter, W: Write>(
     alloc: Global,
@@ -66,9 +66,9 @@ fn print_kept<S: Alter, W: Write>(
     }
 }
 
-/// Writes each trade of the day that a database keeps as a trail, in their order and in a form, read back from its rows alone: these are
-/// replayed over the files and with the delays that it keeps. Nothing is written into the database, nor, where it is refused, to the
-/// writer; where memory is refused, nothing or a beginning of what is printed. The connection comes back.
+/// Writes each trade of the day in a database's trail, in order and in a form, read back from its rows alone: these are
+/// replayed over the stored files and with the stored delays. Nothing is written into the database, nor, where it is
+/// refused, to the writer; where an allocation fails, nothing or a first part of the output. The connection comes back.
 #[tactic(auto, using(crate::proofs::Kept::survives_both, crate::proofs::Ends::fault_emitted, crate::proofs::Ends::refused_unwritten, crate::proofs::Kept::not_begun, crate::proofs::Stops::fault_stops, crate::proofs::Stops::day_stopped))]
 pub fn print_day<S: Alter, W: Write>(
     alloc: Global,

@@ -1,4 +1,4 @@
-//! What is printed of a trail.
+//! Reports on a trail.
 
 ghost use Rattle.std.specs.Prelude.{◌≡◌, ◌⊎◌, IfOk, IfErr, MatchResult, Ok, Err};
 ghost use Rattle.std.specs.Io.KnownBytes.{Keeps};
@@ -18,8 +18,8 @@ use sqlite::{Alter, Connection};
 use std::alloc::Global;
 use std::io::Write;
 
-/// What is printed of a trail: its trades in a form, and perhaps after one of an older version was made into version 3; or the evidence for
-/// the trade with a number.
+/// A report on a trail: its trades in a form, perhaps after it was updated from an older version to version 3; or the
+/// evidence for the trade with a number.
 #[derive(Clone, Copy)]
 pub enum Report {
     Day(Form),
@@ -27,7 +27,7 @@ pub enum Report {
     Trade(u64),
 }
 
-/// Prints what is wanted of the trail that a database keeps. The connection comes back.
+/// Prints the report on a database's trail. The connection comes back.
 pub fn print_wanted<S: Alter, W: Write>(
     alloc: Global,
     conn: Connection<S>,
@@ -42,8 +42,8 @@ pub fn print_wanted<S: Alter, W: Write>(
     ensures unwritten { IfErr result (λ e. UnlessWritten wanted e.0 (Keeps (W.contents writer.old) (W.contents writer.new))) }
     ensures begun { IfErr result (λ e. HasCleanDisk (state S.Store e.1) → e.0 ≡ Stopped Memory → Keeps (W.contents writer.old) (W.contents writer.new) ⊎ BeginsWanted wanted (state S.Store conn).now (W.contents writer.old) (W.contents writer.new)) }
 
-    // A crash leaves what it could leave before, or, where it was to be made, of an older trail the whole one of version 3; after Ok,
-    // that one alone.
+    // A crash leaves what it could leave before, or, where it was to be made, of an older trail the whole one of
+    // version 3; after Ok, that one alone.
     ensures crash { IfOk result (λ back. Survives (state S.Store conn) (state S.Store back) (MayCommit wanted (state S.Store conn))) }
     ensures durable { IfOk result (λ back. HasCleanDisk (state S.Store back) → LeavesWanted wanted (state S.Store conn) (state S.Store back)) }
     ensures crash_err { IfErr result (λ e. Survives (state S.Store conn) (state S.Store e.1) (MayCommit wanted (state S.Store conn))) }
@@ -55,7 +55,7 @@ pub fn print_wanted<S: Alter, W: Write>(
     }
 }
 
-/// How the printing ended, and beside it the connection, as it came back.
+/// Separates the outcome of the printing from the connection that came back.
 pub fn parted<S: Alter>(
     printed: Result<Connection<S>, (Failure, Connection<S>)>,
 ) -> (Result<(), Failure>, Connection<S>)

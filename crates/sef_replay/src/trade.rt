@@ -1,4 +1,4 @@
-//! The evidence for one trade of the day that a database keeps as a trail, printed.
+//! Printing the evidence for one trade of a trail.
 
 ghost use Rattle.std.specs.Prelude.{◌≡◌, ◌++◌, ℕ, ◌<◌, ◌^◌, Some, IfOk, IfErr, IfSome, OnOk, codes, decimal};
 ghost use Rattle.std.specs.Io.KnownBytes.{Keeps};
@@ -19,7 +19,7 @@ use std::alloc::Global;
 use std::io::Write;
 use trade_reconstruction::{EvidenceFault, print_evidence};
 
-/// The number of a trade that a word gives as the venue prints it: `T` and its digits.
+/// The number of a trade in a word as the venue prints it: `T` and its digits.
 pub fn trade_number(word: &str) -> Option<u64>
     ensures printed { IfSome result (λ number. word.now ≡ codes "T" ++ decimal number) }
     ensures each { (number : ℕ) → number < 2 ^ 64 → word.now ≡ codes "T" ++ decimal number → result ≡ Some number }
@@ -40,7 +40,7 @@ pub fn trade_number(word: &str) -> Option<u64>
     }
 }
 
-/// Writes the evidence for a trade of the day that a trail keeps.
+/// Writes the evidence for a trade of the day in a trail.
 #[tactic(auto, using(crate::proofs::Trades::emitted_kept, crate::proofs::Trades::none_kept, crate::proofs::Trades::stop_unemitted, crate::proofs::Stops::stops_printing))]
 fn print_kept<S: Alter, W: Write>(
     alloc: Global,
@@ -77,9 +77,10 @@ fn print_kept<S: Alter, W: Write>(
     }
 }
 
-/// Writes the evidence for the trade with this number of the day that a database keeps as a trail, read back from its rows alone:
-/// these are replayed over the files and with the delays that it keeps. `Trade` where the day has no such trade. Nothing is written
-/// into the database, nor, where it or the number is refused or memory is, to the writer. The connection comes back.
+/// Writes the evidence for the trade with this number of the day in a database's trail, read back from its rows alone:
+/// these are replayed over the stored files and with the stored delays. `Trade` where the day has no such trade.
+/// Nothing is written into the database, nor to the writer where the trail or the number is refused or an allocation
+/// fails. The connection comes back.
 #[tactic(auto, using(crate::proofs::Trades::kept_trade, crate::proofs::Trades::refusal_kept, crate::proofs::Trades::fault_kept, crate::proofs::Trades::fault_unemitted, crate::proofs::Kept::survives_both, crate::proofs::Stops::fault_stops, crate::proofs::Stops::emitting_stopped))]
 pub fn print_trade<S: Alter, W: Write>(
     alloc: Global,

@@ -1,4 +1,4 @@
--- What a line said, and how many faults are among it.
+-- The account of a line, and the count of its faults.
 use Rattle.std.proofs.Common.{◌≡◌, ℕ, ◌+◌, List, [], ◌∷◌, ◌++◌, refl, ap, arith, min}
 use Rattle.gateway.specs.declared.mem_line.LineEvent.{LineEvent}
 use Rattle.gateway.specs.Said.{Said, fault_of, faults_in}

@@ -1,4 +1,5 @@
--- What a connection has promised after one write and another, and what is to come once some that was read ahead is given.
+-- What a connection has promised after one write and another, and what is to come once a part of what was read ahead is
+-- given.
 use Rattle.std.proofs.Common.{◌≡◌, ℕ, Bool, true, false, cond, List, [], ◌++◌, sym, ap, ◌∙◌, append_assoc, append-nil, Option, None, Some, Result, Ok, Err, MatchResult}
 use Rattle.std.specs.Io.KnownBytes.{Appends, Consumes, append_known, prepend_known}
 use Rattle.std.proofs.KnownBytes.{Appends-trans}
@@ -26,7 +27,7 @@ pub given_after : (old mid new : Link) (bytes : List ℕ) (r : Result Unit LineF
 given_after old mid new bytes (Ok x) first none same next = rw (same, none) (passed old.taken mid.taken new.taken old.waiting bytes first next)
 given_after old mid new bytes (Err e) first none same next = part_after old.taken mid.taken new.taken old.waiting bytes first next
 
--- what leaves the front of what was read ahead leaves what is to come; and where that is known to nobody it stays so
+-- what leaves the front of what was read ahead leaves what is to come; where that is unknown it stays so
 pub given_ahead : (unknown : Bool) (behind : Option (List ℕ)) (old new bytes : List ℕ) → old ≡ bytes ++ new
     → Consumes (cond unknown None (prepend_known old behind)) (cond unknown None (prepend_known new behind)) bytes
 given_ahead true behind old new bytes split = tt

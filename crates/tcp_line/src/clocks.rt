@@ -11,7 +11,7 @@ use std::time::Duration;
 use std::{mem, time};
 use venue_worker::Clock;
 
-// The moment so long after the start of 1970, or the greatest one.
+// The moment this long after the start of 1970, or the greatest one.
 fn moment_after(elapsed: Duration) -> Moment
     ensures { result ≡ min (as_nanos elapsed / 10 ^ 6) greatest }
 {
@@ -20,14 +20,14 @@ fn moment_after(elapsed: Duration) -> Moment
     start.plus(milliseconds as u64)
 }
 
-/// The system's clock. Where it cannot be read, it answers what it answered last.
+/// The system's clock. Where it cannot be read, it repeats its last answer.
 pub struct SystemClock<T> {
     clock: T,
     last: Moment,
     past: GhostHistory<Moment>,
 }
 
-// Written out, so that a proof sees one call where it is dropped, and not the drop of each part.
+// Written-out drop (docs/ARCHITECTURE.md).
 impl<T: Drop> Drop for SystemClock<T> {
     fn drop(self) {
         let SystemClock {
@@ -39,7 +39,7 @@ impl<T: Drop> Drop for SystemClock<T> {
 }
 
 impl<T: time::Clock> SystemClock<T> {
-    /// It answers nothing before this moment where the clock cannot be read.
+    /// A clock that answers `moment` until the system's clock is first read.
     pub fn from(clock: T, moment: Moment) -> SystemClock<T>
         ensures { ⟦<SystemClock<T> as Clock>⟧.answered result ≡ [] }
     {
@@ -65,17 +65,17 @@ impl<T: time::Clock> Clock for SystemClock<T> {
     }
 }
 
-/// The worker's clock: the system's, which waits before it answers where the last turns found nothing, until a session has moved a
-/// message. It wakes the sessions at whose seats the worker moved one.
+/// The worker's clock: the system's clock, which waits before it answers where the last turns found nothing, until a
+/// session has moved a message. Wakes the sessions at whose seats the worker moved one.
 pub struct WorkerClock<T> {
     clock: SystemClock<T>,
     sleeper: IdleWait,
-    /// Of each participant.
+    /// One waker for each participant.
     sessions: Vec<Arc<ThreadWaker>>,
     has_progressed: bool,
 }
 
-// Written out, so that a proof sees one call where it is dropped, and not the drop of each part.
+// Written-out drop (docs/ARCHITECTURE.md).
 impl<T: Drop> Drop for WorkerClock<T> {
     fn drop(self) {
         let WorkerClock {
@@ -88,7 +88,7 @@ impl<T: Drop> Drop for WorkerClock<T> {
 }
 
 impl<T: time::Clock> WorkerClock<T> {
-    /// Over a clock, with the bells of all sessions in their order.
+    /// The worker's clock over a clock, with the wakers of all sessions in order.
     pub fn new(
         clock: SystemClock<T>,
         sleeper: IdleWait,

@@ -1,4 +1,4 @@
-//! One connection: bytes from a peer, which may be read ahead, and bytes to it, which may wait a little.
+//! One connection: bytes from a peer, read ahead in part, and bytes to it, which may wait briefly.
 ghost use Rattle.std.specs.Prelude.{◌≡◌, [], ◌++◌, length, min, take, IfOk, MatchResult, false};
 ghost use Rattle.std.specs.Io.Buffered.{reader_buffer, reader_remaining};
 ghost use Rattle.std.specs.Io.KnownBytes.{Appends, Consumes};
@@ -14,22 +14,22 @@ use std::io::{BufRead, BufReader, ErrorKind, Read, Write};
 use std::marker::Model;
 use std::time::Clock;
 
-/// No more bytes wait than these.
+/// The greatest count of bytes that wait.
 const MAX_WAITING: usize = 65_536;
 
-/// No more bytes are given at once than these: a message or two. Whoever reads goes through all that it was given before it hands a
-/// message on, and the worker has nothing to do until then.
+/// The greatest count of bytes given at once: a message or two. A session goes through all that it was given before it
+/// hands a message on, while the worker has nothing to do.
 const MAX_GIVEN: usize = 256;
 
-/// A connection between what is read and what is written. One call of the system reads what many turns are given. What was written
-/// may wait, so that one call takes it with what is written after it.
+/// A connection between its input and its output. One system call reads what many turns are given. Written bytes may
+/// wait, so that one call takes them with those written later.
 pub struct Connection<I: Read, O: Write> {
     input: BufReader<I>,
     output: O,
     waiting: Vec<u8>,
 }
 
-// Written out, so that a proof sees one call where it is dropped, and not the drop of each part.
+// Written-out drop (docs/ARCHITECTURE.md).
 impl<I: Read + Drop, O: Write + Drop> Drop for Connection<I, O> {
     fn drop(self) {
         let Connection {
@@ -50,7 +50,8 @@ impl<I: Read, O: Write> Model for Connection<I, O> {
 }
 
 impl<I: Read, O: Write> Connection<I, O> {
-    /// Between these two; nothing was read ahead, and nothing waits. An error where there is no memory for what is read ahead.
+    /// A connection between these two; nothing was read ahead, and nothing waits. An error where the allocation for
+    /// what is read ahead fails.
     pub fn new(alloc: Global, input: I, output: O) -> io::Result<Connection<I, O>>
     where
         I: Drop,
@@ -73,9 +74,9 @@ impl<I: Read, O: Write> Connection<I, O> {
         !self.input.buffer().is_empty()
     }
 
-    /// Gives 1 to 256 bytes, and none only where none are held: the first of what was read ahead, and asks the system only where nothing
-    /// was. The peer has ended where the system says so and nothing is to come; a fault is any other refusal than that there is nothing
-    /// yet.
+    /// Gives 1 to 256 bytes, and none only where none are held: the first of those read ahead; asks the system only
+    /// where there are none. The peer has ended where the system says so and nothing is to come; a fault is any error
+    /// of the system but that nothing has come yet.
     pub fn read(&mut self, buffer: &mut [u8; READ_SIZE]) -> Answer
         ensures within { IsWithin result }
         ensures bytes { HasRead self.old.coming self.new.coming result buffer.new }
@@ -101,7 +102,7 @@ impl<I: Read, O: Write> Connection<I, O> {
         }
     }
 
-    // Gives the first of what was read ahead, and how many they are.
+    // Gives the first of the bytes read ahead, and their count.
     fn give_ahead(&mut self, buffer: &mut [u8; READ_SIZE]) -> usize
         ensures count { result ≡ min (length self.old.ahead) 256 }
         ensures ahead { self.old.ahead ≡ take result buffer.new ++ self.new.ahead }
@@ -115,7 +116,8 @@ impl<I: Read, O: Write> Connection<I, O> {
         count
     }
 
-    /// Takes all bytes, which may wait, or a first part of them and of those that waited, and then a fault. What was read ahead stays.
+    /// Takes all bytes, which may wait, or a first part of them and of those that waited, and then reports a fault.
+    /// What was read ahead stays.
     pub fn write<T: Clock>(&mut self, clock: &T, bytes: &[u8]) -> Result<(), LineFault>
         ensures bytes { MatchResult result (λ _. Appends (promised self.old) (promised self.new) bytes.now) (λ _. TookPart self.old.taken self.new.taken (due self.old bytes.now)) }
         ensures coming { self.new.coming ≡ self.old.coming }
@@ -130,7 +132,7 @@ impl<I: Read, O: Write> Connection<I, O> {
         }
     }
 
-    // Whether these wait now, behind those that waited. They do not where they are too many, or there is no memory.
+    // Queues these bytes after those that wait. False where they are too many, or an allocation fails.
     fn keep(&mut self, bytes: &[u8]) -> bool
         ensures { self.new ≡ kept result self.old bytes.now }
     {
@@ -138,7 +140,7 @@ impl<I: Read, O: Write> Connection<I, O> {
         count <= MAX_WAITING && self.waiting.extend_from_slice(bytes).is_ok()
     }
 
-    // Gives these to the system, past those that wait.
+    // Gives these bytes to the system, after those that wait.
     fn pass<T: Clock>(&mut self, clock: &T, bytes: &[u8]) -> Result<(), LineFault>
         ensures bytes { MatchResult result (λ _. Appends self.old.taken self.new.taken bytes.now) (λ _. TookPart self.old.taken self.new.taken bytes.now) }
         ensures coming { self.new.coming ≡ self.old.coming }
@@ -148,7 +150,7 @@ impl<I: Read, O: Write> Connection<I, O> {
         give(clock, &mut self.output, bytes)
     }
 
-    /// Gives the system all that waits, or a first part of it, and then tells a fault. What was read ahead stays.
+    /// Gives the system all that waits, or a first part of it, and then reports a fault. What was read ahead stays.
     pub fn flush<T: Clock>(&mut self, clock: &T) -> Result<(), LineFault>
         ensures bytes { MatchResult result (λ _. Appends self.old.taken self.new.taken self.old.waiting × (self.new.waiting ≡ [])) (λ _. TookPart self.old.taken self.new.taken self.old.waiting) }
         ensures coming { self.new.coming ≡ self.old.coming }

@@ -1,8 +1,8 @@
-//! Whether a line did anything since its gate looked last.
+//! Whether a line did anything since its gate last looked.
 
 use std::sync::atomic::{AtomicU64, Ordering};
 
-/// A mark between a line and its gate. No promise rests on it.
+/// A flag between a line and its gate. No contract depends on it.
 #[derive(Drop)]
 pub struct DirtyFlag {
     dirty: AtomicU64,
@@ -15,12 +15,12 @@ impl DirtyFlag {
         }
     }
 
-    /// The line did something.
+    /// Records that the line did something.
     pub fn note(&self) {
         self.dirty.store(1, Ordering::SeqCst);
     }
 
-    /// Whether it did anything since this was asked last.
+    /// Whether the line did anything since the last call.
     pub fn take(&self) -> bool {
         self.dirty.swap(0, Ordering::SeqCst) != 0
     }

@@ -1,4 +1,4 @@
-//! A session's gate: where its turns wait.
+//! A session's gate: the place where its turns wait.
 ghost use Rattle.std.specs.Prelude.{◌≡◌, []};
 
 use crate::dirty_flag::DirtyFlag;
@@ -8,8 +8,8 @@ use gateway::line::Gate;
 use std::mem;
 use std::sync::{Arc, Wait};
 
-/// So many turns in a row may leave the line unread while messages move at the seats, so that one call of the system takes all
-/// their replies.
+/// The greatest count of turns in a row that leave the line unread while messages move at the seats, so that one system
+/// call takes all their replies.
 const MAX_UNREAD: u64 = 32;
 
 /// A gate that waits, where the last turns found nothing, until the line, its listener or the worker has something.
@@ -22,7 +22,7 @@ pub struct TcpGate {
     past: GhostHistory<bool>,
 }
 
-// Written out, so that a proof sees one call where it is dropped, and not the drop of each part.
+// Written-out drop (docs/ARCHITECTURE.md).
 impl Drop for TcpGate {
     fn drop(self) {
         let TcpGate {
@@ -37,7 +37,7 @@ impl Drop for TcpGate {
 }
 
 impl TcpGate {
-    /// The gate of a session that wakes the worker by its bell, and of a line that tells what it did.
+    /// The gate of a session that wakes the worker by its waker, and of a line that notes what it did.
     pub fn new(sleeper: IdleWait, worker: Arc<ThreadWaker>, line: Arc<DirtyFlag>) -> TcpGate
         ensures { ⟦<TcpGate as Gate>⟧.passed result ≡ [] }
     {
@@ -51,7 +51,7 @@ impl TcpGate {
         }
     }
 
-    // Whether the next turn may read; it waits where the last turns found nothing.
+    // Whether the next turn may read; waits where the last turns found nothing.
     fn is_to_read(&mut self) -> bool
         ensures { self.new.past ≡ self.old.past }
     {

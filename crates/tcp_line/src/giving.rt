@@ -1,4 +1,4 @@
-//! Giving bytes to the system, all of them, and not for ever.
+//! Writes to the system: all bytes, within a limited time.
 ghost use Rattle.std.specs.Prelude.{◌≡◌, MatchResult};
 ghost use Rattle.std.specs.Io.KnownBytes.{Appends};
 ghost use Rattle.tcp_line.specs.Link.{TookPart};
@@ -8,17 +8,17 @@ use std::io::{ErrorKind, Write};
 use std::time::{Clock, Duration, Instant};
 use std::{io, thread};
 
-/// How many seconds a peer that does not read is waited for.
+/// The time that a peer which does not read is waited for, in seconds.
 const MAX_WAIT_SECONDS: u64 = 5;
 
-/// How many microseconds the system is left alone once it took nothing.
+/// The pause after the system took nothing, in microseconds.
 const PAUSE: u64 = 50;
 
-/// How often the system is asked to take more, whatever the clock tells.
+/// The greatest count of tries, whatever the clock answers.
 const MAX_TRIES: u64 = 1_000_000;
 
-/// Gives all of these to the system, or a first part of them and then tells a fault. Where the system takes nothing it is asked
-/// again after a pause, for five seconds.
+/// Gives all of these bytes to the system, or a first part of them and then reports a fault. Where the system takes
+/// nothing it is asked again after a pause, for five seconds.
 pub(crate) fn give<O: Write, T: Clock>(
     clock: &T,
     output: &mut O,
@@ -45,8 +45,8 @@ pub(crate) fn give<O: Write, T: Clock>(
     Err(LineFault)
 }
 
-// Whether a write that took nothing is to be tried again: after a signal at once, and where the system has no room after a
-// pause, unless it had none for too long.
+// Whether a write that took nothing is to be tried again: after a signal at once, and where the system's buffer is full
+// after a pause, unless it was full for too long.
 fn may_try_again<T: Clock>(clock: &T, kind: ErrorKind, waited_since: &mut Option<Instant>) -> bool {
     match kind {
         ErrorKind::Interrupted => true,

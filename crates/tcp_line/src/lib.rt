@@ -1,4 +1,4 @@
-//! A session's line over TCP, with gates and clocks that wait by bells.
+//! A session's line over TCP, with gates and clocks that wait on wakers.
 #![tactic(auto)]
 
 mod clocks;

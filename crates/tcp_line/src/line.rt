@@ -19,12 +19,12 @@ use std::os::fd::AsRawFd;
 use std::sync::{Arc, Wait};
 use std::time::Clock;
 
-/// The tokens of the two sockets among what a session's thread waits for.
+/// The tokens of the two sockets in the poll of a session's thread.
 const LISTENER_TOKEN: Token = Token(1);
 
 const STREAM_TOKEN: Token = Token(2);
 
-/// A line whose peer calls at a listener: one connection after another, and the next one ends the last.
+/// A line whose peer connects to a listener: one connection after another, and a new one ends the last.
 pub struct TcpLine<T> {
     alloc: Global,
     clock: T,
@@ -35,7 +35,7 @@ pub struct TcpLine<T> {
     log: LineLog,
 }
 
-// Written out, so that a proof sees one call where it is dropped, and not the drop of each part.
+// Written-out drop (docs/ARCHITECTURE.md).
 impl<T: Drop> Drop for TcpLine<T> {
     fn drop(self) {
         let TcpLine {
@@ -51,7 +51,8 @@ impl<T: Drop> Drop for TcpLine<T> {
 }
 
 impl<T: Clock + Drop> TcpLine<T> {
-    /// Over this listener, which from now on waits for nobody. Both sockets are registered where the session's thread waits.
+    /// A line over this listener, which is made non-blocking. Both sockets are registered in the poll of the session's
+    /// thread.
     pub fn new(
         alloc: Global,
         clock: T,
@@ -79,7 +80,7 @@ impl<T: Clock + Drop> TcpLine<T> {
         })
     }
 
-    /// Gives the system what still waits, and lets the connection go. Whether all that was written was taken.
+    /// Gives the system what still waits, and drops the connection. Whether all that was written was taken.
     pub fn close(&mut self) -> bool
         ensures same { self.new.log ≡ self.old.log }
         ensures gone { self.new.connection ≡ None }
@@ -113,7 +114,7 @@ impl<T: Clock + Drop> TcpLine<T> {
         }
     }
 
-    // A stream that waits for nothing and sends at once, and wakes the session's thread.
+    // Prepares a stream: non-blocking, without delay, registered in the poll of the session's thread.
     fn prepare(&self, stream: TcpStream) -> io::Result<Connection<TcpStream, TcpStream>> {
         stream.set_nodelay(true)?;
         stream.set_nonblocking(true)?;
@@ -123,7 +124,7 @@ impl<T: Clock + Drop> TcpLine<T> {
         Connection::new(self.alloc, stream, output)
     }
 
-    // Ends the connection that there is, and takes the next.
+    // Ends the connection, if any, and takes the next.
     fn change(&mut self) -> Accept
         ensures over { result ≢ Accept.Over }
         ensures same { self.new.log ≡ self.old.log }
@@ -135,7 +136,7 @@ impl<T: Clock + Drop> TcpLine<T> {
         self.next_connection()
     }
 
-    // Reads once. A connection that told a fault is let go.
+    // Reads once. A connection that reported a fault is dropped.
     fn receive(&mut self, buffer: &mut [u8; READ_SIZE]) -> Read
         ensures within { IsWithin result }
         ensures same { self.new.log ≡ self.old.log }
@@ -152,7 +153,7 @@ impl<T: Clock + Drop> TcpLine<T> {
         answer
     }
 
-    // Whether the connection took all of these. One that did not is let go.
+    // Whether the connection took all of these. One that did not is dropped.
     fn has_taken(&mut self, bytes: &[u8]) -> bool
         ensures same { self.new.log ≡ self.old.log }
         ensures gone { result ≡ false → self.new.connection ≡ None }
@@ -168,10 +169,10 @@ impl<T: Clock + Drop> TcpLine<T> {
     }
 }
 
-// Reads once. The system is given what waits before it is asked, and not before what was read ahead is given, so that one call of the
-// system may carry the replies to all that another one read. A read that heard nothing has asked the system: so nothing waits any more
-// after turns that read and heard nothing, after which a thread goes to sleep. (One that may not read, since many messages are ready,
-// sleeps until the bell or 100 ms.)
+// Reads once. What waits is given to the system before it is asked to read, but only once all that was read ahead is
+// given, so that one system call may carry the replies to all that another one read. A read that gave nothing has asked
+// the system: so nothing waits after turns that read and got nothing, after which a thread goes to sleep. (A thread
+// that may not read, since many messages are ready, sleeps until its waker or 100 ms.)
 fn receive_rest<I: io::Read, O: io::Write, T: Clock>(
     connection: &mut Connection<I, O>,
     clock: &T,
@@ -222,7 +223,7 @@ impl<T: Clock + Drop> Line for TcpLine<T> {
             Read::Ended => Given::Ended,
             Read::Fault => Given::Fault,
         };
-        // (Of what was read ahead as well: a gate does not rest behind a read that gave bytes.)
+        // (Notes bytes that were read ahead too: a gate does not wait after a read that gave bytes.)
         match given {
             Given::Quiet => {}
             _ => self.activity.note(),

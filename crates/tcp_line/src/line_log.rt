@@ -1,4 +1,4 @@
-//! What a line said, for contracts alone, and how many faults are among it.
+//! The account of a line, for contracts alone, and the count of its faults.
 ghost use Rattle.std.specs.Prelude.{◌≡◌, ◌^◌, ◌-◌, [], ◌∷◌, ◌++◌, min};
 ghost use Rattle.gateway.specs.Said.{fault_of, faults_in};
 ghost use Rattle.gateway.specs.Memory.{said_of, fault_count};
@@ -10,14 +10,14 @@ use gateway::mem_line::LineEvent;
 use gateway::piece::Given;
 use std::marker::Model;
 
-/// What a line said. Contracts see all of it; what takes room is the last of it, and the count of faults.
+/// The account of a line. Contracts see all of it; its last event and the count of faults take memory.
 pub struct LineLog {
     past: GhostHistory<LineEvent>,
     faults: u64,
     ghost counted: { faults ≡ min (fault_count (entries past)) (2 ^ 64 - 1) },
 }
 
-// Written out, so that a proof sees one call where it is dropped, and not the drop of each part.
+// Written-out drop (docs/ARCHITECTURE.md).
 impl Drop for LineLog {
     fn drop(self) {
         let LineLog {
@@ -39,7 +39,7 @@ impl Model for LineLog {
 }
 
 impl LineLog {
-    /// Of a line that has said nothing.
+    /// The account of a line without events.
     pub fn new() -> LineLog
         ensures { result ≡ [] }
     {
@@ -49,7 +49,7 @@ impl LineLog {
         }
     }
 
-    /// The line said this.
+    /// Adds an event.
     pub fn note(&mut self, spoken: LineEvent)
         ensures { self.new ≡ self.old ++ said_of spoken ∷ [] }
     {
@@ -58,7 +58,7 @@ impl LineLog {
         self.faults = self.faults.saturating_add(faults);
     }
 
-    /// How many faults it told; at its greatest value the count stays.
+    /// The count of faults reported; it saturates.
     pub fn faults(&self) -> u64
         ensures { result ≡ min (faults_in self.now) (2 ^ 64 - 1) }
     {
@@ -66,7 +66,7 @@ impl LineLog {
     }
 }
 
-// 1 for a fault.
+// 1 for a fault, else 0.
 fn faults_of(spoken: &LineEvent) -> u64
     ensures { result ≡ fault_of (said_of spoken.now) }
 {

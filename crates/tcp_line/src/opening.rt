@@ -1,4 +1,4 @@
-//! The lines, gates and clocks of a venue, joined by their bells.
+//! The lines, gates and clocks of a venue, joined by their wakers.
 ghost use Rattle.std.specs.Prelude.{◌≡◌, ◌≤◌, ◌<◌, ◌+◌, ◌^◌, IfOk, length};
 
 use crate::clocks::{SystemClock, WorkerClock};
@@ -14,19 +14,19 @@ use std::sync::Arc;
 use std::thread::Threads;
 use std::time::Clock;
 
-/// What a session's thread has of the outside.
+/// The outside of a session's thread.
 pub type SessionIo<T> = (TcpLine<T>, SystemClock<T>, TcpGate);
 
-/// What the threads of a venue have of the outside.
+/// The outside of a venue's threads.
 #[derive(Drop)]
 pub struct VenueIo<T> {
-    /// Of each participant, in order.
+    /// One for each participant, in order.
     pub sessions: Vec<SessionIo<T>>,
     pub worker: WorkerClock<T>,
 }
 
-/// Opens a line for each participant, the first one at this port of 127.0.0.1 and each other at the next, and joins them with
-/// the worker's clock by bells.
+/// Opens a line for each participant, the first one at this port of 127.0.0.1 and each other at the next, and joins
+/// them with the worker's clock by wakers.
 pub fn open_lines<
     R: Net<Listener = TcpListener, Stream = TcpStream> + Threads,
     T: Clock + Copy + Drop,
@@ -57,7 +57,7 @@ pub fn open_lines<
     })
 }
 
-// The line at a port, with the gate and the clock of its session, and the session's bell for the worker.
+// The line at a port, with the gate and the clock of its session, and the session's waker for the worker.
 fn open_line<R: Net<Listener = TcpListener, Stream = TcpStream>, T: Clock + Copy + Drop>(
     rt: &R,
     alloc: Global,

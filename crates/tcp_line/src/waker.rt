@@ -1,4 +1,4 @@
-//! How a thread that has nothing to do waits, and how another wakes it.
+//! Idle threads: how one waits, and how another wakes it.
 
 use mio::{Events, Poll, Registry, Token, Waker};
 use std::alloc::{AllocError, Global};
@@ -9,28 +9,28 @@ use std::thread::Threads;
 use std::time::Duration;
 use std::{io, thread};
 
-/// The token of a bell among what its thread waits for.
+/// The token of a waker in the poll of its thread.
 const WAKER_TOKEN: Token = Token(0);
 
-/// How many milliseconds a thread waits at most. A wake-up that were lost would cost this, and nothing else.
+/// The greatest time that a thread waits, in milliseconds. A lost wake-up would cost this, and nothing else.
 const MAX_WAIT_MS: u64 = 100;
 
-/// With so many processors the worker spins as long as a session before it waits.
+/// The count of processors from which on the worker spins as long as a session before it waits.
 const MANY_PROCESSORS: usize = 4;
 
-/// How many turns that found nothing a thread makes before it waits.
+/// The counts of turns without work that a thread makes before it waits.
 #[derive(Clone, Copy)]
 pub struct SpinLimits {
-    /// The worker's. Nobody hands it anything while a session reads a piece of a long run of messages and takes it apart, or between one
-    /// order and the next of a desk that waits for each answer; where there are processors enough it is awake then. Each spin is one of its
-    /// turns, so more of them end a venue sooner.
+    /// The worker's. It has nothing to do while a session takes a piece of a long run of messages apart, or between two
+    /// orders of a participant that waits for each answer; with enough processors it stays awake then. Each spin is one
+    /// of its turns, so more of them end a venue sooner.
     pub worker: u64,
-    /// A session's, in which the worker answers a message.
+    /// A session's, during which the worker answers a message.
     pub session: u64,
 }
 
 impl SpinLimits {
-    /// By how many processors there are.
+    /// The limits for this count of processors.
     pub fn of<R: Threads>(rt: &R) -> SpinLimits {
         let worker = match thread::available_parallelism(rt) {
             Ok(count) if count.get() >= MANY_PROCESSORS => 200,
@@ -43,13 +43,13 @@ impl SpinLimits {
     }
 }
 
-/// Wakes the thread that waits for it. It carries nothing, and no promise rests on it.
+/// Wakes the thread that waits for it. It carries no data, and no contract depends on it.
 pub struct ThreadWaker {
     asleep: AtomicU64,
     waker: Waker,
 }
 
-// Written out, so that a proof sees one call where it is dropped, and not the drop of each part.
+// Written-out drop (docs/ARCHITECTURE.md).
 impl Drop for ThreadWaker {
     fn drop(self) {
         let ThreadWaker {
@@ -60,7 +60,7 @@ impl Drop for ThreadWaker {
 }
 
 impl ThreadWaker {
-    // From now on the bell wakes the thread, once.
+    // From now on the waker wakes the thread, once.
     fn set_asleep(&self) {
         self.asleep.store(1, Ordering::SeqCst);
     }
@@ -69,7 +69,7 @@ impl ThreadWaker {
         self.asleep.store(0, Ordering::SeqCst);
     }
 
-    /// Wakes the thread, if it sleeps. Whoever rings has done before what the thread is to find.
+    /// Wakes the thread, if it sleeps. The caller has finished what the thread is to find.
     pub fn wake(&self) {
         if self.asleep.load(Ordering::SeqCst) == 0 {
             return;
@@ -80,17 +80,17 @@ impl ThreadWaker {
     }
 }
 
-/// A thread that waits for its bell, and for what else is registered.
+/// The wait of an idle thread: for its waker, and for the sockets that are registered.
 pub struct IdleWait {
     poll: Poll,
     events: Events,
     thread_waker: Arc<ThreadWaker>,
-    /// So many turns in a row found nothing.
+    /// The count of turns in a row that found nothing.
     idle: u64,
     spins: u64,
 }
 
-// Written out, so that a proof sees one call where it is dropped, and not the drop of each part.
+// Written-out drop (docs/ARCHITECTURE.md).
 impl Drop for IdleWait {
     fn drop(self) {
         let IdleWait {
@@ -104,7 +104,7 @@ impl Drop for IdleWait {
 }
 
 impl IdleWait {
-    /// One that waits after so many turns that found nothing.
+    /// A wait that begins after `spins` turns that found nothing.
     pub fn new<R: Net>(rt: &R, alloc: Global, spins: u64) -> io::Result<IdleWait> {
         let poll = Poll::new(rt)?;
         let waker = Waker::new(poll.registry(), WAKER_TOKEN)?;
@@ -121,17 +121,17 @@ impl IdleWait {
         })
     }
 
-    /// Its bell, for another thread.
+    /// Its waker, for another thread.
     pub fn thread_waker(&self) -> Result<Arc<ThreadWaker>, AllocError> {
         Arc::try_clone(&self.thread_waker)
     }
 
-    /// Where sockets are registered that it is to wait for.
+    /// The registry for the sockets that it is to wait for.
     pub fn registry(&self) -> io::Result<Registry> {
         self.poll.registry().try_clone()
     }
 
-    /// The last turn found something.
+    /// Call after a turn that found something.
     pub fn spin(&mut self) {
         if self.idle >= self.spins {
             self.thread_waker.set_awake();
@@ -139,8 +139,8 @@ impl IdleWait {
         self.idle = 0;
     }
 
-    /// The last turn found nothing. After some such turns it tells that it sleeps, and one turn later, in which it would find what
-    /// was done before, it waits for something to happen.
+    /// Call after a turn that found nothing. After some such turns it sets the sleep flag, and one turn later, which
+    /// finds what was done before, waits for an event.
     pub fn park(&mut self) {
         self.idle = self.idle.saturating_add(1);
         if self.idle < self.spins {

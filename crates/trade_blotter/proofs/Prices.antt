@@ -1,4 +1,4 @@
--- What stands in a price's field.
+-- The bytes of a price's field.
 use Rattle.std.proofs.Common.{◌≡◌, ◌++◌, ◌∷◌, ◌+◌, ◌-◌, ◌≤◌, ◌∙◌, [], ℕ, List, length, ap, sym, subst, arith, refl}
 use Rattle.std.specs.Fmt.{digits}
 use Rattle.std.proofs.lemmas.List.{length_push, take_at}

@@ -1,4 +1,4 @@
--- The room of a trade that came about in one is found, and its first quote.
+-- The room of a room trade is found, and its first quote.
 use Rattle.std.proofs.Common.{◌≡◌, refl, sym, ap, subst, ◌∙◌, ◌⊎◌, inl, inr, ℕ, zero, suc, ◌+◌, ◌<◌, ◌==◌, Bool, true, false, cond, not, List, [], ◌∷◌, ◌++◌, map, length, filter_map, find, slice_get, slice_index_or, Contains, Option, Some, None, eq-eqb, ne_eqb, append_assoc, arith}
 use Rattle.std.specs.Prelude.{take, take_while}
 use Rattle.std.specs.List.{cons_option, enumerate_from, prefix_len}
@@ -30,7 +30,7 @@ none_is_some a e = cc
 same_some : {A : Type 0} (a b : A) → Some a ≡ Some b → a ≡ b
 same_some a b e = cc
 
--- x stands in the list
+-- x is in the list
 abbrev In : {X : Type 0} → X → List X → Type 0
 In x [] = ⊥
 In x (y ∷ ys) = (y ≡ x) ⊎ In x ys
@@ -76,7 +76,7 @@ found_behind : {X : Type 0} (p : X → Bool) (xs ys : List X) → find p xs ≡ 
 found_behind p [] ys h = refl
 found_behind p (z ∷ zs) ys h = (elim (p z) as (λ b. cond b (Some z) (find p zs) ≡ None → cond b (Some z) (find p (zs ++ ys)) ≡ find p ys) [ true ↦ λ k. absurd (none_is_some z (sym k)) | false ↦ found_behind p zs ys ]) h
 
--- Things that are numbered by their places, from n + 1 on.
+-- Things numbered by their places, from n + 1 on.
 
 abbrev Places : {X : Type 0} → (X → ℕ) → ℕ → List X → Type 0
 Places num n [] = Unit {0}
@@ -87,7 +87,7 @@ above num n [] p x i = absurd i
 above num n (y ∷ ys) p x (inl same) = let e : num x ≡ n + 1 = ap num (sym same) ∙ p.0 in omega (arith, e)
 above num n (y ∷ ys) p x (inr i) = let lt : n + 1 < num x = above num (n + 1) ys p.1 x i in omega (arith, lt)
 
--- what stands before another has another number
+-- elements before another have other numbers
 apart : {X : Type 0} (num : X → ℕ) (n : ℕ) (xs ys : List X) (x : X) → Places num n (xs ++ x ∷ ys) → (y : X) → In y xs → num y ≡ num x → ⊥
 apart num n [] ys x p y i e = absurd i
 apart num n (z ∷ zs) ys x p y (inl same) e = not_above (num y) (num x) (ap num (sym same) ∙ p.0) (above num (n + 1) (zs ++ x ∷ ys) p.1 x (In-after zs ys x)) e

@@ -1,4 +1,5 @@
--- Worked rows: the names of the fields; a trade in the book, and in a room with orders shown; and one of a party whose name holds a quote.
+-- Worked rows: the names of the fields; a trade in the book, and in a room with orders shown; and one of a party whose
+-- name holds a quote.
 use Rattle.std.proofs.Common.{◌≡◌, refl, pos, [], ◌∷◌, None, Some, codes}
 use Rattle.std.specs.Fmt.{digits}
 use Rattle.csv.specs.Writing.{escaped, fields_text, is_blank, row_text}

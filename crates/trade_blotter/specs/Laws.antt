@@ -1,4 +1,4 @@
--- What every day keeps, whatever its inputs are: the room of a trade that came about in one is found, so that it is told.
+-- Laws of every day, whatever its inputs: the room of a room trade is found, and so printed.
 use Rattle.std.specs.Prelude.{◌≡◌, ℕ, List, ◌++◌, Contains, map, None, Some}
 use Rattle.csv.specs.Writing.{row_text}
 use Rattle.venue_rules.specs.declared.facts.Fact.{Fact}
@@ -17,12 +17,12 @@ use Rattle.venue_rules.specs.Run.{Input, run}
 use Rattle.trade_blotter.specs.Line.{room_line, trade_line}
 use Rattle.trade_blotter.specs.Table.{deal_fields, place_fields, setup, trade_row}
 
--- a room and a quote in it, with what rested in its instrument after these facts
+-- a room and a quote in it, with the orders resting in its instrument after these facts
 abbrev pub with_first : Room → RoomQuote → List Fact → RoomFact
 with_first r q before = record { number = r.number; requester = r.requester; asked = r.recipients; first = q.number; shown = map shown_order (picture before r.instrument) }
 
--- A trade in a room is told with who was asked as the room was opened, the first quote that came in it, and the orders that rested just before
--- that quote (17 CFR 37.9(a)(3)).
+-- A room trade is printed with the recipients of the request, the first quote in the room, and the orders resting just
+-- before that quote (17 CFR 37.9(a)(3)).
 pub record EmitsRoom (m : Market) (h : History) (t : TradeFact) (room : ℕ) : Type 0 where
   pub opened : Room
   pub first : RoomQuote
@@ -35,6 +35,6 @@ pub record EmitsRoom (m : Market) (h : History) (t : TradeFact) (room : ℕ) : T
   pub line : trade_line m h t ≡ room_line m t room (Some (with_first opened first before))
   pub row : trade_row m h t ≡ row_text setup (deal_fields m t ++ place_fields m.participants (Some room) (Some (with_first opened first before)))
 
--- each trade of a day that came about in a room is told so
+-- each room trade of a day is printed so
 abbrev pub RoomTradesEmitRooms : Type 0
 RoomTradesEmitRooms = (m : Market) (is : List Input) (t : TradeFact) (room : ℕ) → Contains (trade_facts (run m is).history.facts) t → t.room ≡ Some room → EmitsRoom m (run m is).history t room

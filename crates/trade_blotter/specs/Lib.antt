@@ -1,6 +1,6 @@
--- the line of a trade, and its row, and what is written of a day
+-- the line of a trade, its row, and the output of a day
 pub mod Line
 pub mod Table
 pub mod Printing
--- what every day keeps
+-- laws of every day
 pub mod Laws

@@ -1,5 +1,6 @@
--- The line that tells a trade: its number, whether it came about in the book or in a room, what was traded, between whom; and of a
--- room who was asked, the first quote, and what rested in the book and was shown with it (17 CFR 37.9(a)(3)).
+-- The line of a trade: its number, whether it was made in the book or in a room, what was traded, between whom; and of
+-- a room the recipients, the first quote, and the orders resting in the book that were shown with it (17 CFR
+-- 37.9(a)(3)).
 use Rattle.std.specs.Prelude.{ℕ, List, [], ◌∷◌, ◌++◌, Option, Some, None, codes, decimal, drop, length, take, ◌-◌}
 use Rattle.std.specs.List.{flat_map}
 use Rattle.fix_fields.specs.Forms.{price_text}
@@ -22,11 +23,11 @@ abbrev pub listed : {A : Type 0} → (A → List ℕ) → List A → List ℕ
 listed text [] = codes "none"
 listed text (first ∷ others) = text first ++ each_listed text others
 
--- an order and what was left of it: O2x30
+-- an order and its leaves quantity: O2x30
 abbrev pub shown_text : ShownOrder → List ℕ
 shown_text o = codes "O" ++ (decimal o.order ++ (codes "x" ++ decimal o.left))
 
--- what stands between a tag of two digits and the byte that ends its field
+-- what is between a tag of two digits and the byte that ends its field
 abbrev pub value_in : List ℕ → List ℕ
 value_in field = take (length field - 4) (drop 3 field)
 
@@ -35,7 +36,7 @@ abbrev pub deal : Market → TradeFact → List ℕ
 deal m t = symbol_of m.instruments t.instrument ++ (codes " " ++ (decimal t.quantity ++ (codes " @ " ++ (price_text t.price
     ++ (codes " buyer " ++ (name_of m.participants t.buyer ++ (codes " seller " ++ name_of m.participants t.seller)))))))
 
--- who was asked, the first quote, and what was shown with it; every room in which there was a trade had a quote
+-- the recipients, the first quote, and the orders shown with it; every room with a trade had a quote
 abbrev pub room_text : ParticipantFile → Option RoomFact → List ℕ
 room_text file None = []
 room_text file (Some r) = codes " asked " ++ (listed (name_of file) r.asked ++ (codes " first Q" ++ (decimal r.first ++ (codes " shown " ++ listed shown_text r.shown))))

@@ -1,4 +1,4 @@
--- What is written of the trades of a day, one after another, and what stands there where memory is refused between two of them.
+-- The output of a day's trades, and what was written where an allocation fails between two of them.
 use Rattle.std.specs.Prelude.{◌⊎◌, ◌<◌, ◌++◌, ℕ, List, Option, length, take}
 use Rattle.std.specs.List.{flat_map}
 use Rattle.std.specs.Io.KnownBytes.{Appends, Keeps}
@@ -17,7 +17,7 @@ abbrev pub trade_text : Form → Market → History → TradeFact → List ℕ
 trade_text Line m h = trade_line m h
 trade_text Row m h = trade_row m h
 
--- the texts of the first of these things were written, not of all of them, and no other byte
+-- the texts of the first of these things were written, not of all, and no other byte
 abbrev pub AppendsSome : {A : Type 0} → Option (List ℕ) → Option (List ℕ) → (A → List ℕ) → List A → Type 0
 AppendsSome before after text things = (k : ℕ) × (k < length things) × Appends before after (flat_map text (take k things))
 

@@ -1,4 +1,5 @@
--- The table that tells trades to a spreadsheet: comma-separated values (RFC 4180), the names of the fields and then a row for each trade.
+-- The table of trades for a spreadsheet: comma-separated values (RFC 4180), the names of the fields and then a row for
+-- each trade.
 use Rattle.std.specs.Prelude.{ℕ, List, [], ◌∷◌, ◌++◌, Option, Some, None, codes, decimal}
 use Rattle.std.specs.List.{flat_map}
 use Rattle.csv.specs.Writing.{default_writer, row_text, with_terminator}
@@ -33,7 +34,7 @@ abbrev pub deal_fields : Market → TradeFact → List (List ℕ)
 deal_fields m t = (codes "T" ++ decimal t.number) ∷ kind t.room ∷ symbol_of m.instruments t.instrument ∷ decimal t.quantity ∷ price_text t.price
     ∷ name_of m.participants t.buyer ∷ name_of m.participants t.seller ∷ []
 
--- who was asked, the first quote, and what was shown with it; every room in which there was a trade had a quote
+-- the recipients, the first quote, and the orders shown with it; every room with a trade had a quote
 abbrev pub room_fields : ParticipantFile → Option RoomFact → List (List ℕ)
 room_fields file None = [] ∷ [] ∷ [] ∷ []
 room_fields file (Some r) = listed (name_of file) r.asked ∷ (codes "Q" ++ decimal r.first) ∷ listed shown_text r.shown ∷ []

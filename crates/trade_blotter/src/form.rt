@@ -1,6 +1,6 @@
-//! How a trade is told.
+//! The two forms of a printed trade.
 
-/// By a line, or by a row of a table.
+/// A line, or a row of a table.
 #[derive(Clone, Copy)]
 pub(crate) enum Form {
     Line,

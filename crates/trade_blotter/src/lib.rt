@@ -1,4 +1,4 @@
-//! The lines that tell the trades of a day, each with what its room was, for who looks whether it was made lawfully.
+//! The lines of a day's trades, each with what happened in its room, as evidence of lawful execution.
 #![tactic(auto)]
 
 mod form;

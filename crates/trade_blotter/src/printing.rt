@@ -1,4 +1,4 @@
-//! The trades of a venue's day, written as lines or as a table for a spreadsheet.
+//! A day's trades, written as lines or as a table for a spreadsheet.
 ghost use Rattle.std.specs.Prelude.{◌≡◌, IfErr, OnOk};
 ghost use Rattle.std.specs.List.{flat_map};
 ghost use Rattle.std.specs.Io.KnownBytes.{Appends, Keeps};
@@ -22,7 +22,7 @@ use venue_rules::TradeFact;
 /// Why not all was written.
 #[derive(Clone, Copy, Debug, PartialEq, Eq, Error)]
 pub enum PrintFault {
-    /// Memory was refused.
+    /// An allocation failed.
     #[error("memory")]
     Memory,
     /// A write failed.
@@ -36,7 +36,7 @@ impl From<AllocError> for PrintFault {
     }
 }
 
-/// Makes the text of a trade; the bytes of before go.
+/// Makes the text of a trade; earlier bytes are cleared.
 fn make_text(
     alloc: Global,
     venue: &Venue,
@@ -78,7 +78,7 @@ fn print_trade<W: Write>(
     write_text(text, writer)
 }
 
-/// Writes the texts of the day's trades, in their order.
+/// Writes the texts of the day's trades, in order.
 fn print_each<W: Write>(
     alloc: Global,
     venue: &Venue,
@@ -96,9 +96,10 @@ fn print_each<W: Write>(
     Ok(())
 }
 
-/// Writes a line for each trade of the day, in their order: `T1 book IRS5Y 60 @ 2.5 buyer ALPHA seller BETA`, and behind one that came
-/// about in a room what was asked of whom and shown: ` room R1 asked BETA,GAMMA,DELTA first Q1 shown O2x30`. Without a trade nothing
-/// is written. Where memory is refused the lines of the first trades stand there, each whole.
+/// Writes a line for each trade of the day, in order: `T1 book IRS5Y 60 @ 2.5 buyer ALPHA seller BETA`, and after a
+/// room trade its recipients, first quote and shown orders: ` room R1 asked BETA,GAMMA,DELTA first Q1 shown O2x30`.
+/// Without a trade nothing is written. Where an allocation fails, the lines of the first trades were written, each
+/// whole.
 pub fn print_trades<W: Write>(
     alloc: Global,
     venue: &Venue,
@@ -110,10 +111,10 @@ pub fn print_trades<W: Write>(
     print_each(alloc, venue, Form::Line, writer)
 }
 
-/// Writes the names of the fields, `trade,kind,instrument,quantity,price,buyer,seller,room,asked,first,shown`, and then a row for each
-/// trade of the day, in their order: `T1,book,IRS5Y,60,2.5,ALPHA,BETA,,,,`. Of one that came about in a room the last four fields tell
-/// what was asked of whom and shown: `R1,"BETA,GAMMA,DELTA",Q1,O2x30`. Each row ends in CR LF. Where memory is refused nothing stands
-/// there, or the names and the rows of the first trades, each whole.
+/// Writes the names of the fields, `trade,kind,instrument,quantity,price,buyer,seller,room,asked,first,shown`, and then
+/// a row for each trade of the day, in order: `T1,book,IRS5Y,60,2.5,ALPHA,BETA,,,,`. A room trade has its recipients,
+/// first quote and shown orders in the last four fields: `R1,"BETA,GAMMA,DELTA",Q1,O2x30`. Each row ends in CR LF.
+/// Where an allocation fails, nothing was written, or the names and the rows of the first trades, each whole.
 pub fn print_table<W: Write>(alloc: Global, venue: &Venue, writer: &mut W) -> Result<(), PrintFault>
     ensures emitted { (h : History) → IsHistory venue.now h → OnOk result (Appends (W.contents writer.old) (W.contents writer.new) (trade_table venue.now.market h)) }
     ensures begun { (h : History) → IsHistory venue.now h → IfErr result (λ fault. fault ≡ Memory → BeginsTable (W.contents writer.old) (W.contents writer.new) venue.now.market h) }

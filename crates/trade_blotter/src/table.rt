@@ -20,7 +20,7 @@ use std::alloc::{AllocError, Global};
 use venue_core::Venue;
 use venue_rules::{RoomFact, ShownOrder, TradeFact};
 
-/// Adds a field: a letter and a number.
+/// Adds a field: one character and a number.
 fn push_number(
     alloc: Global,
     row: &mut ByteRecord,
@@ -47,7 +47,7 @@ fn push_price(alloc: Global, row: &mut ByteRecord, price: Price) -> Result<(), A
     row.push_field(&text)
 }
 
-/// Whether a trade with this room came about in the book or in a room.
+/// The word for a trade in the book or in a room.
 fn kind_of(room: Option<u64>) -> &'static [u8]
     ensures { result.now ≡ kind room }
 {
@@ -57,7 +57,7 @@ fn kind_of(room: Option<u64>) -> &'static [u8]
     }
 }
 
-/// Adds the trade's number, of which kind it is, what was traded, and both parties.
+/// Adds the trade's number, its kind, what was traded, and both parties.
 fn push_deal(
     alloc: Global,
     row: &mut ByteRecord,
@@ -78,7 +78,7 @@ fn push_deal(
     row.push_field(name_at(participants, trade.seller))
 }
 
-/// Adds who was asked, with a comma between the names.
+/// Adds the recipients' names, with commas between them.
 fn push_asked(
     alloc: Global,
     row: &mut ByteRecord,
@@ -94,7 +94,7 @@ fn push_asked(
     row.push_field(&text)
 }
 
-/// Adds what was shown, with a comma between the orders.
+/// Adds the orders that were shown, with commas between them.
 fn push_shown(alloc: Global, row: &mut ByteRecord, shown: &[ShownOrder]) -> Result<(), AllocError>
     requires { partial_of row.old ≡ [] }
     ensures partial { OnOk result (partial_of row.new ≡ []) }
@@ -105,7 +105,7 @@ fn push_shown(alloc: Global, row: &mut ByteRecord, shown: &[ShownOrder]) -> Resu
     row.push_field(&text)
 }
 
-/// Adds who was asked in a room, its first quote, and what was shown with it.
+/// Adds a room's recipients, its first quote, and the orders shown with it.
 fn push_room(
     alloc: Global,
     row: &mut ByteRecord,
@@ -199,7 +199,7 @@ fn row_bytes(alloc: Global, row: &ByteRecord) -> Result<Vec<u8>, AllocError>
     let mut writer = WriterBuilder::new()
         .terminator(Terminator::CRLF)
         .from_writer(Vec::new(alloc));
-    // A write into memory is refused for want of it alone.
+    // A write into memory fails for lack of memory alone.
     if writer.write_byte_record(row).is_err() {
         return Err(AllocError);
     }
@@ -217,7 +217,7 @@ pub(crate) fn names_text(alloc: Global) -> Result<Vec<u8>, AllocError>
     row_bytes(alloc, &names)
 }
 
-/// Makes the row of a trade; the bytes of before go.
+/// Makes the row of a trade; earlier bytes are cleared.
 #[tactic(auto, unfolding(crate::specs::Table::trade_row))]
 pub(crate) fn make_row(
     alloc: Global,

@@ -11,7 +11,7 @@ use Rattle.venue_rules.specs.declared.trail.RoomFact.{RoomFact}
 use Rattle.trade_history.specs.ByNumber.{AreRising, put, with_number}
 use Rattle.trade_history.specs.Quoted.{found}
 
--- Rooms by their numbers.
+-- Rooms by number.
 
 is_less : (a b : ℕ) → nat_lt a b ≡ true → a < b
 is_less a b h = grind (arith, nat_tests)
@@ -32,7 +32,7 @@ apart a b h = by (a == b) refl
     by true e = absurd (h (eqb-true a b e))
     by false e = e
 
--- they rise
+-- numbers do not fall
 
 rises-put : (low : ℕ) (f : RoomFact) (rs : List RoomFact) → low ≤ f.number → AreRising low rs → AreRising low (put f rs)
 rises-put low f [] l r = (l, tt)
@@ -57,7 +57,7 @@ rises-far low (k ∷ ks) r zero (suc j) d h m = rises-least k.number ks j d r.1 
 rises-far low (k ∷ ks) r (suc i) zero d h m = absurd (omega (arith, h))
 rises-far low (k ∷ ks) r (suc i) (suc j) d h m = rises-far k.number ks r.1 i j d (omega (arith, h)) (omega (arith, m))
 
--- the place of one more
+-- the place of a further room
 
 pub put-is : (h : RoomFact) (ks : List RoomFact) (i : ℕ) → i ≤ length ks → IsPartitionPoint (λ (k : RoomFact). nat_le k.number h.number ≡ true) (λ (k : RoomFact). nat_le k.number h.number ≡ false) ks i → insert ks i h ≡ put h ks
 put-is h [] i l at = let none : i ≡ 0 = omega (arith, l) in ap (λ n. insert [] n h) none
@@ -66,7 +66,7 @@ put-is h (k ∷ ks) (suc i) l at =
     let soon : nat_le k.number h.number ≡ true = at.0 0 k (omega arith) (omega arith) in
     rw soon (ap (λ ls. k ∷ ls) (put-is h ks i (omega (arith, l)) ((λ n d a b. at.0 (suc n) d (omega arith) (omega (arith, b))), (λ n d a b. at.1 (suc n) d (omega (arith, a)) (omega (arith, b))))))
 
--- what is found once it is there
+-- searches after an insertion
 
 none-later : (n low : ℕ) (ks : List RoomFact) → AreRising low ks → n < low → found n ks ≡ None
 none-later n low [] r h = refl
@@ -95,7 +95,7 @@ found-put n f low (k ∷ ks) r = by (nat_le k.number f.number) (k.number == n) (
 pub found-one-more : (n : ℕ) (f : RoomFact) (ks rs : List RoomFact) → AreRising 0 ks → found n ks ≡ found n rs → found n (put f ks) ≡ found n (rs ++ f ∷ [])
 found-one-more n f ks rs r same = found-put n f 0 ks r ∙ ap (λ o. option_or o (found n (f ∷ []))) same ∙ sym (find-append (λ (x : RoomFact). x.number == n) rs (f ∷ []))
 
--- the place at which one is found, if it is there
+-- the place of a found room
 
 less-apart : (a b : ℕ) → a ≤ b → b == a ≡ false → a < b
 less-apart a b m e = by (nat_lt a b) refl
@@ -121,7 +121,7 @@ found-at n low (k ∷ ks) (suc i) r at =
     let soon = is_less k.number n (at.0 0 k (omega arith) (omega arith)) in
     rw (apart k.number n (λ e. absurd (omega (arith, e, soon)))) (found-at n k.number ks i r.1 ((λ m d a b. at.0 (suc m) d (omega arith) (omega (arith, b))), (λ m d a b. at.1 (suc m) d (omega (arith, a)) (omega (arith, b)))))
 
--- what is lent of a list at a place
+-- a reference to a place of a list
 
 pub got : {X : Type 0} (xs : List X) (i : ℕ) (r : Option (Bor X)) → IsItemAt xs i r → option_map (λ (x : Bor X). x.now) r ≡ slice_get xs i
 got xs i None h = sym (slice_get_past xs i h.3)

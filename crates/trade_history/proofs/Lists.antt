@@ -4,7 +4,7 @@ use Rattle.std.proofs.lemmas.Bool.{or_left, or_right}
 use Rattle.std.proofs.lemmas.List.{drop_more, take_more}
 use Rattle.std.proofs.lemmas.List.Sums.{take_while-cons}
 
--- an element that is read, before what is left and after what was read
+-- reading an element, between what was read and what is left
 pub drop-read : {X : Type 0} (xs : List X) (i : ℕ) (x : X) → i < length xs → x ≡ get_or xs i x → drop i xs ≡ x ∷ drop (i + 1) xs
 drop-read xs i x h e = drop_more xs i x h ∙ ap (λ y. y ∷ drop (i + 1) xs) (sym e)
 
@@ -14,7 +14,7 @@ take-read xs i x h e = take_more xs i x h ∙ ap (λ y. take i xs ++ y ∷ []) (
 pub same_some : {X : Type 0} (x y : X) → Some x ≡ Some y → x ≡ y
 same_some x y h = ap (λ o. elim o [ None ↦ x | Some z ↦ z ]) h
 
--- what holds of one of two
+-- a property of one of two
 pub either : {P : Type 0} (a b : Bool) → (a || b) ≡ true → (a ≡ true → P) → (b ≡ true → P) → P
 either true b h f g = f refl
 either false b h f g = g h
@@ -27,7 +27,7 @@ found-any p (x ∷ xs) = step p x xs (p x) (found-any p xs)
     step p x xs true k = refl
     step p x xs false k = k
 
--- what is found by one test may pass another
+-- an element found by one test may pass another
 pub found-also : {X : Type 0} (p t : X → Bool) (xs : List X) (x : X) → find p xs ≡ Some x → t x ≡ true → list_any t xs ≡ true
 found-also p t [] x h e = cc
 found-also p t (y ∷ ys) x h e = step p t y ys x (p y) h e (found-also p t ys x)
@@ -45,7 +45,7 @@ found-passes p (y ∷ ys) x h = step p y ys x (p y) refl h (found-passes p ys x)
     step p y ys x true e h k = ap p (sym (same_some y x h)) ∙ e
     step p y ys x false e h k = k h
 
--- what stands before the first that passes stays with more behind it
+-- the prefix before the first that passes stays with a longer list
 pub while-stays : {X : Type 0} (p : X → Bool) (xs ys : List X) → list_any p xs ≡ true → take_while (λ x. not (p x)) (xs ++ ys) ≡ take_while (λ x. not (p x)) xs
 while-stays p [] ys h = cc
 while-stays p (x ∷ xs) ys h =
@@ -57,7 +57,7 @@ while-stays p (x ∷ xs) ys h =
     step p x ms ns xs true h k = refl
     step p x ms ns xs false h k = ap (λ zs. x ∷ zs) (k h)
 
--- and is all that is there where none does
+-- and is the whole list where none passes
 pub while-all : {X : Type 0} (p : X → Bool) (xs : List X) (y : X) → list_any p xs ≡ false → p y ≡ true → take_while (λ x. not (p x)) (xs ++ y ∷ []) ≡ xs
 while-all p [] y h e = take_while-cons (λ x. not (p x)) y [] ∙ rw e refl
 while-all p (x ∷ xs) y h e =

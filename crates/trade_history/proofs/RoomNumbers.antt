@@ -16,7 +16,7 @@ use Rattle.rfq_room.specs.Steps.{IsAllowed, IsPlanOf, Step, Nothing, Opens, Quot
 use Rattle.trade_history.specs.Numbered.{AreNext, AreNumbered, IsNext}
 use Rattle.trade_history.proofs.Lists.{either, found-also, found-any}
 
--- Facts that follow others go on after them.
+-- Facts that follow others, appended.
 
 pub next-both : (before fs gs : List Fact) → AreNext before fs → AreNext (before ++ fs) gs → AreNext before (fs ++ gs)
 next-both before [] gs a b = subst (λ (hs : List Fact). AreNext hs gs) (append-nil before) b
@@ -30,13 +30,13 @@ pub next-rest : (before fs gs : List Fact) → AreNext before (fs ++ gs) → Are
 next-rest before [] gs a = subst (λ (hs : List Fact). AreNext hs gs) (sym (append-nil before)) a
 next-rest before (f ∷ fs) gs a = subst (λ (hs : List Fact). AreNext hs gs) (append_assoc before (f ∷ []) fs) (next-rest (before ++ f ∷ []) fs gs a.1)
 
--- What a step adds has the next numbers.
+-- The facts of a step have the next numbers.
 
 withdrawn-next : (before : List Fact) (qs : List RoomQuote) → AreNext before (map withdrawn qs)
 withdrawn-next before [] = tt
 withdrawn-next before (q ∷ qs) = (tt, withdrawn-next (before ++ withdrawn q ∷ []) qs)
 
--- a room that is found by its identifier is found by its number
+-- a room found by its identifier is found by its number
 by-number : (facts : List Fact) (id : List ℕ) (r : Room) (n : ℕ) → find_room facts id ≡ Some r → n ≡ r.number → is_some (room_by_number facts n) ≡ true
 by-number facts id r n h e = found-any (λ (x : Room). x.number == n) (rooms facts) ∙ found-also _ (λ (x : Room). x.number == n) (rooms facts) r h (eq-eqb r.number n (sym e))
 
@@ -51,7 +51,7 @@ step-next facts (Trades id q r trade) a = (tt, (tt, tt))
 pub plan-next : (rooms : Contents) (added : List Fact) → AreNumbered rooms.facts → IsPlanOf rooms added → AreNumbered (rooms.facts ++ added)
 plan-next rooms added a p = next-both [] rooms.facts added a (subst (AreNext rooms.facts) (sym p.made) (step-next rooms.facts p.step p.allowed))
 
--- A quote that is added comes alone.
+-- An added quote comes alone.
 
 quote-alone : (facts : List Fact) (s : Step) (q : RoomQuote) (more : List Fact) → Quoted q ∷ more ≡ facts_of facts s → more ≡ []
 quote-alone facts Nothing q more h = cc
@@ -68,7 +68,7 @@ quote-alone facts (Trades id q' r trade) q more h = cc
 pub plan-alone : (rooms : Contents) (q : RoomQuote) (more : List Fact) → IsPlanOf rooms (Quoted q ∷ more) → more ≡ []
 plan-alone rooms q more p = quote-alone rooms.facts p.step q more p.made
 
--- a quote that has the next number is in a room that was asked for
+-- a quote with the next number is in a room that was asked for
 quote-asked : (facts : List Fact) (q : RoomQuote) (more added : List Fact) → Quoted q ∷ more ≡ added → AreNext facts added → is_some (room_by_number facts q.room) ≡ true
 quote-asked facts q more added e a = let b : AreNext facts (Quoted q ∷ more) = subst (AreNext facts) (sym e) a in b.0.1
 
@@ -102,7 +102,7 @@ plan-first rooms f more p =
     ∙ ap (λ qs. quotes (f ∷ []) ++ qs) (ap (λ fs. quotes (rest_of fs)) p.made ∙ step-first rooms.facts p.step)
     ∙ append-nil (quotes (f ∷ []))
 
--- Where all is numbered, a room with a quote is there.
+-- With numbered facts, a room with a quote exists.
 
 abbrev HaveRooms : List Fact → Type 0
 HaveRooms facts = (n : ℕ) → list_any (λ (q : RoomQuote). q.room == n) (quotes facts) ≡ true → list_any (λ (r : Room). r.number == n) (rooms facts) ≡ true
@@ -120,7 +120,7 @@ last-room before (Asked r) n a h = cc
 last-room before (Withdrawn w) n a h = cc
 last-room before (Closed c) n a h = cc
 
--- one of the facts so far and one more
+-- one of the facts so far and a further one
 one-of : {X : Type 0} (kind : Fact → Option X) (p : X → Bool) (before : List Fact) (f : Fact) → list_any p (filter_map kind (before ++ f ∷ [])) ≡ (list_any p (filter_map kind before) || list_any p (filter_map kind (f ∷ [])))
 one-of kind p before f = ap (list_any p) (filter_map-append kind before (f ∷ [])) ∙ list_any-append p (filter_map kind before) (filter_map kind (f ∷ []))
 
@@ -137,7 +137,7 @@ rooms-kept before (f ∷ fs) h a = subst HaveRooms (append_assoc before (f ∷ [
 pub have-rooms : (facts : List Fact) → AreNumbered facts → HaveRooms facts
 have-rooms facts a = rooms-kept [] facts (λ n h. cc) a
 
--- And no quote's number is past their count, so that the next quote's is new.
+-- No quote's number exceeds their count, so the next quote's is new.
 
 abbrev AreCounted : List Fact → Type 0
 AreCounted facts = (n : ℕ) → list_any (λ (q : RoomQuote). q.number == n) (quotes facts) ≡ true → n ≤ length (quotes facts)

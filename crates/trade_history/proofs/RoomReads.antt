@@ -20,7 +20,7 @@ use Rattle.trade_history.specs.ReadOf.{IsReadOf, are_later}
 use Rattle.trade_history.proofs.Lists.{found-also, found-any, found-passes, while-all, while-stays}
 use Rattle.trade_history.proofs.RoomNumbers.{have-rooms, is-new, next-first}
 
--- The rooms and the quotes of a venue are those of its rooms' facts.
+-- The rooms and quotes of a venue are those of its rooms' facts.
 
 kept-room : {X : Type 0} (kind : Fact → Option X) → ((f : Fact) → is_room_fact f ≡ false → kind f ≡ None) → (fs : List Fact) → filter_map kind (room_facts fs) ≡ filter_map kind fs
 kept-room kind other [] = refl
@@ -58,14 +58,14 @@ rooms-room fs = kept-room room_in no-room fs
 quotes-room : (fs : List Fact) → quotes (room_facts fs) ≡ quotes fs
 quotes-room fs = kept-room quote_in no-quote fs
 
--- a room in which there is a quote is there
+-- a room with a quote exists
 has-room : (hs : List Fact) (n : ℕ) → AreNumbered (room_facts hs) → is_some (first_quote hs n) ≡ true → is_some (room_by_number hs n) ≡ true
 has-room hs n a h =
     found-any (λ (r : Room). r.number == n) (rooms hs)
     ∙ ap (list_any (λ (r : Room). r.number == n)) (sym (rooms-room hs))
     ∙ have-rooms (room_facts hs) a n (ap (list_any (λ (q : RoomQuote). q.room == n)) (quotes-room hs) ∙ sym (found-any (λ (q : RoomQuote). q.room == n) (quotes hs)) ∙ h)
 
--- With more facts the first quote of a room and the room stay.
+-- Further facts keep a room and its first quote.
 
 first-both : (hs added : List Fact) (n : ℕ) → first_quote (hs ++ added) n ≡ option_or (first_quote hs n) (first_quote added n)
 first-both hs added n = ap (find (λ (q : RoomQuote). q.room == n)) (filter_map-append quote_in hs added) ∙ find-append (λ (q : RoomQuote). q.room == n) (quotes hs) (quotes added)
@@ -73,7 +73,7 @@ first-both hs added n = ap (find (λ (q : RoomQuote). q.room == n)) (filter_map-
 room-both : (hs added : List Fact) (n : ℕ) → room_by_number (hs ++ added) n ≡ option_or (room_by_number hs n) (room_by_number added n)
 room-both hs added n = ap (find (λ (r : Room). r.number == n)) (filter_map-append room_in hs added) ∙ find-append (λ (r : Room). r.number == n) (rooms hs) (rooms added)
 
--- a quote of this number is among the facts
+-- a quote with this number is among the facts
 quoted-any : (k : ℕ) (fs : List Fact) → list_any (is_quote k) fs ≡ list_any (λ (q : RoomQuote). q.number == k) (quotes fs)
 quoted-any k [] = refl
 quoted-any k (Quoted q ∷ fs) = ap (λ b. (q.number == k) || b) (quoted-any k fs)
@@ -86,7 +86,7 @@ quoted-any k (Asked r ∷ fs) = quoted-any k fs
 quoted-any k (Withdrawn w ∷ fs) = quoted-any k fs
 quoted-any k (Closed c ∷ fs) = quoted-any k fs
 
--- so what stands before it stays too
+-- so what is before it stays too
 before-stays : (hs added : List Fact) (n : ℕ) (q : RoomQuote) → first_quote hs n ≡ Some q → before_quote (hs ++ added) q.number ≡ before_quote hs q.number
 before-stays hs added n q f = while-stays (is_quote q.number) hs added (quoted-any q.number hs ∙ found-also (λ (x : RoomQuote). x.room == n) (λ (x : RoomQuote). x.number == q.number) (quotes hs) q f (eq-eqb q.number q.number refl))
 
@@ -94,13 +94,13 @@ none-read : (facts : List Fact) (x : Option Room) → room_fact_of facts x None 
 none-read facts None = refl
 none-read facts (Some r) = refl
 
--- with its first quote a room is read with what stands before the quote
+-- a room with its first quote is read with what comes before the quote
 first-read : (hs added : List Fact) (n : ℕ) (r : Room) (q : RoomQuote) → room_by_number hs n ≡ Some r → first_quote (hs ++ added) n ≡ Some q → room_fact (hs ++ added) n ≡ Some (room_shown r q.number (picture (before_quote (hs ++ added) q.number) r.instrument))
 first-read hs added n r q e f =
     ap (λ o. room_fact_of (hs ++ added) o (first_quote (hs ++ added) n)) (room-both hs added n ∙ ap (λ o. option_or o (room_by_number added n)) e)
     ∙ ap (λ o. room_fact_of (hs ++ added) (Some r) o) f
 
--- A room is read as before where no first quote is added in it.
+-- A room's reading stays where no first quote is added in it.
 stays : (hs added : List Fact) (n : ℕ) (x : Option Room) (y : Option RoomQuote) → room_by_number hs n ≡ x → first_quote hs n ≡ y → (is_some y ≡ true → is_some x ≡ true) → (y ≡ None → first_quote added n ≡ None) → room_fact (hs ++ added) n ≡ room_fact_of hs x y
 stays hs added n x None e f g k =
     ap (room_fact_of (hs ++ added) (room_by_number (hs ++ added) n)) (first-both hs added n ∙ ap (λ o. option_or o (first_quote added n)) f ∙ k refl)
@@ -111,7 +111,7 @@ stays hs added n (Some r) (Some q) e f g k =
     first-read hs added n r q e (first-both hs added n ∙ ap (λ o. option_or o (first_quote added n)) f)
     ∙ ap (λ fs. Some (room_shown r q.number (picture fs r.instrument))) (before-stays hs added n q f)
 
--- quotes in rooms that have one are first in none that has none
+-- quotes in rooms that have one are first in none without one
 none-first : (us qs : List RoomQuote) (n : ℕ) → list_all (λ (q : RoomQuote). is_some (find (λ (x : RoomQuote). x.room == q.room) us)) qs ≡ true → find (λ (x : RoomQuote). x.room == n) us ≡ None → find (λ (x : RoomQuote). x.room == n) qs ≡ None
 none-first us [] n l e = refl
 none-first us (q ∷ qs) n l e =
@@ -134,7 +134,7 @@ option_or-none : {X : Type 0} (x : Option X) → option_or x None ≡ x
 option_or-none None = refl
 option_or-none (Some y) = refl
 
--- The room of a first quote is the one that is added.
+-- The room of a first quote is the added one.
 here : (rs : List RoomFact) (hs : List Fact) (r : Room) (q : RoomQuote) → list_any (λ (x : RoomQuote). x.number == q.number) (quotes hs) ≡ false → room_by_number hs q.room ≡ Some r → first_quote hs q.room ≡ None → IsReadOf rs hs → found q.room (rs ++ room_shown r q.number (picture hs r.instrument) ∷ []) ≡ room_fact (hs ++ Quoted q ∷ []) q.room
 here rs hs r q new e f h =
     let it : RoomFact = room_shown r q.number (picture hs r.instrument) in
@@ -144,7 +144,7 @@ here rs hs r q new e f h =
     ∙ ap (λ fs. Some (room_shown r q.number (picture fs r.instrument))) (sym (while-all (is_quote q.number) hs (Quoted q) (quoted-any q.number hs ∙ new) (eq-eqb q.number q.number refl)))
     ∙ sym (first-read hs (Quoted q ∷ []) q.room r q e (first-both hs (Quoted q ∷ []) q.room ∙ ap (λ o. option_or o (first_quote (Quoted q ∷ []) q.room)) f ∙ ap (λ b. cond b (Some q) None) (eq-eqb q.room q.room refl)))
 
--- Each other room is read as before.
+-- The readings of other rooms stay.
 elsewhere : (rs : List RoomFact) (hs : List Fact) (r : Room) (q : RoomQuote) (n : ℕ) → q.room == n ≡ false → AreNumbered (room_facts hs) → room_by_number hs q.room ≡ Some r → IsReadOf rs hs → found n (rs ++ room_shown r q.number (picture hs r.instrument) ∷ []) ≡ room_fact (hs ++ Quoted q ∷ []) n
 elsewhere rs hs r q n other a e h =
     let it : RoomFact = room_shown r q.number (picture hs r.instrument) in

@@ -19,7 +19,7 @@ pub read-both : (n : ℕ) (ts us : List Trade) → read_from n (ts ++ us) ≡ re
 read-both n [] us = ap (λ k. read_from k us) (omega arith)
 read-both n (t ∷ ts) us = ap (λ fs. trade_fact n t ∷ fs) (read-both (n + 1) ts us ∙ ap (λ k. read_from (n + 1) ts ++ read_from k us) (one_on n (length ts)))
 
--- the trades among more facts come after the earlier ones
+-- the trades among further facts come after the earlier ones
 pub trades-read : (fs gs : List Fact) → trade_facts (fs ++ gs) ≡ trade_facts fs ++ read_from (length (trade_facts fs) + 1) (trades gs)
 trades-read fs gs = ap (λ ts. read_from 1 ts) (filter_map-append trade_in fs gs) ∙ read-both 1 (trades fs) (trades gs) ∙ ap (λ k. trade_facts fs ++ read_from k (trades gs)) (turn (length (trades fs)) (length (trade_facts fs)) (read-length 1 (trades fs)))
   where
@@ -29,7 +29,7 @@ trades-read fs gs = ap (λ ts. read_from 1 ts) (filter_map-append trade_in fs gs
 pub trades-count : (fs : List Fact) → length (trade_facts fs) ≡ length (trades fs)
 trades-count fs = read-length 1 (trades fs)
 
--- trades that are added twice over are added at once
+-- adding trades in two parts or at once
 read-twice : (xs : List TradeFact) (ts us : List Trade) → (xs ++ read_from (length xs + 1) ts) ++ read_from (length (xs ++ read_from (length xs + 1) ts) + 1) us ≡ xs ++ read_from (length xs + 1) (ts ++ us)
 read-twice xs ts us =
     append_assoc xs (read_from (length xs + 1) ts) (read_from (length (xs ++ read_from (length xs + 1) ts) + 1) us)
@@ -39,7 +39,7 @@ read-twice xs ts us =
     place : (n k m l : ℕ) → m ≡ k → l ≡ n + m → l + 1 ≡ n + 1 + k
     place n k m l e h = omega arith
 
--- one fact is read
+-- reading one fact
 pub trades-rest : (fs : List Fact) (i : ℕ) (f : Fact) → i < length fs → f ≡ get_or fs i f → trades (drop i fs) ≡ trades (f ∷ []) ++ trades (drop (i + 1) fs)
 trades-rest fs i f h e = ap trades (drop-read fs i f h e) ∙ filter_map-append trade_in (f ∷ []) (drop (i + 1) fs)
 

@@ -5,14 +5,14 @@ use Rattle.trade_history.specs.declared.quoted.QuotedRooms.TheInside.{Inside}
 use Rattle.trade_history.specs.Quoted.{Quoted, found}
 use Rattle.trade_history.specs.GhostHistory.{rooms_in}
 
--- Rooms that are read back, by their numbers.
+-- Readings of rooms, by number.
 
--- one more, behind those of no greater number
+-- inserted behind those with no greater number
 abbrev pub put : RoomFact → List RoomFact → List RoomFact
 put f [] = f ∷ []
 put f (r ∷ rs) = if nat_le r.number f.number then r ∷ put f rs else f ∷ r ∷ rs
 
--- none has a lesser number than those before it
+-- numbers do not fall
 abbrev pub AreRising : ℕ → List RoomFact → Type 0
 AreRising low [] = ⊤
 AreRising low (r ∷ rs) = (low ≤ r.number) × AreRising r.number rs
@@ -25,7 +25,7 @@ with_number n (Some f) = if f.number == n then Some f else None
 abbrev pub quoted : Inside → Quoted
 quoted q = record { rooms = rooms_in q.past; room = vec_capacity q.read - vec_len q.read }
 
--- what is kept by number finds what the rooms in the order of their first quotes find
+-- a search by number finds what a search of the rooms by their first quotes finds
 pub record IsByNumber (q : Inside) : Type 0 where
   pub rising : AreRising 0 q.read.items
   pub same : (n : ℕ) → found n q.read.items ≡ found n (rooms_in q.past)

@@ -1,11 +1,11 @@
--- the trades of a day as they are read back
+-- readings of a day's trades
 pub mod Traded
--- the rooms of a day as they are read back
+-- readings of a day's rooms
 pub mod Quoted
--- which numbers facts of rooms have
+-- the numbers that facts of rooms have
 pub mod Numbered
 -- the rooms read off a history
 pub mod ReadOf
--- what is kept of the rooms, by their numbers
+-- the rooms as kept, by number
 pub mod GhostHistory
 pub mod ByNumber

@@ -4,12 +4,12 @@ use Rattle.venue_rules.specs.declared.replies.SnapshotEntry.{SnapshotEntry}
 use Rattle.venue_rules.specs.declared.trail.RoomFact.{RoomFact}
 use Rattle.venue_rules.specs.Readings.{shown_order}
 
--- the rooms of a day in which there was a quote, as they are read back, and for how many more there is room
+-- readings of a day's rooms with a quote, and spare capacity
 pub record Quoted : Type 0 where
   pub rooms : List RoomFact
   pub room : ℕ
 
--- the room of a number
+-- the room with a number
 abbrev pub found : ℕ → List RoomFact → Option RoomFact
 found number rooms = find (λ f. f.number == number) rooms
 

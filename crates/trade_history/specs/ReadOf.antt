@@ -7,10 +7,10 @@ use Rattle.venue_rules.specs.Readings.{room_fact}
 use Rattle.venue_rules.specs.Rooms.{first_quote}
 use Rattle.trade_history.specs.Quoted.{found}
 
--- each room is found among these as it is read back after these facts
+-- each room is found among these, as its reading after these facts
 abbrev pub IsReadOf : List RoomFact → List Fact → Type 0
 IsReadOf rooms facts = (number : ℕ) → found number rooms ≡ room_fact facts number
 
--- each quote that is added is in a room in which there was one before
+-- each added quote is in a room that had one before
 abbrev pub are_later : List Fact → List Fact → Bool
 are_later facts added = list_all (λ q. is_some (first_quote facts q.room)) (quotes added)

@@ -4,11 +4,11 @@ use Rattle.venue_rules.specs.declared.facts.Trade.{Trade}
 use Rattle.venue_rules.specs.declared.trail.TradeFact.{TradeFact}
 use Rattle.venue_rules.specs.Readings.{trade_fact}
 
--- the trades of a day as they are read back, in order, and for how many more there is room
+-- readings of a day's trades, in order, and spare capacity
 pub record Traded : Type 0 where
   pub trades : List TradeFact
   pub room : ℕ
 
--- trades as they are read back, the first with this number and each later one with the next
+-- readings of trades, numbered on from this number
 abbrev pub read_from : ℕ → List Trade → List TradeFact
 read_from number ts = map (λ p. trade_fact p.0 p.1) (enumerate_from number ts)

@@ -1,4 +1,4 @@
-//! The rooms that were added, in the order of their first quotes, for contracts alone: they take no room.
+//! The rooms added, by their first quotes, as ghost state without memory at run time.
 ghost use Rattle.std.specs.Prelude.{◌≡◌, [], ◌∷◌, ◌++◌};
 ghost use Rattle.trade_history.specs.GhostHistory.{rooms_in};
 
@@ -6,7 +6,7 @@ use std::mem;
 use std::snapshot::Snapshot;
 use venue_rules::RoomFact;
 
-/// A list of rooms that contracts see whole, and of which nothing is kept.
+/// A list of rooms for contracts; nothing of it is kept at run time.
 #[derive(Drop)]
 pub(crate) enum GhostHistory {
     Nothing,
@@ -23,7 +23,6 @@ impl GhostHistory {
         GhostHistory::Nothing
     }
 
-    /// A room more.
     pub(crate) fn add(&mut self, fact: &RoomFact)
         ensures { rooms_in self.new ≡ rooms_in self.old ++ fact.now ∷ [] }
     {

@@ -1,6 +1,6 @@
-//! What is read back of a day: its trades, and the rooms in which there was a quote (17 CFR 37.9(a)(3)).
+//! Readings of a day: its trades, and the rooms with a quote (17 CFR 37.9(a)(3)).
 //!
-//! Both are kept beside the book and the rooms, so that reading them takes no pass over the day's facts.
+//! Kept next to the book and the rooms, so that a reading takes no pass over the day's facts.
 #![tactic(auto)]
 
 mod ghost_history;

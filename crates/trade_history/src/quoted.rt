@@ -1,4 +1,4 @@
-//! The rooms of a day in which there was a quote, as they are read back.
+//! Readings of a day's rooms with a quote.
 ghost use Rattle.std.specs.Prelude.{◌≡◌, ◌≤◌, ◌<◌, [], ◌∷◌, ◌++◌, map, option_map, Some, IfOk, OnOk};
 ghost use Rattle.std.specs.Vec.{vec_capacity, vec_len};
 ghost use Rattle.venue_rules.specs.Readings.{shown_order};
@@ -10,13 +10,13 @@ use std::alloc::{AllocError, Global};
 use std::marker::Model;
 use venue_rules::{Recipients, Room, RoomFact, Shown, ShownOrder, SnapshotEntry};
 
-/// The rooms so far in which there was a quote, by their numbers; contracts see them in the order of their first quotes.
+/// The rooms with a quote so far, by number; contracts see them by their first quotes.
 pub struct QuotedRooms {
     past: GhostHistory,
     read: Vec<RoomFact>,
 }
 
-// Written out, so that a proof sees one call where it is dropped, and not the drop of each part.
+// Written-out drop (docs/ARCHITECTURE.md).
 impl Drop for QuotedRooms {
     fn drop(self) {
         let QuotedRooms {
@@ -48,7 +48,7 @@ fn with_number(room: &RoomFact, number: u64) -> Option<&RoomFact>
     }
 }
 
-// The first room with this number, of those that are in the order of their numbers.
+// The first room with this number; `rooms` is in order of the numbers.
 fn find(rooms: &[RoomFact], number: u64) -> Option<&RoomFact>
     requires { AreRising 0 rooms.now }
     ensures { option_map (λ f. f.now) result ≡ found number rooms.now }
@@ -60,7 +60,7 @@ fn find(rooms: &[RoomFact], number: u64) -> Option<&RoomFact>
     with_number(room, number)
 }
 
-// Puts a room, for which there is room, behind those of no greater number.
+// Inserts a room behind those with no greater number, within reserved capacity.
 fn put(read: &mut Vec<RoomFact>, fact: RoomFact)
     requires rising { AreRising 0 read.old.items }
     requires room { vec_len read.old < vec_capacity read.old }
@@ -72,7 +72,6 @@ fn put(read: &mut Vec<RoomFact>, fact: RoomFact)
 }
 
 impl QuotedRooms {
-    /// No rooms.
     pub fn new(alloc: Global) -> QuotedRooms
         ensures { result.rooms ≡ [] }
     {
@@ -82,14 +81,14 @@ impl QuotedRooms {
         }
     }
 
-    /// The room with this number, if there was a quote in it.
+    /// The room with this number, if it had a quote.
     pub fn find(&self, number: u64) -> Option<&RoomFact>
         ensures { option_map (λ f. f.now) result ≡ found number self.now.rooms }
     {
         find(&self.read, number)
     }
 
-    /// Makes room for one more. The rooms stay, also where memory is refused.
+    /// Reserves capacity for a further room. The rooms stay, also after an allocation failure.
     pub fn reserve(&mut self) -> Result<(), AllocError>
         ensures kept { self.new.rooms ≡ self.old.rooms }
         ensures room { OnOk result (1 ≤ self.new.room) }
@@ -97,7 +96,7 @@ impl QuotedRooms {
         self.read.reserve(1)
     }
 
-    /// Adds a room, for which there is room; takes no memory.
+    /// Adds a room, within reserved capacity.
     pub fn add(&mut self, fact: RoomFact)
         requires { 1 ≤ self.old.room }
         ensures { self.new.rooms ≡ self.old.rooms ++ fact ∷ [] }
@@ -107,7 +106,7 @@ impl QuotedRooms {
     }
 }
 
-// The orders of a picture, as they are read back.
+// Readings of a snapshot's orders.
 #[tactic(auto, using(crate::proofs::Finding::shown_mores))]
 fn shown_orders(alloc: Global, entries: &[SnapshotEntry]) -> Result<Vec<ShownOrder>, AllocError>
     ensures { IfOk result (λ v. v.items ≡ map shown_order entries.now) }
@@ -122,7 +121,7 @@ fn shown_orders(alloc: Global, entries: &[SnapshotEntry]) -> Result<Vec<ShownOrd
     Ok(orders)
 }
 
-/// A room with the number of its first quote, as they are read back; what rested in the book then was shown with it.
+/// Reading of a room, with the number of its first quote and the orders that rested in the book then.
 pub fn quoted_room(
     alloc: Global,
     room: &Room,

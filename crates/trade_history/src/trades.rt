@@ -1,4 +1,4 @@
-//! The trades of a day, as they are read back.
+//! Readings of a day's trades.
 ghost use Rattle.std.specs.Prelude.{◌≡◌, ◌≤◌, ◌+◌, [], ◌∷◌, ◌++◌, length, OnOk};
 ghost use Rattle.std.specs.Vec.{vec_capacity, vec_len};
 ghost use Rattle.venue_rules.specs.Facts.{trades};
@@ -9,12 +9,12 @@ use std::alloc::{AllocError, Global};
 use std::marker::Model;
 use venue_rules::{Fact, Trade, TradeFact, TradeSource};
 
-/// The trades so far, in order: each has its place, from 1, as its number.
+/// The trades so far, in order, numbered by their places from 1.
 pub struct Trades {
     read: Vec<TradeFact>,
 }
 
-// Written out, so that a proof sees one call where it is dropped, and not the drop of each part.
+// Written-out drop (docs/ARCHITECTURE.md).
 impl Drop for Trades {
     fn drop(self) {
         let Trades { read: _read } = self;
@@ -31,7 +31,7 @@ impl Model for Trades {
     ghost view = { λ t. record { trades = t.read.items; room = vec_capacity t.read - vec_len t.read } };
 }
 
-// The room of a trade, if it came about in one.
+// The room of a trade, if any.
 fn room_of(place: &TradeSource) -> Option<u64>
     ensures { result ≡ room_of place.now }
 {
@@ -55,7 +55,7 @@ fn trade_fact(number: u64, trade: &Trade) -> TradeFact
     }
 }
 
-// Appends the trade that a fact is, if it is one; there is room for it.
+// Appends the trade that a fact is, if any, within reserved capacity.
 fn append_trade(read: &mut Vec<TradeFact>, fact: &Fact)
     requires { vec_len read.old + length (trades (fact.now ∷ [])) ≤ vec_capacity read.old }
     ensures items { read.new.items ≡ read.old.items ++ read_from (length read.old.items + 1) (trades (fact.now ∷ [])) }
@@ -68,7 +68,7 @@ fn append_trade(read: &mut Vec<TradeFact>, fact: &Fact)
     }
 }
 
-// Appends the trades that facts are; there is room for them.
+// Appends the trades among facts, within reserved capacity.
 fn append_trades(read: &mut Vec<TradeFact>, facts: &[Fact])
     requires { vec_len read.old + length (trades facts.now) ≤ vec_capacity read.old }
     ensures { read.new.items ≡ read.old.items ++ read_from (length read.old.items + 1) (trades facts.now) }
@@ -79,7 +79,6 @@ fn append_trades(read: &mut Vec<TradeFact>, facts: &[Fact])
 }
 
 impl Trades {
-    /// No trades.
     pub fn new(alloc: Global) -> Trades
         ensures { result.trades ≡ [] }
     {
@@ -88,21 +87,19 @@ impl Trades {
         }
     }
 
-    /// The trades, in order.
     pub fn as_slice(&self) -> &[TradeFact]
         ensures { result.now ≡ self.now.trades }
     {
         &self.read
     }
 
-    /// How many there are.
     pub fn count(&self) -> u64
         ensures { result ≡ length self.now.trades }
     {
         self.read.len() as u64
     }
 
-    /// Makes room for so many more. The trades stay, also where memory is refused.
+    /// Reserves capacity for this many further trades. The trades stay, also after an allocation failure.
     pub fn reserve(&mut self, more: usize) -> Result<(), AllocError>
         ensures kept { self.new.trades ≡ self.old.trades }
         ensures room { OnOk result (more ≤ self.new.room) }
@@ -110,7 +107,7 @@ impl Trades {
         self.read.reserve(more)
     }
 
-    /// Adds the trades among these facts, for which there is room; takes no memory.
+    /// Adds the trades among these facts, within reserved capacity.
     pub fn add(&mut self, facts: &[Fact])
         requires { length (trades facts.now) ≤ self.old.room }
         ensures { self.new.trades ≡ self.old.trades ++ read_from (length self.old.trades + 1) (trades facts.now) }

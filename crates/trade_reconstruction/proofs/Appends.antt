@@ -1,4 +1,4 @@
--- Texts that are appended one after another.
+-- Texts appended one after another.
 use Rattle.std.proofs.Common.{◌≡◌, ◌++◌, ◌∙◌, [], ℕ, List, append-nil, append_assoc}
 
 -- two texts, and then three

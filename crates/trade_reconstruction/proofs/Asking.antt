@@ -1,4 +1,4 @@
--- The words of a day have the request of the room of each trade that came about in one, as the room was opened, and tell its recipients.
+-- The events of a day have the request of each room trade, as the room was opened, and state its recipients.
 use Rattle.std.proofs.Common.{◌≡◌, refl, sym, ap, subst, ◌∙◌, ◌⊎◌, inl, inr, ℕ, ◌+◌, ◌-◌, ◌<◌, ◌==◌, Bool, true, false, cond, List, [], ◌∷◌, ◌++◌, map, filter, filter_map, find, length, Option, Some, append-nil, eq-eqb, ne_eqb, arith}
 use Rattle.std.specs.List.{cons_option, flat_map}
 use Rattle.std.proofs.lemmas.List.Elements.{filter-append}
@@ -29,7 +29,7 @@ use Rattle.trade_reconstruction.proofs.Replies.{emitted_asked}
 use Rattle.trade_reconstruction.proofs.Days.{added, added_are, asked_at, day_asked, is_added, it, map_itself, map_map}
 use Rattle.trade_reconstruction.proofs.Orders.{PlacesLaw, happened, numbered_at, numbered_trade}
 
--- What a word that is found says.
+-- Content of an event that is found.
 
 abbrev heard : EvidenceEvent → Asked → HeardAsked
 heard w a = record { row = w.row; moment = w.moment; to = w.to; requester = a.requester; request = a.request; room = a.room; symbol = a.symbol; side = a.side; quantity = a.quantity }
@@ -58,7 +58,7 @@ asked_test n w (said.Filled x) = refl
 asked_test n w (said.RestedBefore x) = refl
 asked_test n w (said.RestedCount x) = refl
 
--- who is told to have been asked in a room
+-- the recipients in the events of a room
 
 abbrev heard_by : List HeardAsked → List ℕ
 heard_by ys = map (λ (y : HeardAsked). y.to) ys
@@ -166,7 +166,7 @@ one_of : (rs : List ℕ) → 0 < length rs → (to : ℕ) × (others : List ℕ)
 one_of [] many = absurd (omega (arith, many))
 one_of (to ∷ others) many = (to, others, refl)
 
--- the evidence for a trade in a room is the room's, whose request this is
+-- the evidence for a room trade is that of the room of this request
 room_evidence : (m : Market) (words : List EvidenceEvent) (t : TradeFact) (room : ℕ) (w : EvidenceEvent) (a : Asked) → t.room ≡ Some room → find (is_sought (Request room)) words ≡ Some w → w.said ≡ said.Asked a
     → evidence m words t ≡ (request_line m.participants w a ++ flat_map (room_word m.participants words a) words) ++ trade_line m t (trade_row words t)
 unfolding evidence

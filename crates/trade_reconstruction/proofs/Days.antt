@@ -1,4 +1,5 @@
--- The words of a day say which orders entered on it, which trades were made and which sides were held, each at its row.
+-- The events of a day state which orders entered on it, which trades were made and which sides were held, each at its
+-- row.
 use Rattle.std.proofs.Common.{◌≡◌, refl, sym, ap, subst, ◌∙◌, ◌⊎◌, inl, inr, ℕ, suc, ◌+◌, List, [], ◌∷◌, ◌++◌, map, filter_map, length, slice_get, Option, Some, append-nil, append_assoc, length-append, arith}
 use Rattle.std.specs.List.{flat_map}
 use Rattle.std.proofs.lemmas.List.{map-append, length-map}
@@ -24,7 +25,7 @@ use Rattle.trade_reconstruction.proofs.Members.{In, In-append_cases, In-map}
 use Rattle.trade_reconstruction.proofs.Says.{HeardAsked, HeardEntry, HeardFill, HeardHit, HeardHold, IsDeaf, asking-deaf, asking_in, askings_say, entries_say, entry-deaf, entry_in, fill-deaf, fill_in, fills_say, hits_say, hold-deaf, hold_in, holds_say, stood_silent, traded-deaf, traded_in}
 use Rattle.trade_reconstruction.proofs.Replies.{asked_emitted, at_row, fills_emitted, here, hits_of, hits_emitted, input-Says, is_tick_input, pair_emitted, emitted_entry, emitted_hold}
 
--- what facts of a kind the answers of a day added, each with its row and input
+-- the facts of a kind that the answers of a day added, each with its row and input
 abbrev pub added : {X : Type 0} → (Fact → Option X) → Market → History → List TrailRow → List Input → List (TrailRow × Input × X)
 added pick m h [] is = []
 added pick m h (r ∷ rs) [] = []
@@ -77,7 +78,7 @@ is_added {X} pick m h (r ∷ rs) (j ∷ js) emitted p i =
         subst (IsAdded pick m h (r ∷ rs) (j ∷ js)) k.2 (record { earlier = []; later = js; taken = refl; emitted = refl; emits = emitted.0; made = k.1 })
     by r j rs js emitted rest (inr behind) = let k = rest behind in record { earlier = j ∷ k.earlier; later = k.later; taken = ap (λ (l : List Input). j ∷ l) k.taken; emitted = k.emitted; emits = k.emits; made = k.made }
 
--- What the words of a day say, by what they say at each row.
+-- The events of a day, by those of each row.
 
 pub day_says : {Y : Type 0} (pick : EvidenceEvent → Option Y) (out : History → List TrailRow → List Input → List Y) (m : Market) (number : ℕ) → ((h : History) → out h [] [] ≡ [])
     → ((h : History) (words : List EvidenceEvent) (r : TrailRow) (i : Input) (rs : List TrailRow) (is : List Input) → Emits r i → filter_map pick (words_at m h number words r i) ++ out (after h (answer_input m h i)) rs is ≡ out h (r ∷ rs) (i ∷ is))
@@ -93,7 +94,7 @@ day_says pick out m number end step h words (r ∷ rs) (i ∷ is) emitted =
     ∙ (append_assoc (filter_map pick words) (filter_map pick new) (out next rs is)
     ∙ ap (λ l. filter_map pick words ++ l) (step h words r i rs is emitted.0)))
 
--- at a row what rested is said first, of which nothing is picked
+-- what rested comes first at a row, and nothing is picked of it
 row_says : {Y : Type 0} (pick : EvidenceEvent → Option Y) → IsDeaf pick → (m : Market) (h : History) (number : ℕ) (words : List EvidenceEvent) (r : TrailRow) (i : Input)
     → filter_map pick (words_at m h number words r i) ≡ filter_map pick (words_of r.n r.moment (came_of m words r.n i) (answer_input m h i).replies)
 row_says pick deaf m h number words r i =
@@ -214,7 +215,7 @@ holds_step m number h words r i rs is emits =
 pub day_holds : (m : Market) (number : ℕ) (h : History) (rs : List TrailRow) (is : List Input) → AreEmitted rs is → filter_map hold_in (words_from m h number [] rs is) ≡ map hold_at (added held_in_fact m h rs is)
 day_holds m number h rs is emitted = day_says hold_in (λ k xs ys. map hold_at (added held_in_fact m k xs ys)) m number (λ k. refl) (holds_step m number) h [] rs is emitted
 
--- who was asked
+-- recipients
 
 abbrev pub asked_at : Market → TrailRow × Input × Room → List HeardAsked
 asked_at m p = asked_emitted m p.0.n p.0.moment p.2

@@ -1,4 +1,4 @@
--- What is told of a trade.
+-- The evidence for a trade.
 use Rattle.std.proofs.Common.{◌≡◌, ℕ, List, Option, Some, None, Result, Ok, Err, refl, sym, subst, ◌∙◌}
 use Rattle.std.specs.Bool.{⊤}
 use Rattle.std.specs.Result.{IfErr, IsErrAnd}
@@ -18,7 +18,7 @@ use Rattle.trade_reconstruction.specs.Laws.{BookTradesHaveOrders, RoomTradesHave
 use Rattle.trade_reconstruction.specs.Lines.{evidence}
 use Rattle.trade_reconstruction.specs.Emitted.{AreOf, HasNoTrade, IsEvidence, IsHeard, EmitsTrade, UnlessWriting, trade_numbered}
 
--- what rows of inputs tell is these inputs
+-- rows of inputs record these inputs
 abbrev pub EmitTheirInputs : Type 0
 EmitTheirInputs = (rs : List TrailRow) (is emitted : List Input) → rs ≡ rows is → AreFitting is → AreEmitted rs emitted → emitted ≡ is
 
@@ -70,7 +70,7 @@ IsNoTrade Output = ⊥
 IsNoTrade Memory = ⊥
 IsNoTrade NoTrade = ⊤
 
--- a want of memory, or a write that failed, refuses no trade
+-- neither an allocation failure nor a failed write refuses a trade
 pub memory_alone : {A : Type 0} (r : Result A EvidenceFault) (P : Type 0) → IsErrAnd r (λ fault. fault ≡ Memory) → IfErr r (λ fault. fault ≡ NoTrade → P)
 memory_alone (Ok x) P h = tt
 memory_alone (Err fault) P h = λ e. absurd (subst IsNoTrade (sym e ∙ h) tt)

@@ -1,4 +1,5 @@
--- A participant's held sides have identifiers of their own, so that the one that enters at a tick is found by its identifier.
+-- A participant's held sides have identifiers of their own, so that the one that enters at a tick is found by its
+-- identifier.
 use Rattle.std.proofs.Common.{◌≡◌, refl, sym, ap, subst, ◌∙◌, ◌⊎◌, inl, inr, ℕ, ◌==◌, Bool, true, false, ◌&&◌, ◌||◌, nat_lt, nat_le, not, if◌then◌else◌, List, [], ◌∷◌, ◌++◌, filter, find, Option, Some, None, append-nil, append_assoc, eq-eqb, eqb-true}
 use Rattle.std.specs.Prelude.{bytes_eq}
 use Rattle.std.specs.List.{list_any}
@@ -29,7 +30,7 @@ has_name who id k = k.order.who == who && bytes_eq k.order.id id
 abbrev pub same_name : HeldSide → HeldSide → Bool
 same_name k x = has_name k.order.who k.order.id x
 
--- each held side is the first of its name
+-- each held side is the first with its identifier
 abbrev pub HoldsApart : List HeldSide → Type 0
 HoldsApart ks = (k : HeldSide) → In k ks → find (same_name k) ks ≡ Some k
 
@@ -57,7 +58,7 @@ held_fact (fact.Quoted x) k e = absurd (none_is_some k e)
 held_fact (fact.Withdrawn x) k e = absurd (none_is_some k e)
 held_fact (fact.Closed x) k e = absurd (none_is_some k e)
 
--- a name that was not used is no held side's
+-- an identifier that was not used is no held side's
 pub unused_apart : (facts : List Fact) (who : ℕ) (id : List ℕ) → is_order_id_used facts who id ≡ false → (x : HeldSide) → In x (held_sides facts) → has_name who id x ≡ false
 unused_apart facts who id unused x i = false_from_ne_true (has_name who id x) (λ t.
     let there = picked_from held_in_fact facts x i in
@@ -89,7 +90,7 @@ day_apart m h (r ∷ rs) (i ∷ is) emitted apart =
     day_apart m (after h a) rs is emitted.1
     (subst HoldsApart (sym (filter_map-append held_in_fact h.facts a.facts)) (apart_after h.facts (held_sides a.facts) apart (input-Says m h [] r i emitted.0).1.1.1.1.0))
 
--- what is held stays known
+-- known held sides stay known
 pub run_grows : (m : Market) (h : History) (is js : List Input) → (more : List Fact) × ((run_from m h (is ++ js)).history.facts ≡ (run_from m h is).history.facts ++ more)
 run_grows m h [] [] = ([], sym (append-nil h.facts))
 run_grows m h [] (j ∷ js) = let a = answer_input m h j in let k = run_grows m (after h a) [] js in (a.facts ++ k.0, k.1 ∙ append_assoc h.facts a.facts k.0)

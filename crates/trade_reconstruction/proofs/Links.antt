@@ -103,7 +103,7 @@ linking_what c to _ = None
 abbrev linking_by : Trigger → Reply → Option HeardLink
 linking_by c r = linking_what c r.to r.what
 
--- What the words of a reply say of links is what the reply says.
+-- The events of a reply state its links.
 
 asked_linking : (n t : ℕ) (c : Trigger) (to : ℕ) (r : RequestSent) → filter_map linking_in (said_by n t to (asked_in c r) ++ []) ≡ []
 asked_linking n t (trigger.Request x) to r = refl
@@ -180,14 +180,14 @@ emitted_link e = record { order = e.number; to = e.order.who; id = e.order.id; l
 abbrev entry_named : ℕ → List ℕ → Entry → Bool
 entry_named who id e = e.order.who == who && bytes_eq e.order.id id
 
--- under a name that was not used, or that of a held side, which is held no longer
+-- under an identifier that was not used, or that of a held side, which is held no longer
 abbrev Anew : List Fact → List Fact → Entry → Type 0
 Anew before new e = (is_order_id_used before e.order.who e.order.id ≡ false) ⊎ ((k : HeldSide) × In k (held before) × (e.order ≡ k.order) × In (Unheld (record { who = k.order.who; id = k.order.id; cancel = None })) new)
 
 abbrev EntersAnew : List Fact → List Fact → Type 0
 EntersAnew before new = (entries new ≡ []) ⊎ ((e : Entry) × (entries new ≡ e ∷ []) × Anew before new e)
 
--- held sides carry no link, and have not the name of what enters
+-- held sides carry no link, and have another identifier than the entering order
 abbrev AreBare : List Entry → List HeldSide → Type 0
 AreBare es [] = Unit {0}
 AreBare es (k ∷ ks) = ((k.order.link ≡ None) × ((e : Entry) → In e es → entry_named k.order.who k.order.id e ≡ false)) × AreBare es ks
@@ -378,7 +378,7 @@ response_turns c m h s d t = first_turns (Turns c h) (kind_refusals s d) _ ((ref
 market_data_turns : (c : Trigger) (m : Market) (h : History) (s : Sender) (d : MarketDataMessage) → Turns c h (answer_market_data m h s d)
 market_data_turns c m h s d = first_turns (Turns c h) (market_data_refusals m s d) (market_data m h s d) ((refl, (inl refl, tt)), ((refl, (inl refl, tt)), ((refl, (inl refl, tt)), tt))) (λ n. (refl, (inl refl, tt)))
 
--- what was said before has the links of the orders that rest
+-- the events before have the links of the resting orders
 abbrev Known : List EvidenceEvent → History → Type 0
 Known words h = (who : ℕ) (id : List ℕ) (r : Resting) → named h who id ≡ IsResting r → link_id (link_known words who id) ≡ r.entry.order.link
 
@@ -416,7 +416,7 @@ input_turns m h words n (Message taken t) known bare = app_turns m h words n (re
 input_turns m h words n (Tick t) known bare =
     due_or_none m h (due h.facts t) (λ k e. let there = due_in_held h.facts t k e in (there, bare k (In-filter (λ (x : HeldSide). not (list_any (releases x) h.facts)) (held_sides h.facts) k there)))
 
--- What every day keeps of names.
+-- Identifiers over every day.
 
 pub record Kept (fs : List Fact) : Type 0 where
   pub names : (e : Entry) → In e (entries fs) → find (entry_named e.order.who e.order.id) (entries fs) ≡ Some e
@@ -437,7 +437,7 @@ entered_fact (fact.Quoted x) e h = absurd (none_is_some e h)
 entered_fact (fact.Withdrawn x) e h = absurd (none_is_some e h)
 entered_fact (fact.Closed x) e h = absurd (none_is_some e h)
 
--- two names are the same both ways
+-- two identifiers are equal both ways
 same_both : (a b : ℕ) (x y : List ℕ) → (a == b && bytes_eq x y) ≡ true → (b == a && bytes_eq y x) ≡ true
 same_both a b x y t = let p = and_parts (a == b) (bytes_eq x y) t in and_true (b == a) (bytes_eq y x) (eq-eqb b a (sym (eqb-true a b p.0))) ((bytes_eq-Decides y x).1 (sym ((bytes_eq-Decides x y).0 p.1)))
 
@@ -489,7 +489,7 @@ not_true : (b : Bool) → not b ≡ true → b ≡ false
 not_true true e = absurd (true≢false (sym e))
 not_true false e = refl
 
--- what stays held has not the name of what enters
+-- what stays held has another identifier than the entering order
 held_apart : (before new : List Fact) (k : HeldSide) → In k (held_sides before) → list_any (releases k) new ≡ false → (e : Entry) → Anew before new e → entry_named k.order.who k.order.id e ≡ false
 held_apart before new k i stays e (inl unused) = false_from_ne_true (entry_named k.order.who k.order.id e) (λ t. true≢false (sym (same_both e.order.who k.order.who e.order.id k.order.id t) ∙ unused_apart before e.order.who e.order.id unused k i))
 held_apart before new k i stays e (inr side) = false_from_ne_true (entry_named k.order.who k.order.id e) (λ t.

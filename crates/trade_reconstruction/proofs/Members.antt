@@ -1,4 +1,4 @@
--- Members of lists, what is found in them, and things that are numbered by their places.
+-- Members of lists, what is found in them, and things numbered by their places.
 use Rattle.std.proofs.Common.{◌≡◌, refl, sym, ap, subst, ◌∙◌, ◌⊎◌, inl, inr, ℕ, zero, suc, ◌+◌, ◌<◌, ◌==◌, Bool, true, false, cond, List, [], ◌∷◌, ◌++◌, map, length, filter, filter_map, find, slice_get, slice_index_or, Contains, Option, Some, None, eq-eqb, ne_eqb, arith}
 use Rattle.std.specs.List.{cons_option}
 
@@ -8,7 +8,7 @@ none_is_some a e = cc
 pub same_some : {A : Type 0} (a b : A) → Some a ≡ Some b → a ≡ b
 same_some a b e = cc
 
--- x stands in the list
+-- x is in the list
 abbrev pub In : {X : Type 0} → X → List X → Type 0
 In x [] = ⊥
 In x (y ∷ ys) = (y ≡ x) ⊎ In x ys
@@ -135,13 +135,13 @@ found_at : {X Y : Type 0} (h : X → Option Y) (p : Y → Bool) (q : X → Bool)
 found_at h p q same z zs y None is rest k = let r = rest k in (r.0, found_later q z zs (same z ∙ ap (picked_passes p) is) ∙ r.1, r.2)
 found_at h p q same z zs y (Some w) is rest k = found_there h p q same z zs y w (p w) is refl rest k
 
--- where a test of things is one of what is picked of them, the first that passes is found by what is picked
+-- where a test of things is a test of what is picked of them, the first that passes is found by what is picked
 pub found_picked : {X Y : Type 0} (h : X → Option Y) (p : Y → Bool) (q : X → Bool) → ((x : X) → q x ≡ picked_passes p (h x)) → (xs : List X) (y : Y) → find p (filter_map h xs) ≡ Some y
     → (x : X) × (find q xs ≡ Some x) × (h x ≡ Some y)
 found_picked h p q same [] y e = absurd (none_is_some y e)
 found_picked h p q same (z ∷ zs) y e = found_at h p q same z zs y (h z) refl (found_picked h p q same zs y) e
 
--- what stands at a place
+-- the element at a place
 
 pub slice_unmap : {X Y : Type 0} (f : X → Y) (xs : List X) (k : ℕ) (y : Y) → slice_get (map f xs) k ≡ Some y → (x : X) × (slice_get xs k ≡ Some x) × (f x ≡ y)
 slice_unmap f [] k y e = absurd (none_is_some y e)
@@ -175,7 +175,7 @@ slice_within [] k x e = absurd (none_is_some x e)
 slice_within (z ∷ zs) zero x e = omega arith
 slice_within (z ∷ zs) (suc k) x e = let h = slice_within zs k x e in omega (arith, h)
 
--- Things that are numbered by their places, from n + 1 on.
+-- Things numbered by their places, from n + 1 on.
 
 abbrev pub Places : {X : Type 0} → (X → ℕ) → ℕ → List X → Type 0
 Places num n [] = Unit {0}

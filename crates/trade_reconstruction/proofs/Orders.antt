@@ -1,4 +1,4 @@
--- The words of a day have both orders of each trade in the book, and its lines are theirs.
+-- The events of a day have both orders of each trade in the book, and its lines are theirs.
 use Rattle.std.proofs.Common.{◌≡◌, refl, sym, ap, subst, ◌∙◌, ℕ, zero, suc, ◌+◌, ◌-◌, min, ◌==◌, ◌⊎◌, inl, inr, Bool, true, false, not, ◌&&◌, nat_lt, if◌then◌else◌, List, [], ◌∷◌, ◌++◌, map, filter_map, find, slice_get, Option, Some, None, eq-eqb, ne_eqb, arith}
 use Rattle.std.specs.Prelude.{bytes_eq}
 use Rattle.std.specs.List.{enumerate_from, flat_map}
@@ -117,7 +117,7 @@ traded_fact (fact.Quoted y) x h = absurd (none_is_some x h)
 traded_fact (fact.Withdrawn y) x h = absurd (none_is_some x h)
 traded_fact (fact.Closed y) x h = absurd (none_is_some x h)
 
--- What a word that is found says.
+-- Content of an event that is found.
 
 abbrev heard : EvidenceEvent → Entered → HeardEntry
 heard w e = record { row = w.row; moment = w.moment; to = w.to; order = e.order; id = e.id; symbol = e.symbol; side = e.side; quantity = e.quantity; price = e.price; original = e.original; at_tick = e.at_tick }
@@ -158,7 +158,7 @@ held_in w (said.Filled x) y h = absurd (none_is_some y h)
 held_in w (said.RestedBefore x) y h = absurd (none_is_some y h)
 held_in w (said.RestedCount x) y h = absurd (none_is_some y h)
 
--- Which words are sought is told by what is picked of them.
+-- A search for an event is a search of what is picked.
 
 order_test : (n : ℕ) (w : EvidenceEvent) (s : EventKind) → enters_said n s ≡ picked_passes (λ y. y.order == n) (entry_of_said w s)
 order_test n w (said.Entered e) = refl
@@ -208,7 +208,7 @@ hold_test who id w (said.Filled x) = refl
 hold_test who id w (said.RestedBefore x) = refl
 hold_test who id w (said.RestedCount x) = refl
 
--- A held side's word is found by its name.
+-- A held side's event is found by its identifier.
 
 hold_found : (m : Market) (number : ℕ) (rs : List TrailRow) (is : List Input) → AreEmitted rs is → (k : HeldSide) → In k (held_sides (run m is).history.facts)
     → (w : EvidenceEvent) × (find (is_sought (SideHeld k.order.who k.order.id)) (words_emitted m number rs is) ≡ Some w) × (held_until w ≡ min k.due greatest)
@@ -227,7 +227,7 @@ at_its_price : (i : Input) (e : Entry) → price_at (is_tick_input i) e.order.pr
 at_its_price (Message taken t) e = refl
 at_its_price (Tick t) e = refl
 
--- the words of the day tell when it entered
+-- the events of the day state when it entered
 entered_when : (m : Market) (number : ℕ) (rs : List TrailRow) (is : List Input) → AreEmitted rs is → (r : TrailRow) (i : Input) (e : Entry) → IsAdded entry_in_fact m no_history rs is (r, i, e) → (w : EvidenceEvent) (x : Entered)
     → w.to ≡ e.order.who → x.id ≡ e.order.id → w.moment ≡ moment_at (is_tick_input i) r.moment e.moment → x.at_tick ≡ is_tick_input i → entry_moment (words_emitted m number rs is) w x ≡ moment_emitted i e
 entered_when m number rs is emitted r (Message taken t) e at w x whose id moment tick =
@@ -297,7 +297,7 @@ entry_found m number rs is emitted places p i =
 
 -- The fills of a trade are found by its number: first the entering order's, then the other's.
 
--- what is found among the two fills of a trade with a number, and passes over those of others
+-- what is found among the two fills of a trade with a number, past those of others
 pub record FindsPair (test : HeardFill → Bool) (number old new found : ℕ) : Type 0 where
   pub over : (r o n : ℕ) → (n == number) ≡ false → test (record { row = r; order = o; trade = n }) ≡ false
   pub here : (r : ℕ) (rest : List HeardFill) → find test (record { row = r; order = new; trade = number } ∷ record { row = r; order = old; trade = number } ∷ rest) ≡ Some (record { row = r; order = found; trade = number })
@@ -359,7 +359,7 @@ finds_resting number old new apart = record {
 abbrev paired_with : TrailRow × Input × Trade → Entry → TrailRow × Input × Entry
 paired_with q e = (q.0, q.1, e)
 
--- a trade in the book is told at the row of the order that entered
+-- a trade in the book is reported at the row of the entering order
 with_entry : (m : Market) (h : History) (rs : List TrailRow) (is : List Input) → AreEmitted rs is → (q : TrailRow × Input × Trade) (old new : ℕ) → In q (added trade_in_fact m h rs is) → q.2.place ≡ InBook old new
     → (e : Entry) × In (paired_with q e) (added entry_in_fact m h rs is) × (e.number ≡ new)
 with_entry m h [] is emitted q old new i at = absurd i
@@ -541,7 +541,7 @@ book_trades_have_orders best numbers m rs is number t emitted numbered placed =
     from_zero : (k : ℕ) → k + 1 ≡ 0 + k + 1
     from_zero k = omega arith
 
--- Each trade is told at the row at which it was made: in the book by the fills, in a room by the hit.
+-- Each trade is reported at the row at which it was made: in the book by the fills, in a room by the hit.
 
 hit_row : (w : EvidenceEvent) (s : EventKind) (y : HeardHit) → trade_of_said w s ≡ Some y → w.row ≡ y.row
 hit_row w (said.Hit x) y h = ap (λ (o : HeardHit). o.row) (same_some _ y h)
@@ -596,7 +596,7 @@ hit_found number room quote n (suc k) (x ∷ xs) p e at is =
     next : (a b c : ℕ) → a ≡ b + suc c → a ≡ b + 1 + c
     next a b c h = omega (arith, h)
 
--- the row of the first word of a trade, by where it was made
+-- the row of the first event of a trade, by where it was made
 row_found : (m : Market) (number : ℕ) (rs : List TrailRow) (is : List Input) → AreEmitted rs is → number ≡ 1 + (number - 1) → (q : TrailRow × Input × Trade) → slice_get (added trade_in_fact m no_history rs is) (number - 1) ≡ Some q
     → (place : TradeSource) → q.2.place ≡ place → row_in (words_emitted m number rs is) number (room_of place) ≡ q.0.n
 row_found m number rs is emitted from q e (InBook old new) at =

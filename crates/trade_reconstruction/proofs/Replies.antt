@@ -1,4 +1,5 @@
--- The replies to each message, and to a tick, say which orders enter by it, what trades are made, and which side is held.
+-- The replies to each message, and to a tick, state which orders enter by it, what trades are made, and which side is
+-- held.
 use Rattle.std.proofs.Common.{◌≡◌, refl, sym, ap, subst, ◌∙◌, ◌⊎◌, inl, inr, ℕ, ℤ, ◌+◌, ◌==◌, Bool, true, false, not, ◌&&◌, ◌||◌, nat_lt, if◌then◌else◌, List, [], ◌∷◌, ◌++◌, map, filter_map, flat_map, Option, Some, None, is_none, append-nil, arith, pos, eqb-true}
 use Rattle.std.specs.Prelude.{bytes_eq, filter, sum_by, unwrap_or}
 use Rattle.std.specs.List.{cons_option, enumerate_from}
@@ -64,7 +65,7 @@ use Rattle.trade_reconstruction.specs.Emitted.{came_of}
 use Rattle.trade_reconstruction.proofs.Members.{In, In-append_left, In-append_right, In-filter, In-map, found_passes}
 use Rattle.trade_reconstruction.proofs.Says.{HeardAsked, HeardEntry, HeardFill, HeardHit, HeardHold, asking_by, entry_by, fill_by, hit_by, hold_by, hold_from}
 
--- What is to be heard of facts.
+-- What facts are to be reported as.
 
 -- a message's order enters at its moment and has its price; a held side enters at a tick
 abbrev pub price_at : Bool → ℤ → Option ℤ
@@ -81,7 +82,7 @@ heard_with m n e moment price original tick = record { row = n; moment = moment;
 abbrev pub emitted_entry : Market → ℕ → ℕ → Bool → Option (List ℕ) → Entry → HeardEntry
 emitted_entry m n t tick original e = heard_with m n e (moment_at tick t e.moment) (price_at tick e.order.price) original tick
 
--- of a trade in the book, the order that entered and the one that rested
+-- of a trade in the book, the entering order and the resting one
 abbrev pub pair_emitted : ℕ → ℕ → TradeSource → List HeardFill → List HeardFill
 pair_emitted n trade (InBook old new) rest = record { row = n; order = new; trade = trade } ∷ record { row = n; order = old; trade = trade } ∷ rest
 pair_emitted n trade (InRoom room quote) rest = rest
@@ -91,7 +92,7 @@ abbrev pub fills_emitted : ℕ → List (ℕ × Trade) → List HeardFill
 fills_emitted trade [] = []
 fills_emitted trade (p ∷ ps) = pair_emitted p.0 trade p.1.place (fills_emitted (trade + 1) ps)
 
--- of a trade in a room, its number twice: the requester is told, and the maker
+-- of a room trade, its number twice: to the requester and to the maker
 abbrev pub hits_of : ℕ → ℕ → TradeSource → List HeardHit → List HeardHit
 hits_of n trade (InRoom room quote) rest = record { row = n; room = room; trade = trade } ∷ record { row = n; room = room; trade = trade } ∷ rest
 hits_of n trade (InBook old new) rest = rest
@@ -119,14 +120,14 @@ AreOf es (t ∷ ts) = IsOf es t.place × AreOf es ts
 abbrev pub HoldsAnew : List Fact → List HeldSide → Type 0
 HoldsAnew before ks = (ks ≡ []) ⊎ ((k : HeldSide) × (ks ≡ k ∷ []) × (is_order_id_used before k.order.who k.order.id ≡ false))
 
--- of a room, each who was asked
+-- of a room, each recipient
 abbrev pub emitted_asked : Market → ℕ → ℕ → Room → ℕ → HeardAsked
 emitted_asked m n t r to = record { row = n; moment = t; to = to; requester = r.requester; request = r.id; room = r.number; symbol = symbol_of m.instruments r.instrument; side = r.side; quantity = r.quantity }
 
 abbrev pub asked_emitted : Market → ℕ → ℕ → Room → List HeardAsked
 asked_emitted m n t r = map (emitted_asked m n t r) r.recipients
 
--- the order of which a report tells a fill
+-- the order whose fill a report states
 abbrev pub met_in_what : ℕ → ReplyBody → Option Met
 met_in_what to (OrderFilled f) = met_of to f f.order.order
 met_in_what to _ = None
@@ -139,7 +140,7 @@ abbrev pub FillsOf : Market → List Entry → List Met → Type 0
 FillsOf m es [] = Unit {0}
 FillsOf m es (x ∷ xs) = ((e : Entry) × In e es × (x ≡ met_emitted m e)) × FillsOf m es xs
 
--- where an answer is told
+-- where an answer is reported
 pub record Here : Type 0 where
   pub market : Market
   pub row : ℕ
@@ -402,7 +403,7 @@ met_said w h e n first is =
     (sym (entry_picked met_in w.market h.facts e (met_picks w.market e) fs n first (λ k. is k ∙ sym (is 0)) ∙ ap (λ o. cons_option o (filter_map (λ (f : ℕ → Reply). met_in (f 0)) (flat_map (fill_reports w.market e fs (next_trade h.facts)) (enumerate_from 0 fs)))) (is 0)))
     (fills_met w.market e fs (next_trade h.facts) 0 fs es (In-append_right (entries h.facts) (entries (entry_facts e fs)) e (inl refl)) (λ f i. In-append_left (entries h.facts) (entries (entry_facts e fs)) f.resting.entry (fill_entered h.facts e.order f i)))
 
--- what came fits the terms of the order that enters
+-- the trigger fits the terms of the entering order
 pub record Fits (w : Here) (original : Option (List ℕ)) (e : Entry) : Type 0 where
   pub from : original ≡ w.original
   pub price : price_in w.trigger ≡ price_at w.tick e.order.price
@@ -462,7 +463,7 @@ replaced-Says w h s d r t f own =
 
 -- Messages.
 
--- a message at t, which names the order whose place another takes, or none
+-- a message at t, which names the order that another replaces, or none
 pub record IsMessage (w : Here) (original : Option (List ℕ)) (t : ℕ) : Type 0 where
   pub from : original ≡ w.original
   pub tick : w.tick ≡ false
@@ -482,7 +483,7 @@ message_fits w original e t price is trigger moment terms some = record {
   moment = is.moment ∙ (sym moment ∙ sym (ap (λ (b : Bool). moment_at b w.moment e.moment) is.tick));
 }
 
--- with what came no side is held
+-- with this trigger no side is held
 abbrev HoldsNone : Here → Type 0
 HoldsNone w = (to : ℕ) (r : OrderReport) → hold_from w.moment to r w.trigger ≡ None
 
@@ -551,7 +552,7 @@ same_bytes a = (bytes_eq-Decides a a).1 refl
 pub other_bytes : (a b : List ℕ) → bytes_eq a b ≡ false → bytes_eq b a ≡ false
 other_bytes a b e = false_from_ne_true (bytes_eq b a) (λ k. true≢false (sym ((bytes_eq-Decides a b).1 (sym ((bytes_eq-Decides b a).0 k))) ∙ e))
 
--- the side that is held is named as the one that did not enter
+-- the held side has the identifier of the one that did not enter
 other_side : (d : CrossMessage) → bytes_eq d.first.order_id d.second.order_id ≡ false → (if bytes_eq (first_side d).order_id d.first.order_id then d.second.order_id else d.first.order_id) ≡ (second_side d).order_id
 other_side d apart =
     elim (is_first d d.first) as (λ b. (if bytes_eq (if b then d.first else d.second).order_id d.first.order_id then d.second.order_id else d.first.order_id) ≡ (if b then d.second else d.first).order_id) [
@@ -562,7 +563,7 @@ other_side d apart =
 second_unused : (facts : List Fact) (who : ℕ) (d : CrossMessage) → is_order_id_used facts who d.first.order_id ≡ false → is_order_id_used facts who d.second.order_id ≡ false → is_order_id_used facts who (second_side d).order_id ≡ false
 second_unused facts who d one other = elim (is_first d d.first) as (λ b. is_order_id_used facts who (if b then d.second else d.first).order_id ≡ false) [ true ↦ other | false ↦ one ]
 
--- what a cross came as
+-- the trigger of a cross
 abbrev crossed : Market → CrossMessage → Trigger
 crossed m d = trigger.Cross (record { first = d.first.order_id; second = d.second.order_id; price = d.price; delay = delay_of m.instruments (instrument_of m.instruments d.symbol) })
 
@@ -752,7 +753,7 @@ market_data-Says w h s d = first_of-Says w h (market_data_refusals w.market s d)
 
 -- Any message, and a tick.
 
--- where a message is told that came at t
+-- where the answer to a message at t is reported
 abbrev message_here : Market → List EvidenceEvent → ℕ → ℕ → Sender → App → Here
 message_here m words n t s a = record { market = m; row = n; moment = t; trigger = trigger_in m.instruments words n s.who a; original = original_of a; tick = false }
 
@@ -777,7 +778,7 @@ app-Says m h words n moment s (MarketDataSnapshot d) t e = (refl, (refl, (refl, 
 app-Says m h words n moment s (MarketDataRequestReject d) t e = (refl, (refl, (refl, (tt, (inl refl, (refl, (tt, refl)))))))
 app-Says m h words n moment s (Unsupported kind) t e = (refl, (refl, (refl, (tt, (inl refl, (refl, (tt, refl)))))))
 
--- an input that is told at a row
+-- an input whose answer is reported at a row
 abbrev pub is_tick_input : Input → Bool
 is_tick_input (Message taken t) = false
 is_tick_input (Tick t) = true

@@ -1,4 +1,4 @@
--- What the words of a day say of orders as they enter, of their fills, and of held sides, reply by reply.
+-- The events of a day about orders as they enter, their fills, and held sides, reply by reply.
 use Rattle.std.proofs.Common.{◌≡◌, refl, ap, ◌∙◌, ℕ, ℤ, ◌+◌, ◌==◌, Bool, true, false, if◌then◌else◌, List, [], ◌∷◌, ◌++◌, map, filter_map, length, Option, Some, None}
 use Rattle.std.specs.Prelude.{bytes_eq}
 use Rattle.std.specs.List.{cons_option}
@@ -72,7 +72,7 @@ pub record HeardAsked : Type 0 where
   pub side : Option Side
   pub quantity : ℕ
 
--- in a word
+-- in an event
 
 abbrev pub entry_of_said : EvidenceEvent → EventKind → Option HeardEntry
 entry_of_said w (said.Entered e) = Some (record { row = w.row; moment = w.moment; to = w.to; order = e.order; id = e.id; symbol = e.symbol; side = e.side; quantity = e.quantity; price = e.price; original = e.original; at_tick = e.at_tick })
@@ -167,7 +167,7 @@ asking_what n t c to _ = None
 abbrev pub asking_by : ℕ → ℕ → Trigger → Reply → Option HeardAsked
 asking_by n t c r = asking_what n t c r.to r.what
 
--- The words of a reply say what the reply does.
+-- The events of a reply state what the reply does.
 
 -- neither what was shown nor what rested is picked
 pub record IsDeaf {Y : Type 0} (pick : EvidenceEvent → Option Y) : Type 0 where

@@ -1,4 +1,4 @@
--- The words of a day tell what rested before the order that a trade met, and nothing else of the kind.
+-- The events of a day about what rested before the order that a trade filled, and no others of the kind.
 use Rattle.std.proofs.Common.{◌≡◌, refl, sym, ap, subst, ◌∙◌, ◌⊎◌, inl, inr, ℕ, zero, suc, ◌+◌, ◌-◌, ◌<◌, ◌≤◌, ◌==◌, Bool, true, false, if◌then◌else◌, List, [], ◌∷◌, ◌++◌, map, filter_map, length, slice_get, Option, Some, None, append-nil, eq-eqb, ne_eqb, arith}
 use Rattle.std.specs.Prelude.{option_map}
 use Rattle.std.specs.List.{cons_option, flat_map}
@@ -42,7 +42,7 @@ use Rattle.trade_reconstruction.proofs.Replies.{FillsOf, at_row, fills_emitted, 
 use Rattle.trade_reconstruction.proofs.Days.{added, day_says, next_trades}
 use Rattle.trade_reconstruction.proofs.Holds.{run_grows}
 
--- a word of what rested
+-- an event about what rested
 abbrev stands_said : EvidenceEvent → EventKind → Option EvidenceEvent
 stands_said w (said.RestedBefore x) = Some w
 stands_said w (said.RestedCount x) = Some w
@@ -51,7 +51,7 @@ stands_said w _ = None
 abbrev pub stands_in : EvidenceEvent → Option EvidenceEvent
 stands_in w = stands_said w w.said
 
--- the lines are of these words alone
+-- the lines are of these events alone
 standing_step : (w : EvidenceEvent) (s : EventKind) (ws : List EvidenceEvent) → s ≡ w.said → standing_said w s ++ flat_map standing_line ws ≡ flat_map standing_line (cons_option (stands_said w s) ws)
 standing_step w (said.RestedBefore x) ws e = ap (λ (y : EventKind). standing_said w y ++ flat_map standing_line ws) e
 standing_step w (said.RestedCount x) ws e = ap (λ (y : EventKind). standing_said w y ++ flat_map standing_line ws) e
@@ -68,7 +68,7 @@ lines_of_standing : (ws : List EvidenceEvent) → standing_lines ws ≡ flat_map
 lines_of_standing [] = refl
 lines_of_standing (w ∷ ws) = ap (λ l. standing_line w ++ l) (lines_of_standing ws) ∙ standing_step w w.said (filter_map stands_in ws) refl
 
--- no word of the kind
+-- no event of the kind
 abbrev none_of : Reply → Option EvidenceEvent
 none_of r = None
 
@@ -148,7 +148,7 @@ replies_silent : (n t : ℕ) (c : Trigger) (rs : List Reply) → filter_map stan
 unfolding words_in
 replies_silent n t c rs = replies_say stands_in none_of n t c (λ r. what_standing n t c r.to r.what) rs ∙ none_picked rs
 
--- What rested is said as it is.
+-- What rested is reported as it is.
 
 stood_if_stands : (n t : ℕ) (met : Met) (e : SnapshotEntry) → filter_map stands_in (stood_if n t met e) ≡ stood_if n t met e
 stood_if_stands n t met e = elim (is_side e.side met.side) as (λ b. filter_map stands_in (if b then stood_word n t met e ∷ [] else []) ≡ (if b then stood_word n t met e ∷ [] else [])) [ true ↦ refl | false ↦ refl ]
@@ -188,7 +188,7 @@ stood_step m number h words r i rs is emits =
     ap (λ l. l ++ stood_on m number (after h (answer_input m h i)) rs is)
     (filter_map-append stands_in here emitted ∙ (ap (λ l. l ++ filter_map stands_in emitted) (met_stands m h r.n r.moment (met_after number None replies)) ∙ (ap (λ l. here ++ l) (replies_silent r.n r.moment (came_of m words r.n i) replies) ∙ append-nil here)))
 
--- The order that is met is told by the fills.
+-- The filled order is that of the fills.
 
 abbrev last_order : ℕ → Option ℕ → List HeardFill → Option ℕ
 last_order number o [] = o
@@ -234,7 +234,7 @@ met_is_last n number met (r ∷ rs) =
     met_is_last n number (later met (met_by number r)) rs
     ∙ (met_by_what n number met r.to r.what (filter_map (fill_by n) rs) ∙ sym (then_cons number (resting_of met) (fill_what n r.what) (filter_map (fill_by n) rs)))
 
--- fills of other trades tell of none
+-- fills of other trades state none
 pair_other : (number : ℕ) (o : Option ℕ) (n trade : ℕ) (x : TradeSource) (ys : List HeardFill) → (trade == number) ≡ false → last_order number o (pair_emitted n trade x ys) ≡ last_order number o ys
 pair_other number o n trade (InBook old new) ys e = (λ j. last_order number (if e j then Some old else (if e j then Some new else o)) ys)
 pair_other number o n trade (InRoom room quote) ys e = refl
@@ -284,7 +284,7 @@ own_fills number old new o trade (suc k) (x ∷ xs) p e at is =
     next : (a b c : ℕ) → a ≡ b + suc c → a ≡ b + 1 + c
     next a b c h = omega (arith, h)
 
--- The order that is met is one of the day.
+-- The filled order is one of the day.
 
 abbrev MetAfter : Option Met → List Met → Met → Type 0
 MetAfter before all met = (before ≡ Some met) ⊎ In met all
@@ -343,7 +343,7 @@ fill_of m es [] x are i = absurd i
 fill_of m es (y ∷ ys) x are (inl e) = (are.0.0, are.0.1, sym e ∙ are.0.2)
 fill_of m es (y ∷ ys) x are (inr i) = fill_of m es ys x are.1 i
 
--- Of all rows, one tells what rested.
+-- One row reports what rested.
 
 some_met : (o : Option Met) (old : ℕ) → resting_of o ≡ Some old → (met : Met) × (o ≡ Some met) × (met.resting ≡ old)
 some_met None old e = absurd (none_is_some old e)
@@ -463,7 +463,7 @@ stood_once m number h (r ∷ rs) (i ∷ is) emitted k old new q at place from =
         stood_later m number h r i rs is emitted.0 q old behind.0 f
         (rec behind.0 behind.2 (further (next_trade (after h (answer_input m h i)).facts) (next_trade h.facts) (length ts) (length ts) behind.0 (next_trades h (answer_input m h i).facts) refl f))
 
--- what the words of a day tell of what rested
+-- the events of a day about what rested
 pub standing_emitted : (m : Market) (number : ℕ) (rs : List TrailRow) (is : List Input) → AreEmitted rs is → (old new : ℕ) (q : TrailRow × Input × Trade) → slice_get (added trade_in_fact m no_history rs is) (number - 1) ≡ Some q → q.2.place ≡ InBook old new
     → number ≡ 1 + (number - 1)
     → (s : StoodAt m number no_history rs is q old)

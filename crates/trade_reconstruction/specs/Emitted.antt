@@ -1,4 +1,4 @@
--- What is said on a day, row by row, and what is told of one of its trades.
+-- The events of a day, row by row, and the evidence for one of its trades.
 use Rattle.std.specs.Prelude.{◌≡◌, ℕ, ◌-◌, ◌==◌, List, [], ◌∷◌, ◌++◌, Option, None, Some, slice_get, if◌then◌else◌, ⊤}
 use Rattle.std.specs.Io.KnownBytes.{Appends}
 use Rattle.instruments.specs.declared.instruments.Instrument.{Instrument}
@@ -24,32 +24,32 @@ use Rattle.trade_reconstruction.specs.Lines.{evidence}
 use Rattle.trade_reconstruction.specs.EventKinds.{trigger_in, words_of}
 use Rattle.trade_reconstruction.specs.Standing.{stood_at}
 
--- what came at a row as a message, or as a tick, after these words
+-- the trigger at a row: a message, or a tick, after these events
 abbrev pub trigger_at : List Instrument → List EvidenceEvent → ℕ → Option Taken → Trigger
 trigger_at xs words row (Some taken) = trigger_in xs words row taken.from taken.item.app
 trigger_at xs words row None = trigger.Tick
 
--- and with an input
+-- and of an input
 abbrev pub came_of : Market → List EvidenceEvent → ℕ → Input → Trigger
 came_of m words row (Message taken t) = trigger_at m.instruments words row (Some taken)
 came_of m words row (Tick t) = trigger_at m.instruments words row None
 
--- What is said at a row, after these words: where the trade with this number is made there, what rested before the order that it met;
--- and then the answer of the rules to the input that the row tells.
+-- The events at a row, after these: where the trade with this number is made there, what rested before the order that
+-- it filled; and then the answer of the rules to the input of the row.
 abbrev pub words_at : Market → History → ℕ → List EvidenceEvent → TrailRow → Input → List EvidenceEvent
 words_at m h number words r i = stood_at m h number r.n r.moment (answer_input m h i).replies ++ words_of r.n r.moment (came_of m words r.n i) (answer_input m h i).replies
 
--- these words, and what is said behind them at rows, one after another, from a history on
+-- these events, and those at the rows, one after another, from a history on
 abbrev pub words_from : Market → History → ℕ → List EvidenceEvent → List TrailRow → List Input → List EvidenceEvent
 words_from m h number words [] is = words
 words_from m h number words (r ∷ rs) [] = words
 words_from m h number words (r ∷ rs) (i ∷ is) = words_from m (after h (answer_input m h i)) number (words ++ words_at m h number words r i) rs is
 
--- and on a day, of which the trade with a number is told
+-- the events of a day with regard to the trade with a number
 abbrev pub words_emitted : Market → ℕ → List TrailRow → List Input → List EvidenceEvent
 words_emitted m number rs is = words_from m no_history number [] rs is
 
--- a venue takes what a row tells, and what is said there was added to the words
+-- a venue processes the input of a row, and its events there were added
 pub record HearsRow (number : ℕ) (r : TrailRow) (s s' : State) (words words' : List EvidenceEvent) : Type 0 where
   pub input : Input
   pub answer : Answer
@@ -57,14 +57,14 @@ pub record HearsRow (number : ℕ) (r : TrailRow) (s s' : State) (words words' :
   pub takes : Takes s input answer s'
   pub hears : (h : History) → IsHistory s h → words' ≡ words ++ words_at s.market h number words r input
 
--- a venue stands where the inputs lead that these rows tell, and these words are what is said at the rows
+-- a venue stands where the inputs of these rows lead, and these are the events at the rows
 pub record IsHeard (m : Market) (number : ℕ) (rs : List TrailRow) (s : State) (words : List EvidenceEvent) : Type 0 where
   pub items : List Input
   pub emitted : AreEmitted rs items
   pub stands : Stands m items s
   pub said : words ≡ words_emitted m number rs items
 
--- the trade with this number, from 1
+-- the trade with this number, counted from 1
 abbrev pub numbered_in : List TradeFact → ℕ → Option TradeFact
 numbered_in trades number = if number == 0 then None else slice_get trades (number - 1)
 
@@ -72,13 +72,13 @@ numbered_in trades number = if number == 0 then None else slice_get trades (numb
 abbrev pub trade_numbered : History → ℕ → Option TradeFact
 trade_numbered h number = numbered_in (trade_facts h.facts) number
 
--- the rows tell these inputs; and where they are those of a run, these are its inputs
+-- the rows record these inputs; and where they are those of a run, these are its inputs
 pub record AreOf (rs : List TrailRow) (items : List Input) : Type 0 where
   pub emitted : AreEmitted rs items
   pub of_run : (is : List Input) → rs ≡ rows is → AreFitting is → items ≡ is
 
--- A text is the evidence for the trade with this number in the run of the inputs that these rows tell: the row at which it was made is found,
--- where it came about in a room its request is, and where it did in the book both its orders are.
+-- A text is the evidence for the trade with this number in the run of the inputs of these rows: the row at which it was
+-- made is found; of a room trade its request is found, and of a trade in the book both its orders.
 pub record IsEvidence (m : Market) (rs : List TrailRow) (number : ℕ) (text : List ℕ) : Type 0 where
   pub items : List Input
   pub emitted : AreOf rs items

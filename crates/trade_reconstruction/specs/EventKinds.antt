@@ -1,4 +1,4 @@
--- What is said on the venue of requests, quotes, orders and trades, read off the messages and the replies to them.
+-- Events that are evidence (words): requests, quotes, orders and trades, read off the messages and the replies to them.
 use Rattle.std.specs.Prelude.{ℕ, ℤ, Bool, true, false, List, [], ◌∷◌, ◌++◌, find, length, map, Option, Some, None, bytes_eq, if◌then◌else◌}
 use Rattle.std.specs.List.{flat_map}
 use Rattle.fix_dictionary.specs.declared.messages.App.{App}
@@ -29,12 +29,12 @@ abbrev pub link_at : ℕ → Option (List ℕ) → Option Linked
 link_at row None = None
 link_at row (Some link) = Some (record { link = link; row = row })
 
--- the link of the order that a participant has entered under an identifier
+-- the link of the order that a participant entered under an identifier
 abbrev pub link_known : List EvidenceEvent → ℕ → List ℕ → Option Linked
 link_known words who id = link_of (find (is_sought (Entry who id)) words)
 
--- What of a participant's message at a row tells of the replies to it, after what was said before; what takes an order's place has its
--- link, with the row of the message that carried it.
+-- The content of a participant's message at a row that its replies depend on, after the events before; a replacement
+-- has the link of the order it replaces, with the row of the message that carried it.
 unfoldable pub trigger_in : List Instrument → List EvidenceEvent → ℕ → ℕ → App → Trigger
 trigger_in xs words row who (QuoteRequest d) = trigger.Request (record { requester = who; request = d.request_id })
 trigger_in xs words row who (Quote d) = trigger.Quote
@@ -54,7 +54,7 @@ trigger_in xs words row who (MarketDataRequestReject d) = trigger.Other
 trigger_in xs words row who (BusinessMessageReject d) = trigger.Other
 trigger_in xs words row who (Unsupported kind) = trigger.Other
 
--- the price that a message gives its orders, and the link of its order (583)
+-- the price of a message's orders, and the link of its order (583)
 
 abbrev pub price_in : Trigger → Option ℤ
 price_in (trigger.Order o) = o.price
@@ -69,14 +69,14 @@ abbrev pub is_tick : Trigger → Bool
 is_tick trigger.Tick = true
 is_tick _ = false
 
--- What a reply says.
+-- Events of a reply.
 
 -- a recipient of a request is asked
 abbrev pub asked_in : Trigger → RequestSent → Option EventKind
 asked_in (trigger.Request q) r = Some (said.Asked (record { requester = q.requester; request = q.request; room = r.room; symbol = r.symbol; side = r.side; quantity = r.quantity }))
 asked_in _ r = None
 
--- a requester is shown so many resting orders, with the first response
+-- a requester is shown a count of resting orders, with the first response
 abbrev pub pictured_in : Trigger → BookSnapshot → Option EventKind
 pictured_in trigger.Quote p = Some (said.SnapshotSent (record { request = p.request_id; count = length p.entries }))
 pictured_in _ p = None
@@ -94,7 +94,7 @@ filled_of f (Some order) = Some (said.Filled (record { order = order; trade = f.
 abbrev pub filled_in : FilledReport → Option EventKind
 filled_in f = filled_of f f.order.order
 
--- an order entered, perhaps in the place of another
+-- an order entered, perhaps as a replacement
 abbrev pub entered_of : Trigger → Option (List ℕ) → OrderReport → Option ℕ → Option EventKind
 entered_of c original r None = None
 entered_of c original r (Some order) = Some (said.Entered (record { order = order; id = r.id; symbol = r.symbol; side = r.side; quantity = r.left; price = price_in c; link = link_in c; original = original; at_tick = is_tick c }))
@@ -124,7 +124,7 @@ abbrev pub held_in : Trigger → ReplyBody → Option EventKind
 held_in c (what.OrderEntered r) = held_by c r
 held_in c _ = None
 
--- at a row and its moment, to somebody
+-- at a row and its moment, to an addressee
 abbrev pub word : ℕ → ℕ → ℕ → EventKind → EvidenceEvent
 word row moment to s = record { row = row; moment = moment; to = to; said = s }
 
@@ -132,7 +132,7 @@ abbrev pub said_by : ℕ → ℕ → ℕ → Option EventKind → List EvidenceE
 said_by row moment to None = []
 said_by row moment to (Some s) = word row moment to s ∷ []
 
--- the resting orders that a requester is shown with the first response
+-- the resting orders shown to a requester with the first response
 abbrev pub shown_word : ℕ → ℕ → ℕ → List ℕ → SnapshotEntry → EvidenceEvent
 shown_word row moment to request e = word row moment to (said.Shown (record { request = request; side = e.side; price = e.price; left = e.left; order = e.order }))
 
@@ -147,10 +147,10 @@ picture_of row moment to c _ = []
 abbrev pub picture_in : ℕ → ℕ → Trigger → Reply → List EvidenceEvent
 picture_in row moment c r = picture_of row moment r.to c r.what
 
--- what a reply says, at its row
+-- the events of a reply, at its row
 unfoldable pub words_in : ℕ → ℕ → Trigger → Reply → List EvidenceEvent
 words_in row moment c r = said_by row moment r.to (said_in c r.what) ++ (said_by row moment r.to (held_in c r.what) ++ picture_in row moment c r)
 
--- and what all replies say
+-- and of all replies
 abbrev pub words_of : ℕ → ℕ → Trigger → List Reply → List EvidenceEvent
 words_of row moment c replies = flat_map (words_in row moment c) replies

@@ -1,4 +1,4 @@
--- What is found of a trade in the words of its day, so that its lines are there.
+-- What is found of a trade among the events of its day, so that its lines are complete.
 use Rattle.std.specs.Prelude.{◌≡◌, ℕ, ℤ, ◌-◌, min, List, ◌∷◌, ◌++◌, Contains, Option, None, Some, filter, find, flat_map, length, map, slice_get}
 use Rattle.fix_dictionary.specs.declared.messages.App.{App}
 use Rattle.fix_dictionary.specs.declared.messages.App.TheVariants.{OrderCancelReplaceRequest}
@@ -26,7 +26,7 @@ use Rattle.trade_reconstruction.specs.declared.evidence_event.EvidenceEvent.{Evi
 use Rattle.trade_reconstruction.specs.Lines.{both_lines, entries_linked, evidence, is_asked, is_sought, link_id, request_line, room_word, standing_line, standing_lines, trade_line, trade_row}
 use Rattle.trade_reconstruction.specs.Standing.{prices_of, stood_words}
 
--- a row, and the input that it tells, whose answer made this a fact
+-- a row, and its input, whose answer added this fact
 pub record CameAt (m : Market) (rs : List TrailRow) (is : List Input) (row : TrailRow) (input : Input) (fact : Fact) : Type 0 where
   pub earlier : List Input
   pub later : List Input
@@ -34,9 +34,9 @@ pub record CameAt (m : Market) (rs : List TrailRow) (is : List Input) (row : Tra
   pub emitted : slice_get rs (length earlier) ≡ Some row
   pub made : Contains (answer_input m (run m earlier).history input).facts fact
 
--- the request of a trade's room is found: the trade's evidence are the line of this request, the other lines of its room, and the line of the trade at its
--- row; it tells what was asked for when the room was opened, and by whom, at the row and the moment of the message that did; and who are told to have
--- been asked are its recipients
+-- the request of a trade's room is found: the trade's evidence is the line of this request, the other lines of its
+-- room, and the line of the trade at its row; it states what was asked for when the room was opened, and by whom, at
+-- the row and the moment of that message; and the recipients in the events are the room's
 pub record HasRequest (m : Market) (rs : List TrailRow) (is : List Input) (words : List EvidenceEvent) (t : TradeFact) (room : ℕ) : Type 0 where
   pub word : EvidenceEvent
   pub asked : Asked
@@ -58,7 +58,7 @@ pub record HasRequest (m : Market) (rs : List TrailRow) (is : List Input) (words
   pub quantity : asked.quantity ≡ opened.quantity
   pub recipients : map (λ (w : EvidenceEvent). w.to) (filter (is_asked room) words) ≡ opened.recipients
 
--- a trade is told at the row of the input by which it was made
+-- a trade is reported at the row of the input that made it
 pub record HasRow (m : Market) (rs : List TrailRow) (is : List Input) (words : List EvidenceEvent) (number : ℕ) (t : TradeFact) : Type 0 where
   pub trade : Trade
   pub numbered : slice_get (trades (run m is).history.facts) (number - 1) ≡ Some trade
@@ -68,17 +68,17 @@ pub record HasRow (m : Market) (rs : List TrailRow) (is : List Input) (words : L
   pub made : CameAt m rs is row input (Traded trade)
   pub at_row : trade_row words t ≡ row.n
 
--- the price in an order's line: a held side, which enters at a tick, is told without one
+-- the price in an order's line: a held side, which enters at a tick, is reported without one
 abbrev pub price_emitted : Input → Entry → Option ℤ
 price_emitted (Message taken t) e = Some e.order.price
 price_emitted (Tick t) e = None
 
--- the moment in an order's line: a held side entered where its delay was over, which may be before the tick
+-- the moment in an order's line: a held side entered at the end of its delay, which may be before the tick
 abbrev pub moment_emitted : Input → Entry → ℕ
 moment_emitted (Message taken t) e = e.moment
 moment_emitted (Tick t) e = min e.moment greatest
 
--- the identifier of the order whose place an order takes
+-- the identifier of the order that an order replaces
 abbrev pub original_of : App → Option (List ℕ)
 original_of (OrderCancelReplaceRequest d) = Some d.original_id
 original_of _ = None
@@ -87,8 +87,8 @@ abbrev pub original_emitted : Input → Option (List ℕ)
 original_emitted (Message taken t) = original_of taken.item.app
 original_emitted (Tick t) = None
 
--- what an order's lines are made of is what the order was as it entered, and the row is that at which it did; the link is the one that it carries, or
--- that the order had whose place it takes, which is told by the identifier that the message names
+-- an order's lines state the order as it entered, at the row at which it did; the link is the one that it carries, or
+-- that of the order it replaces, which is found by the identifier that the message names
 pub record EmitsOrder (m : Market) (rs : List TrailRow) (is : List Input) (e : Entry) (x : OrderEntry) : Type 0 where
   pub row : TrailRow
   pub input : Input
@@ -105,20 +105,21 @@ pub record EmitsOrder (m : Market) (rs : List TrailRow) (is : List Input) (e : E
   pub link : link_id x.entered.link ≡ e.order.link
   pub original : x.entered.original ≡ original_emitted input
 
--- an order that is met
+-- an order that is filled
 abbrev pub met_emitted : Market → Entry → Met
 met_emitted m e = record { resting = e.number; side = e.order.side; symbol = symbol_of m.instruments e.order.instrument; who = e.order.who }
 
--- what is told to have rested before the order that a trade met is what rested then: of what the venue would have shown of its instrument just before that
--- row, what stands before the order on its side, and how many these are
+-- the events about what rested before the order that a trade filled state what rested then: of the book that the venue
+-- would have shown just before that row, the orders before it on its side, and their count
 pub record HasStanding (m : Market) (rs : List TrailRow) (is : List Input) (words : List EvidenceEvent) (trade : Trade) (rested : Entry) : Type 0 where
   pub row : TrailRow
   pub input : Input
   pub made : CameAt m rs is row input (Traded trade)
   pub lines : standing_lines words ≡ flat_map standing_line (stood_words row.n row.moment (met_emitted m rested) (prices_of m (run m made.earlier).history (symbol_of m.instruments rested.order.instrument)))
 
--- both orders of a trade in the book are found: its evidence are the lines of the order that rested, of the one that entered, of both together,
--- and of the trade; what is told of both and of the trade is told at the row at which the second entered, and whether they are linked is what the rules say
+-- both orders of a trade in the book are found: its evidence is the lines of the resting order, of the entering one, of
+-- both together, and of the trade; what is said of both and of the trade has the row at which the second entered, and
+-- whether they are linked is what the rules say
 pub record HasOrders (m : Market) (rs : List TrailRow) (is : List Input) (words : List EvidenceEvent) (number : ℕ) (t : TradeFact) : Type 0 where
   pub trade : Trade
   pub rested : Entry

@@ -1,12 +1,12 @@
--- what is said of requests, quotes, orders and trades
+-- events: requests, quotes, orders and trades
 pub mod EventKinds
--- what rested before an order that was traded with
+-- what rested before the filled order
 pub mod Standing
--- on a day, row by row
+-- the events of a day, row by row
 pub mod Emitted
 -- the lines of the evidence for a trade
 pub mod Lines
 -- what is found of a trade
 pub mod Found
--- what every day keeps
+-- laws of every day
 pub mod Laws

@@ -1,9 +1,11 @@
--- The evidence for a trade, as lines: plain words with units, a fact each, which ends in the row on which it rests.
+-- The evidence for a trade, as lines: plain words with units, one fact each, with its row at the end.
 --
---   In a room (17 CFR 37.9(a)(2), (a)(3)): the request; each recipient, and what it is to the requester and to the others who were
---   asked; the resting orders shown with the first response; each quote; the hit; the trade.
---   In the book (17 CFR 37.9(b)(1)): the order that rested and the one that entered, each with when it entered and the link that it
---   carries, what their participants are to each other, whether the two are linked, how long apart they entered; what rested before the one that rested, as the other entered; the trade.
+-- In a room (17 CFR 37.9(a)(2), (a)(3)): the request; each recipient, with its relation to the requester and to the
+-- other recipients; the resting orders shown with the first response; each quote; the hit; the trade.
+--
+-- In the book (17 CFR 37.9(b)(1)): the resting order and the entering one, each with the moment of its entry and its
+-- link; the relation of their participants; whether the two are linked; the time between their entries; what rested
+-- before the resting one as the other entered; the trade.
 use Rattle.std.specs.Prelude.{ℕ, ℤ, ◌+◌, ◌-◌, min, Bool, true, false, not, ◌&&◌, ◌||◌, ◌==◌, nat_lt, List, [], ◌++◌, find, Option, Some, None, codes, decimal, bytes_eq, if◌then◌else◌}
 use Rattle.std.specs.List.{flat_map}
 use Rattle.sef_moment.specs.Utc.{greatest}
@@ -34,7 +36,7 @@ use Rattle.trade_reconstruction.specs.declared.evidence_event.Linked.{Linked}
 use Rattle.trade_reconstruction.specs.declared.evidence_event.RestedBefore.{RestedBefore}
 use Rattle.trade_reconstruction.specs.declared.evidence_event.RestedCount.{RestedCount}
 
--- What a word says.
+-- Tests of events.
 
 abbrev pub is_asked_said : ℕ → EventKind → Bool
 is_asked_said room (said.Asked a) = a.room == room
@@ -131,14 +133,14 @@ row_of (Some w) = w.row
 
 -- Parts of lines.
 
--- the row on which a line rests, and its end
+-- the row that supports a line, and its end
 abbrev pub row_text : ℕ → List ℕ
 row_text row = codes " row " ++ (decimal row ++ codes "\n")
 
 abbrev pub at_text : ℕ → List ℕ
 at_text t = codes " at " ++ utc_text t
 
--- what two participants are to each other, by the participant file
+-- the relation of two participants, by the participant file
 abbrev pub relation : ParticipantFile → ℕ → ℕ → List ℕ
 relation file one other = if one == other then codes " are one participant" else if related file one other then codes " are related" else codes " are not related"
 
@@ -155,7 +157,7 @@ asked_side (Some Sell) = codes " to sell "
 abbrev pub request_line : ParticipantFile → EvidenceEvent → Asked → List ℕ
 request_line file w a = codes "request in room R" ++ (decimal a.room ++ (codes " of " ++ (name_of file a.requester ++ (asked_side a.side ++ (decimal a.quantity ++ (codes " " ++ (a.symbol ++ (at_text w.moment ++ row_text w.row))))))))
 
--- what one who was asked in a room is to another who was, and who stands before it in the file
+-- the relation of a recipient to another recipient of the room who comes before it in the file
 abbrev pub other_line : ParticipantFile → ℕ → ℕ → ℕ → EvidenceEvent → List ℕ
 other_line file room who row other = if is_asked room other && nat_lt other.to who then pair_line file who other.to row else []
 
@@ -190,7 +192,7 @@ hit_line w x = codes "hit of quote " ++ (x.quote ++ (at_text w.moment ++ row_tex
 abbrev pub is_to : Asked → ℕ → List ℕ → Bool
 is_to a to request = to == a.requester && bytes_eq request a.request
 
--- what a word tells of the room of a request
+-- the lines of an event about the room of a request
 abbrev pub room_said : ParticipantFile → List EvidenceEvent → Asked → EvidenceEvent → EventKind → List ℕ
 room_said file words a w (said.Asked b) = if b.room == a.room then asked_lines file words w b else []
 room_said file words a w (said.SnapshotSent p) = if is_to a w.to p.request then pictured_line w p else []
@@ -217,7 +219,7 @@ abbrev pub room_of : ParticipantFile → List EvidenceEvent → Option EvidenceE
 room_of file words None = []
 room_of file words (Some w) = room_found file words w
 
--- the request, and then row by row who was asked, what was shown and quoted, and the hit
+-- the request, and then row by row the recipients, what was shown and quoted, and the hit
 abbrev pub room_lines : ParticipantFile → List EvidenceEvent → ℕ → List ℕ
 room_lines file words room = room_of file words (find (is_sought (Request room)) words)
 
@@ -235,7 +237,7 @@ abbrev pub held_until_said : EvidenceEvent → EventKind → ℕ
 held_until_said w (said.Held x) = min (w.moment + x.delay) greatest
 held_until_said w _ = w.moment
 
--- where the delay of a held side is over
+-- the end of a held side's delay
 abbrev pub held_until : EvidenceEvent → ℕ
 held_until w = held_until_said w w.said
 
@@ -243,7 +245,7 @@ abbrev pub moment_of : ℕ → Option EvidenceEvent → ℕ
 moment_of t None = t
 moment_of t (Some hold) = held_until hold
 
--- when an order entered: a held side where its delay was over, which may be before the tick
+-- the moment at which an order entered: of a held side the end of its delay, which may be before the tick
 abbrev pub entry_moment : List EvidenceEvent → EvidenceEvent → Entered → ℕ
 entry_moment words w e = if e.at_tick then moment_of w.moment (find (is_sought (HeldSide w.to e.id)) words) else w.moment
 
@@ -254,7 +256,7 @@ entry_said words w _ = None
 abbrev pub entry_in : List EvidenceEvent → EvidenceEvent → Option OrderEntry
 entry_in words w = entry_said words w w.said
 
--- the entry of an order: the row that tells it, whose the order is, when it entered, and what was said of it
+-- the entry of an order: its row, its participant, its moment, and the event
 abbrev pub entry_of : List EvidenceEvent → Option EvidenceEvent → Option OrderEntry
 entry_of words None = None
 entry_of words (Some w) = entry_in words w
@@ -263,11 +265,12 @@ abbrev pub order_line : ParticipantFile → OrderEntry → List ℕ
 order_line file x = codes "order O" ++ (decimal x.entered.order ++ (codes " of " ++ (name_of file x.to ++ (side_text x.entered.side ++ (decimal x.entered.quantity ++ (codes " " ++ (x.entered.symbol
     ++ (price_if x.entered.price ++ (at_text x.moment ++ row_text x.row)))))))))
 
--- what is said of an order with an identifier
+-- the line of an order with an identifier
 abbrev pub named_line : ℕ → List ℕ → List ℕ → ℕ → List ℕ
 named_line order said id row = codes "O" ++ (decimal order ++ (said ++ (id ++ row_text row)))
 
--- the link of an order, where it has one: the row is that of the message that carried it, which may be one whose order's place it takes
+-- the link of an order, where it has one, with the row of the message that carried it, which may be that of an order
+-- which it replaces
 abbrev pub link_line : ℕ → Option Linked → List ℕ
 link_line order None = []
 link_line order (Some l) = named_line order (codes " carries the link ") l.link l.row
@@ -330,11 +333,11 @@ standing_said w (said.RestedBefore x) = stood_line w x
 standing_said w (said.RestedCount x) = counted_line w x
 standing_said w _ = []
 
--- what a word tells of what rested before the order that was traded with
+-- the line of an event about what rested before the filled order
 abbrev pub standing_line : EvidenceEvent → List ℕ
 standing_line w = standing_said w w.said
 
--- what rested before it, best first, and then how many
+-- what rested before it, best first, and then the count
 abbrev pub standing_lines : List EvidenceEvent → List ℕ
 standing_lines words = flat_map standing_line words
 
@@ -342,7 +345,7 @@ standing_lines words = flat_map standing_line words
 unfoldable pub together_lines : ParticipantFile → List EvidenceEvent → Both → List ℕ
 together_lines file words b = pair_line file b.resting.to b.entering.to b.row ++ (linked_line file b ++ (apart_line b.resting.moment b.entering.moment b.row ++ standing_lines words))
 
--- the order that rested and the one that entered
+-- the resting order and the entering one
 abbrev pub both_lines : ParticipantFile → List EvidenceEvent → Both → List ℕ
 both_lines file words b = entry_lines file words b.resting ++ (entry_lines file words b.entering ++ together_lines file words b)
 
@@ -386,6 +389,6 @@ place_lines file words t row = lines_in file words t.number t.room row
 abbrev pub trade_line : Market → TradeFact → ℕ → List ℕ
 trade_line m t row = codes "trade T" ++ (decimal t.number ++ (codes " " ++ (deal m t ++ row_text row)))
 
--- what a trade rests on, and then the trade
+-- the lines about a trade's request or orders, and then the trade
 unfoldable pub evidence : Market → List EvidenceEvent → TradeFact → List ℕ
 evidence m words t = place_lines m.participants words t (trade_row words t) ++ trade_line m t (trade_row words t)

@@ -1,5 +1,5 @@
--- What rested before an order that was traded with, as the order came that traded with it: the orders of its side that stand before it,
--- by better price and then by earlier entry, in what the venue shows to who asks for the prices of the instrument (17 CFR 37.9(a)(3)).
+-- Orders that rested before the filled one when the entering order came: those of its side that come before it, by
+-- better price and then by earlier entry, in the book that the venue shows for the instrument (17 CFR 37.9(a)(3)).
 use Rattle.std.specs.Prelude.{ℕ, ◌==◌, List, [], ◌∷◌, ◌++◌, length, Option, Some, None, if◌then◌else◌}
 use Rattle.fix_dictionary.specs.declared.messages.App.TheVariants.{MarketDataRequest}
 use Rattle.instruments.specs.Listing.{instrument_of, is_unknown_instrument}
@@ -18,12 +18,12 @@ use Rattle.trade_reconstruction.specs.declared.evidence_event.EventKind.TheVaria
 use Rattle.trade_reconstruction.specs.declared.evidence_event.EvidenceEvent.{EvidenceEvent}
 use Rattle.trade_reconstruction.specs.EventKinds.{word}
 
--- a message that is taken at a moment, or else a tick
+-- a message taken at a moment, or else a tick
 abbrev pub input_of : Option Taken → ℕ → Input
 input_of (Some taken) t = Message taken t
 input_of None t = Tick t
 
--- The order that rested, and was filled by the trade with a number: of a fill its report is the second.
+-- The resting order that the trade with a number filled: of the two reports of a fill its own is the second.
 
 abbrev pub met_of : ℕ → FilledReport → Option ℕ → Option Met
 met_of to f None = None
@@ -63,7 +63,7 @@ abbrev pub stood_from : ℕ → ℕ → Met → List SnapshotEntry → List Evid
 stood_from row moment met [] = []
 stood_from row moment met (e ∷ es) = if e.order == met.resting then [] else stood_if row moment met e ++ stood_from row moment met es
 
--- and how many they are
+-- and their count
 unfoldable pub stood_words : ℕ → ℕ → Met → List SnapshotEntry → List EvidenceEvent
 stood_words row moment met es = stood_from row moment met es ++ counted_word row moment met (length (stood_from row moment met es)) ∷ []
 
@@ -75,11 +75,11 @@ abbrev pub stood_met : Market → History → ℕ → ℕ → Option Met → Lis
 stood_met m h row moment None = []
 stood_met m h row moment (Some met) = stood_words row moment met (prices_of m h met.symbol)
 
--- what rested before the order that the trade with a number met, where these replies tell the trade
+-- what rested before the order that the trade with a number filled, where these replies report the trade
 abbrev pub stood_at : Market → History → ℕ → ℕ → ℕ → List Reply → List EvidenceEvent
 stood_at m h number row moment replies = stood_met m h row moment (met_after number None replies)
 
--- How the venue is asked for the prices.
+-- The market data request.
 
 abbrev pub asks : ℕ → List ℕ → Taken
 asks who symbol = record {

@@ -58,7 +58,7 @@ fn append_order(
     append_at(text, entry.moment, entry.row)
 }
 
-/// Appends what is said of an order with an identifier.
+/// Appends the line of an order with an identifier.
 fn append_named(
     text: &mut Vec<u8>,
     order: u64,
@@ -73,7 +73,7 @@ fn append_named(
     append_row(text, row)
 }
 
-/// Appends the link of an order, if it has one, at the row of the message that carried it.
+/// Appends the link of an order, if it has one, with the row of the message that carried it.
 fn append_link(text: &mut Vec<u8>, order: u64, link: &Option<Linked>) -> Result<(), AllocError>
     ensures { OnOk result (text.new.items ≡ text.old.items ++ link_line order link.now) }
 {
@@ -83,7 +83,7 @@ fn append_link(text: &mut Vec<u8>, order: u64, link: &Option<Linked>) -> Result<
     }
 }
 
-/// Appends whose place an order takes, if it takes one.
+/// Appends the identifier of the order that an order replaces, if it replaces one.
 fn append_original(
     text: &mut Vec<u8>,
     order: u64,
@@ -104,7 +104,7 @@ fn append_original(
     }
 }
 
-/// Appends that an order was held, and from when on and how long.
+/// Appends that an order was held, from when on and for how long.
 fn append_held(text: &mut Vec<u8>, order: u64, word: &EvidenceEvent) -> Result<(), AllocError>
     ensures { OnOk result (text.new.items ≡ text.old.items ++ held_line order word.now) }
 {
@@ -154,7 +154,7 @@ fn append_entry(
     append_hold(text, words, entry)
 }
 
-/// Appends how long apart two orders entered.
+/// Appends the time between the entries of two orders.
 fn append_apart(
     text: &mut Vec<u8>,
     earlier: Moment,
@@ -181,7 +181,7 @@ fn is_same_link(one: &Option<Identifier>, other: &Option<Identifier>) -> bool
     }
 }
 
-/// Whether two orders are linked: one participant's, or related ones', or by a link that both carry.
+/// Whether two orders are linked: of one participant or of related ones, or by a link that both carry.
 fn are_linked(
     participants: &Participants,
     one: Who,
@@ -309,8 +309,8 @@ fn append_orders(
     }
 }
 
-/// Appends the lines of a trade in the book: the order that rested, the one that entered, whose they are, whether they are linked, how
-/// long apart they entered, and what rested before the one that rested.
+/// Appends the lines of a trade in the book: the resting order, the entering one, their participants, whether they are
+/// linked, the time between their entries, and what rested before the resting one.
 pub(crate) fn append_book(
     alloc: Global,
     text: &mut Vec<u8>,

@@ -1,4 +1,4 @@
-//! The entry of an order, found in what was said.
+//! The entry of an order, found among the events.
 
 ghost use Rattle.std.specs.Prelude.{◌≡◌, find, option_map};
 ghost use Rattle.trade_reconstruction.specs.Lines.{entry_in, entry_moment, entry_of, held_until, is_sought};
@@ -12,16 +12,16 @@ use sef_moment::Moment;
 /// An order as it entered.
 #[derive(Clone, Copy)]
 pub struct Entry {
-    /// the row that tells it
+    /// the row of its entry event
     pub row: u64,
-    /// whose it is
+    /// its participant
     pub to: Who,
-    /// when it entered: a held side where its delay was over
+    /// the moment of its entry: of a held side the end of its delay
     pub moment: Moment,
     pub entered: Entered,
 }
 
-/// Two orders that met, and the row at which they did.
+/// Two orders that were matched, and the row at which they were.
 #[derive(Clone, Copy)]
 pub struct Both {
     pub resting: Entry,
@@ -29,7 +29,7 @@ pub struct Both {
     pub row: u64,
 }
 
-/// The word that a participant's order was held, if it was.
+/// The event that a participant's order was held, if it was.
 pub(crate) fn hold_of<'a>(
     words: &'a [EvidenceEvent],
     to: Who,
@@ -40,7 +40,7 @@ pub(crate) fn hold_of<'a>(
     find_word(words, &Query::HeldSide(to, entered.id))
 }
 
-/// When a held side entered: where its delay was over.
+/// The moment at which a held side entered: the end of its delay.
 fn held_moment(hold: &EvidenceEvent) -> Moment
     ensures { result ≡ held_until hold.now }
 {
@@ -50,7 +50,7 @@ fn held_moment(hold: &EvidenceEvent) -> Moment
     }
 }
 
-/// When an order entered.
+/// The moment at which an order entered.
 fn entry_moment(words: &[EvidenceEvent], word: &EvidenceEvent, entered: &Entered) -> Moment
     ensures { result ≡ entry_moment words.now word.now entered.now }
 {

@@ -1,4 +1,4 @@
-//! What the replies to a message say of requests, quotes, orders and trades.
+//! The events in the replies to a message: requests, quotes, orders and trades.
 
 ghost use Rattle.std.specs.Prelude.{◌≡◌, ◌++◌, ◌∷◌, [], map, OnOk};
 ghost use Rattle.trade_reconstruction.specs.EventKinds.{asked_in, entered_in, filled_in, held_by, held_in, held_of, hit_in, is_tick, link_in, picture_in, pictured_in, price_in, prices_words, said_by, said_in, shown_word, words_in, words_of};
@@ -106,7 +106,7 @@ fn is_tick(trigger: &Trigger) -> bool
     matches!(trigger, Trigger::Tick)
 }
 
-/// The order of a report as it enters, with the identifier of the one whose place it takes.
+/// The order of a report as it enters, with the identifier of the one that it replaces.
 fn entered_in(
     trigger: &Trigger,
     original: Option<Identifier>,
@@ -130,7 +130,7 @@ fn entered_in(
     }
 }
 
-/// What a reply says, if it is of what a trade rests on.
+/// The event in a reply, if it bears on a trade.
 fn said_in(trigger: &Trigger, what: &ReplyBody) -> Option<EventKind>
     ensures { result ≡ said_in trigger.now what.now }
 {
@@ -163,7 +163,7 @@ fn said_in(trigger: &Trigger, what: &ReplyBody) -> Option<EventKind>
     }
 }
 
-/// The other side of a cross, one of which has entered.
+/// The other side of a cross, of which one side entered.
 fn held_of(cross: &Crossed, report: &OrderReport) -> EventKind
     ensures { result ≡ held_of cross.now report.now }
 {
@@ -187,7 +187,7 @@ fn held_by(trigger: &Trigger, report: &OrderReport) -> Option<EventKind>
     }
 }
 
-/// The side that is held, if a reply says that the other entered.
+/// The held side, if a reply says that the other entered.
 fn held_in(trigger: &Trigger, what: &ReplyBody) -> Option<EventKind>
     ensures { result ≡ held_in trigger.now what.now }
 {
@@ -197,14 +197,14 @@ fn held_in(trigger: &Trigger, what: &ReplyBody) -> Option<EventKind>
     }
 }
 
-/// Appends a word.
+/// Appends an event.
 pub(crate) fn push_word(
     words: &mut Vec<EvidenceEvent>,
     word: EvidenceEvent,
 ) -> Result<(), AllocError>
     ensures { OnOk result (words.new.items ≡ words.old.items ++ word ∷ []) }
 {
-    // What a word may hold, named here as the proof of the push needs each type.
+    // Types of an event's content, named here because the proof of the push needs each.
     let _asked: Option<Asked> = None;
     let _pictured: Option<SnapshotSent> = None;
     let _shown: Option<Shown> = None;
@@ -230,7 +230,7 @@ pub(crate) fn push_word(
     }
 }
 
-/// Appends what is said, if it is.
+/// Appends what is said, if anything.
 fn push_said(
     words: &mut Vec<EvidenceEvent>,
     row: u64,
@@ -254,7 +254,7 @@ fn push_said(
     }
 }
 
-/// That a requester is shown a resting order.
+/// A resting order that was shown to a requester.
 fn shown_word(
     row: u64,
     moment: Moment,
@@ -278,7 +278,7 @@ fn shown_word(
     }
 }
 
-/// Appends the resting orders of a picture.
+/// Appends the resting orders of a snapshot.
 fn push_shown(
     words: &mut Vec<EvidenceEvent>,
     row: u64,
@@ -295,7 +295,7 @@ fn push_shown(
     Ok(())
 }
 
-/// Appends the resting orders of a picture that comes with a response.
+/// Appends the resting orders of a snapshot that comes with a response.
 fn push_prices(
     words: &mut Vec<EvidenceEvent>,
     row: u64,
@@ -319,7 +319,7 @@ fn push_prices(
     }
 }
 
-/// Appends the resting orders that a requester was shown, if a reply shows them with the first response.
+/// Appends the resting orders shown to a requester, if a reply shows them with the first response.
 fn push_picture(
     words: &mut Vec<EvidenceEvent>,
     row: u64,
@@ -337,7 +337,7 @@ fn push_picture(
     }
 }
 
-/// Appends what a reply says.
+/// Appends the events of a reply.
 #[tactic(auto, unfolding(crate::specs::EventKinds::words_in))]
 fn push_reply(
     words: &mut Vec<EvidenceEvent>,
@@ -353,7 +353,7 @@ fn push_reply(
     push_picture(words, row, moment, trigger, reply)
 }
 
-/// Appends what the replies to a message say, or those at a tick.
+/// Appends the events of the replies to a message, or at a tick.
 pub fn push_replies(
     words: &mut Vec<EvidenceEvent>,
     row: u64,

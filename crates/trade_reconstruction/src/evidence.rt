@@ -27,10 +27,10 @@ use trade_blotter::{append, append_deal, append_number};
 use venue_core::{Venue, rows_emit_their_inputs};
 use venue_rules::{TradeFact, TrailRow};
 
-/// Why the evidence was not written.
+/// Why no evidence was written.
 #[derive(Clone, Copy, Debug, PartialEq, Eq, Error)]
 pub enum EvidenceFault {
-    /// Memory was refused.
+    /// An allocation failed.
     #[error("memory")]
     Memory,
     /// A write failed.
@@ -76,7 +76,7 @@ fn append_trade(
     append_row(text, row)
 }
 
-/// Appends the lines of what a trade rests on.
+/// Appends the lines about a trade's request or orders.
 fn append_place(
     alloc: Global,
     text: &mut Vec<u8>,
@@ -111,7 +111,7 @@ fn evidence_of(
     Ok(text)
 }
 
-/// The trade with this number, from 1.
+/// The trade with this number, counted from 1.
 fn numbered(trades: &[TradeFact], number: u64) -> Option<&TradeFact>
     ensures { option_map (λ t. t.now) result ≡ numbered_in trades.now number }
 {
@@ -128,7 +128,7 @@ fn trade_numbered(venue: &Venue, number: u64) -> Option<&TradeFact>
     numbered(venue.trades(), number)
 }
 
-/// The evidence for the trade with this number, as a venue on which nothing has happened takes what the rows of a trail tell.
+/// The evidence for the trade with this number, from an empty venue that processes the inputs of a trail's rows.
 fn evidence_in(
     alloc: Global,
     venue: &mut Venue,
@@ -169,9 +169,9 @@ fn write_text<W: Write>(text: &[u8], writer: &mut W) -> Result<(), EvidenceFault
     }
 }
 
-/// Writes the evidence for the trade with this number of the day that rows of a trail tell, on a venue of these participants and
-/// instruments: what the venue said of what the trade rests on, a line for each fact, which ends in the row at which it was said.
-/// `NoTrade` where there were not so many trades.
+/// Writes the evidence for the trade with this number of the day in a trail's rows, on a venue of these participants
+/// and instruments: one line for each fact that the venue reported, with its row at the end. `NoTrade` where the day
+/// had fewer trades.
 pub fn print_evidence<W: Write>(
     alloc: Global,
     participants: Participants,

@@ -1,4 +1,5 @@
-//! What was said on the venue of requests, quotes, orders and trades, each with the row at which it was said.
+//! Events that are evidence, called words in names: what the venue said of requests, quotes, orders and trades, each
+//! with its row.
 
 use fix_dictionary::{Amount, Identifier, Price, Quantity, Side};
 use participants::Who;
@@ -16,7 +17,7 @@ pub struct Asked {
     pub quantity: Quantity,
 }
 
-/// A requester was shown so many resting orders with the first response.
+/// A requester was shown `count` resting orders with the first response.
 #[derive(Clone, Copy)]
 pub struct SnapshotSent {
     pub request: Identifier,
@@ -70,14 +71,14 @@ pub struct Entered {
     pub quantity: Amount,
     /// none where the order was a held side, which enters at a tick
     pub price: Option<Price>,
-    /// the link that it carries, or that the order had whose place it takes
+    /// its own link, or that of the order which it replaces
     pub link: Option<Linked>,
-    /// the identifier (41) of the order whose place it takes
+    /// the identifier (41) of the order which it replaces
     pub original: Option<Identifier>,
     pub at_tick: bool,
 }
 
-/// The second side of a cross is held for so many milliseconds.
+/// The second side of a cross is held for this many milliseconds.
 #[derive(Clone, Copy)]
 pub struct Held {
     pub id: Identifier,
@@ -91,10 +92,10 @@ pub struct Filled {
     pub trade: u64,
 }
 
-/// An order rested before one that was then traded with, on its side of the book.
+/// An order rested before one that was then filled, on its side of the book.
 #[derive(Clone, Copy)]
 pub struct RestedBefore {
-    /// the order that was traded with
+    /// the order that was filled
     pub resting: u64,
     pub side: Side,
     pub price: Price,
@@ -102,15 +103,15 @@ pub struct RestedBefore {
     pub order: u64,
 }
 
-/// So many orders rested before one that was then traded with.
+/// The count of orders that rested before one that was then filled.
 #[derive(Clone, Copy)]
 pub struct RestedCount {
-    /// the order that was traded with
+    /// the order that was filled
     pub resting: u64,
     pub count: u64,
 }
 
-/// What was said.
+/// The content of an event.
 #[derive(Clone, Copy)]
 pub enum EventKind {
     Asked(Asked),
@@ -125,7 +126,7 @@ pub enum EventKind {
     RestedCount(RestedCount),
 }
 
-/// What was said to a participant, and at which row.
+/// An event: its content, its addressee and its row.
 #[derive(Clone, Copy)]
 pub struct EvidenceEvent {
     pub row: u64,

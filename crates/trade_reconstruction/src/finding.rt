@@ -1,4 +1,4 @@
-//! The first word that says something.
+//! Search for the first event of some content.
 
 ghost use Rattle.std.specs.Prelude.{◌≡◌, find, option_map};
 ghost use Rattle.trade_reconstruction.specs.Lines.{enters, fills, fills_other, hits, holds, is_asked, is_entry, is_sought, link_in, link_of, order_in, order_of, row_of};
@@ -7,22 +7,22 @@ use crate::evidence_event::{EventKind, EvidenceEvent, Linked};
 use fix_dictionary::Identifier;
 use participants::Who;
 
-/// What a word is to say.
+/// The content that is searched for.
 #[derive(Clone, Copy)]
 pub enum Query {
-    /// that somebody was asked in this room
+    /// a request in this room
     Request(u64),
-    /// that this order entered
+    /// the entry of this order
     Order(u64),
-    /// that this trade filled an order
+    /// a fill by this trade
     Fill(u64),
-    /// that this trade filled another order than this
+    /// a fill by this trade of another order than this
     OtherFill(u64, u64),
-    /// that this trade was made by a hit
+    /// the hit that made this trade
     Hit(u64),
-    /// that this participant's order of this identifier (11) is held
+    /// the hold of this participant's order with this identifier (11)
     HeldSide(Who, Identifier),
-    /// that this participant's order of this identifier (11) entered
+    /// the entry of this participant's order with this identifier (11)
     Entry(Who, Identifier),
 }
 
@@ -103,7 +103,7 @@ fn is_sought(sought: &Query, word: &EvidenceEvent) -> bool
     }
 }
 
-/// The first of these words that says what is sought.
+/// The first of these events with the content that is searched for.
 pub fn find_word<'a>(words: &'a [EvidenceEvent], sought: &Query) -> Option<&'a EvidenceEvent>
     ensures { option_map (λ w. w.now) result ≡ find (is_sought sought.now) words.now }
 {
@@ -134,7 +134,7 @@ pub fn filled_order(words: &[EvidenceEvent], sought: &Query) -> Option<u64>
     }
 }
 
-/// The row of the first word that says what is sought, if one does.
+/// The row of the first event with the content that is searched for, if there is one.
 pub fn row_of(words: &[EvidenceEvent], sought: &Query) -> u64
     ensures { result ≡ row_of (find (is_sought sought.now) words.now) }
 {

@@ -1,4 +1,5 @@
-//! The evidence for one trade of a day, read back from the rows of its trail: what was asked, shown, quoted and entered, each with its row.
+//! The evidence for one trade of a day, reconstructed from the rows of its trail: requests, shown orders, quotes and
+//! entries, each with its row.
 #![tactic(auto)]
 
 mod book;

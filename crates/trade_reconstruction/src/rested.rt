@@ -1,4 +1,4 @@
-//! What rested before the order that a trade met, told.
+//! The lines about the orders that rested before the filled one.
 
 ghost use Rattle.std.specs.Prelude.{◌≡◌, ◌++◌, OnOk};
 ghost use Rattle.trade_reconstruction.specs.Lines.{counted_line, standing_line, standing_lines, stood_line, stood_side};
@@ -50,7 +50,7 @@ fn append_counted(
     append_row(text, word.row)
 }
 
-/// Appends what a word tells of what rested before the order.
+/// Appends the line of one event about what rested before the order.
 fn append_word(alloc: Global, text: &mut Vec<u8>, word: &EvidenceEvent) -> Result<(), AllocError>
     ensures { OnOk result (text.new.items ≡ text.old.items ++ standing_line word.now) }
 {
@@ -61,7 +61,7 @@ fn append_word(alloc: Global, text: &mut Vec<u8>, word: &EvidenceEvent) -> Resul
     }
 }
 
-/// Appends what rested before the order, and how many orders these were.
+/// Appends what rested before the order, and the count of these orders.
 pub(crate) fn append_standing(
     alloc: Global,
     text: &mut Vec<u8>,

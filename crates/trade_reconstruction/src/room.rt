@@ -13,7 +13,7 @@ use sef_moment::{Moment, print_utc};
 use std::alloc::{AllocError, Global};
 use trade_blotter::{append, append_number, append_price, name_at};
 
-/// Appends the row on which a line rests, and ends the line.
+/// Appends the row that supports a line, and ends the line.
 pub(crate) fn append_row(text: &mut Vec<u8>, row: u64) -> Result<(), AllocError>
     ensures { OnOk result (text.new.items ≡ text.old.items ++ row_text row) }
 {
@@ -33,7 +33,7 @@ pub(crate) fn append_moment(
     append(text, &[before, &emitted])
 }
 
-/// Appends when something was said, and the row on which a line rests, and ends the line.
+/// Appends the moment and the row that support a line, and ends the line.
 pub(crate) fn append_at(text: &mut Vec<u8>, moment: Moment, row: u64) -> Result<(), AllocError>
     ensures { OnOk result (text.new.items ≡ text.old.items ++ (at_text moment ++ row_text row)) }
 {
@@ -41,7 +41,7 @@ pub(crate) fn append_at(text: &mut Vec<u8>, moment: Moment, row: u64) -> Result<
     append_row(text, row)
 }
 
-/// Appends after a text how much of what.
+/// Appends a quantity of an instrument after a text.
 pub(crate) fn append_quantity(
     text: &mut Vec<u8>,
     before: &[u8],
@@ -54,7 +54,7 @@ pub(crate) fn append_quantity(
     append(text, &[b" ", symbol.as_slice()])
 }
 
-/// What two participants are to each other.
+/// The relation of two participants.
 fn relation(participants: &Participants, one: Who, other: Who) -> &'static [u8]
     ensures { result.now ≡ relation participants.now one other }
 {
@@ -67,7 +67,7 @@ fn relation(participants: &Participants, one: Who, other: Who) -> &'static [u8]
     }
 }
 
-/// Appends what two participants are to each other.
+/// Appends the relation of two participants.
 pub(crate) fn append_pair(
     text: &mut Vec<u8>,
     participants: &Participants,
@@ -110,7 +110,7 @@ fn append_request(
     append_at(text, word.moment, word.row)
 }
 
-/// Appends what a participant who was asked in a room is to one who was asked there too and stands before it in the file.
+/// Appends the relation of a recipient to another recipient of the room who comes before it in the file.
 fn append_other(
     text: &mut Vec<u8>,
     participants: &Participants,
@@ -144,7 +144,7 @@ fn append_others(
     Ok(())
 }
 
-/// Appends that a participant was asked, and what it is to the requester and to those who were asked too.
+/// Appends that a participant was asked, and its relation to the requester and to the other recipients.
 fn append_asked(
     text: &mut Vec<u8>,
     participants: &Participants,
@@ -249,14 +249,14 @@ fn append_hit(text: &mut Vec<u8>, word: &EvidenceEvent, hit: &Hit) -> Result<(),
     append_row(text, word.row)
 }
 
-/// Whether a word is to the requester, on its request.
+/// Whether an event is addressed to the requester, about its request.
 fn is_to(asked: &Asked, to: Who, request: &Identifier) -> bool
     ensures { result ≡ is_to asked.now to request.now }
 {
     to.place() == asked.requester.place() && request.is(&asked.request)
 }
 
-/// Appends the lines of a word, if it is of this request.
+/// Appends the lines of an event, if it is about this request.
 #[tactic(auto, unfolding(crate::specs::Lines::room_word))]
 fn append_word(
     alloc: Global,
@@ -327,7 +327,7 @@ fn append_words(
     Ok(())
 }
 
-/// Appends the lines of a room, from the first word that somebody was asked in it.
+/// Appends the lines of a room, from the first event of its request on.
 fn append_found(
     alloc: Global,
     text: &mut Vec<u8>,
@@ -346,7 +346,7 @@ fn append_found(
     }
 }
 
-/// Appends the lines of a room: the request, who was asked, what was shown and quoted, and the hit.
+/// Appends the lines of a room: the request, its recipients, what was shown and quoted, and the hit.
 pub(crate) fn append_room(
     alloc: Global,
     text: &mut Vec<u8>,

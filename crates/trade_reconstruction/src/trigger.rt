@@ -1,4 +1,4 @@
-//! What of a message tells of the replies to it.
+//! The content of a message that its replies depend on.
 
 ghost use Rattle.std.specs.Prelude.{◌≡◌};
 ghost use Rattle.instruments.specs.Listing.{delay_of, instrument_of};
@@ -10,14 +10,14 @@ use fix_dictionary::{App, Identifier, Price};
 use instruments::Instruments;
 use participants::Who;
 
-/// A request for quotes: whose it is, and its identifier (131).
+/// A request for quotes: its participant, and its identifier (131).
 #[derive(Clone, Copy)]
 pub struct Requested {
     pub requester: Who,
     pub request: Identifier,
 }
 
-/// An order, or what takes the place of one, which has that one's link.
+/// An order, or a replacement, which has the link of the order that it replaces.
 #[derive(Clone, Copy)]
 pub struct Ordered {
     pub price: Option<Price>,
@@ -33,12 +33,12 @@ pub struct Crossed {
     pub delay: u64,
 }
 
-/// What came.
+/// The kinds of input.
 #[derive(Clone, Copy)]
 pub enum Trigger {
     Request(Requested),
     Quote,
-    /// the quote that it names (117)
+    /// the quote that it responds to (117)
     Response(Identifier),
     Order(Ordered),
     Cross(Crossed),
@@ -46,7 +46,7 @@ pub enum Trigger {
     Other,
 }
 
-/// The delay of the instrument of a symbol, in milliseconds; nothing where there is none.
+/// The delay of a symbol's instrument, in milliseconds; 0 where there is none.
 fn delay_for(instruments: &Instruments, symbol: &Identifier) -> u64
     ensures { result ≡ delay_of instruments.now (instrument_of instruments.now symbol.now) }
 {
@@ -56,7 +56,7 @@ fn delay_for(instruments: &Instruments, symbol: &Identifier) -> u64
     }
 }
 
-/// The link that a message carries at its row, if it does.
+/// The link that a message carries, with its row, if any.
 fn link_at(row: u64, link: Option<Identifier>) -> Option<Linked>
     ensures { result ≡ link_at row link }
 {
@@ -66,14 +66,14 @@ fn link_at(row: u64, link: Option<Identifier>) -> Option<Linked>
     }
 }
 
-/// The link of the order that a participant has entered under an identifier (11); none where there was none.
+/// The link of the order that a participant entered under an identifier (11), if any.
 fn link_known(words: &[EvidenceEvent], who: Who, id: Identifier) -> Option<Linked>
     ensures { result ≡ link_known words.now who id }
 {
     link_of(words, &Query::Entry(who, id))
 }
 
-/// What a message of a participant at a row is, after what was said before it.
+/// The trigger of a participant's message at a row, after the events before it.
 #[tactic(auto, unfolding(crate::specs::EventKinds::trigger_in))]
 pub fn trigger_in(
     instruments: &Instruments,

@@ -30,11 +30,11 @@ use Rattle.venue_core.specs.Plan.{answer_of, trades_with, with_part}
 use Rattle.venue_core.specs.Read.{IsReadWith, rooms_of}
 use Rattle.venue_core.proofs.Parting.{all-stay, none-stay, book-not-room, book-not-delay, delay-not-book, delay-not-room, room-not-book, room-not-delay, delay-trades}
 
--- the trades among more facts are read back after those before, by the next numbers
+-- the trades among further facts are read after those before, with the next numbers
 abbrev pub AreReadOn : Type 0
 AreReadOn = (fs gs : List Fact) → trade_facts (fs ++ gs) ≡ trade_facts fs ++ read_from (length (trade_facts fs) + 1) (trades gs)
 
--- the rooms are read back as before where no first quote is added, and with one there is its room more
+-- the readings of rooms stay where no first quote is added; a first quote adds its room's
 abbrev pub AreReadAsBefore : Type 0
 AreReadAsBefore = (rs : List RoomFact) (hs added : List Fact) → AreNumbered (room_facts hs) → are_later (room_facts hs) (room_facts added) ≡ true → IsReadOf rs hs → IsReadOf rs (hs ++ added)
 
@@ -48,7 +48,7 @@ read-on before first rs hs added (Some read) numbered next f s =
     (subst (λ (x : RoomFact). IsReadOf (rs ++ x ∷ []) (hs ++ Quoted f.quote ∷ [])) (sym f.shown)
     (first rs hs f.asked f.quote (subst (λ (fs : List Fact). AreNumbered (room_facts hs ++ fs)) f.made next) f.room f.first s))
 
--- how the facts of an answer divide, and which trades are among them
+-- the division of an answer's facts, and the trades among them
 record Divided (facts of_book of_rooms of_delay : List Fact) (traded : List Trade) : Type 0 where
   pub book : filter is_book_fact facts ≡ of_book
   pub rooms : filter is_room_fact facts ≡ of_rooms
@@ -66,7 +66,7 @@ after-divided read p h a book rooms delay traded quoted s d kept = record {
   quoted = kept;
 }
 
--- facts of the book and of held sides divide so, whichever come first
+-- facts of the book and of held sides divide so, in either order
 
 both-kept : (p : Fact → Bool) (book delay : List Fact) (kept more : List Fact) → filter p book ≡ kept → filter p delay ≡ more → filter p (book ++ delay) ≡ kept ++ more
 both-kept p book delay kept more e f = filter-append p book delay ∙ ap (λ fs. fs ++ filter p delay) e ∙ ap (λ fs. kept ++ fs) f
@@ -94,7 +94,7 @@ rooms-divide facts r = record {
   trades = refl;
 }
 
--- what is stood for goes on with each kind of plan
+-- the state after each kind of plan
 
 pub orders-after : AreReadOn → AreReadAsBefore → (p : VenueFacts) (h : History) (a : Parts) → AreNumbered p.rooms → list_all is_book_fact a.book ≡ true → list_all is_delay_fact a.delay ≡ true → IsStanding p h → IsStanding (with_part p (OfOrders a)) (after h (answer_of (OfOrders a)))
 orders-after read before p h a n b d s =
@@ -108,7 +108,7 @@ rooms-after on before first p h a read n next with r s =
     let kept = read-on before first p.quoted h.facts a.facts read (subst AreNumbered (sym s.rooms) n) (subst (λ fs. AreNumbered (fs ++ a.facts)) (sym s.rooms) next) with s.quoted in
     rw (append-nil p.book, append-nil p.delay) at (after-divided on p h a [] a.facts [] (trades a.facts) (p.quoted ++ rooms_of read) s (rooms-divide a.facts r) kept)
 
--- so many trades are read back with those among more facts
+-- as many trades are read as are among further facts
 read-length : (n : ℕ) (ts : List Trade) → length (read_from n ts) ≡ length ts
 read-length n [] = refl
 read-length n (t ∷ ts) = ap (λ k. suc k) (read-length (n + 1) ts)
@@ -116,7 +116,7 @@ read-length n (t ∷ ts) = ap (λ k. suc k) (read-length (n + 1) ts)
 pub with-length : (read : List TradeFact) (facts : List Fact) → length (trades_with read facts) ≡ length read + trades_in facts
 with-length read facts = length-append read (read_from (length read + 1) (trades facts)) ∙ ap (λ k. length read + k) (read-length (length read + 1) (trades facts))
 
--- what is stood for by parts that are equal is the same
+-- equal parts make the same state
 pub same-standing : (b b' r r' d d' : List Fact) (n n' : ℕ) (k k' : List TradeFact) (q q' : List RoomFact) → b ≡ b' → r ≡ r' → d ≡ d' → n ≡ n' → k ≡ k' → q ≡ q'
     → (let p : VenueFacts = record { book = b; rooms = r; delay = d; reports = n; trades = k; quoted = q } in p) ≡ (let p : VenueFacts = record { book = b'; rooms = r'; delay = d'; reports = n'; trades = k'; quoted = q' } in p)
 same-standing b b' r r' d d' n n' k k' q q' e f g h i j = cc

@@ -34,7 +34,7 @@ use Rattle.rfq_room.specs.Emitted.{quote_emitted, request_emitted, response_refu
 use Rattle.trade_history.specs.ReadOf.{are_later}
 use Rattle.venue_core.specs.Read.{IsReadWith, quote_read, read_in}
 
--- What is found by one test is found by one that passes less, if it passes that.
+-- An element found by one test is found by a stricter one that it passes.
 
 found-passes : {X : Type 0} (p : X → Bool) (xs : List X) (x : X) → find p xs ≡ Some x → p x ≡ true
 found-passes p [] x found = cc
@@ -60,13 +60,13 @@ same-number a b h = grind (arith, nat_tests)
 own-number : (a : ℕ) → (a == a) ≡ true
 own-number a = grind (arith, nat_tests)
 
--- a room that is found by its identifier is found by its number
+-- a room found by its identifier is found by its number
 room-named : (facts : List Fact) (id : List ℕ) (r : Room) → find_room facts id ≡ Some r → room_by_number facts r.number ≡ Some r
 room-named facts id r found =
     found-narrower (λ (y : Room). bytes_eq (printed 82 y.number) id) (λ (y : Room). y.number == r.number) (rooms facts) r found (own-number r.number)
     (λ y same. ap (λ n. bytes_eq (printed 82 n) id) (same-number y.number r.number same) ∙ found-passes (λ (y : Room). bytes_eq (printed 82 y.number) id) (rooms facts) r found)
 
--- What is read off the replies to a quote is right.
+-- The reading of the replies to a quote is right.
 
 abbrev pub QuoteLaw : Type 0
 QuoteLaw = (m : Market) (h : History) (s : Sender) (d : Quote) (t : ℕ) → answer_quote m h s d t ≡ quote_emitted m h s d (find_room (room_facts h.facts) d.request_id) (quote_cause m (room_facts h.facts) s.who d t)
@@ -74,7 +74,7 @@ QuoteLaw = (m : Market) (h : History) (s : Sender) (d : Quote) (t : ℕ) → ans
 abbrev pub FirstLaw : Type 0
 FirstLaw = (fs : List Fact) (room : ℕ) → first_quote fs room ≡ first_quote (room_facts fs) room
 
--- the answer to a quote that is accepted, by the first quote of the room
+-- the answer to an accepted quote, by the first quote of the room
 abbrev accepted_after : Market → History → Sender → Room → Quote → Option RoomQuote → Answer
 accepted_after m h s r d first =
     let q = quoted h s r d in
@@ -100,7 +100,7 @@ quote-is-read law first m h s d t kept a same is =
     (subst (λ (b : Answer). IsReadWith h.facts b.facts (quote_read (room_facts h.facts) b)) (sym (is ∙ law m h s d t))
     (emitted-read first m h s d (find_room (room_facts h.facts) d.request_id) (quote_cause m (room_facts h.facts) s.who d t) refl))
 
--- The other messages of rooms add no quote.
+-- The other room messages add no quote.
 
 abbrev pub RequestLaw : Type 0
 RequestLaw = (m : Market) (h : History) (s : Sender) (d : QuoteRequest) (t : ℕ) → answer_request m h s d t ≡ request_emitted m h s d t (request_cause m (room_facts h.facts) s.who d t)

@@ -21,7 +21,7 @@ made-added m d (OfRooms a read) made = (made.plan, made.trades, made.read)
 passes : (p : Fact → Bool) (fs gs : List Fact) → fs ≡ gs → list_all p gs ≡ true → list_all p fs ≡ true
 passes p fs gs e h = ap (λ xs. list_all p xs) e ∙ h
 
--- what is kept stays for listed instruments and known participants with what is added
+-- the additions keep to listed instruments and known participants
 pub still-listed : (m : Market) (d d' : VenueState) (p : Part) → standing d' ≡ with_part (standing d) p → AreNumbered d'.rooms.facts → IsMade m d p → IsListed m d → IsListed m d'
 still-listed m d d' (OfOrders a) e n made l = record {
   book = passes (is_listed (length m.instruments)) d'.book.facts (d.book.facts ++ a.book) (ap (λ (s : VenueFacts). s.book) e) (both-all (is_listed (length m.instruments)) d.book.facts a.book l.book made.parts.book_listed);
@@ -38,7 +38,7 @@ still-listed m d d' (OfRooms a read) e n made l = record {
   numbered = n;
 }
 
--- and with other room for more
+-- and so does other spare capacity
 pub same-listed : (m : Market) (d d' : VenueState) → standing d' ≡ standing d → IsListed m d → IsListed m d'
 same-listed m d d' e l = record {
   book = passes (is_listed (length m.instruments)) d'.book.facts d.book.facts (ap (λ (s : VenueFacts). s.book) e) l.book;

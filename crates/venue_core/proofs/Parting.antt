@@ -10,7 +10,7 @@ use Rattle.price_book.specs.BookFacts.{is_book_fact, is_in_book}
 use Rattle.rfq_room.specs.RoomFacts.{is_room_fact, is_in_room}
 use Rattle.cross_delay.specs.DelayFacts.{is_delay_fact}
 
--- What all pass stays, and what none passes goes.
+-- A filter keeps what all pass, and drops what none passes.
 
 stays : {X : Type 0} (p : X → Bool) (x : X) (xs : List X) (b : Bool) → (list_all p xs ≡ true → filter p xs ≡ xs) → (b && list_all p xs) ≡ true → cond b (x ∷ filter p xs) (filter p xs) ≡ x ∷ xs
 stays p x xs true rest h = ap (λ ys. x ∷ ys) (rest h)
@@ -28,7 +28,7 @@ pub none-stay : {X : Type 0} (p q : X → Bool) (xs : List X) → ((x : X) → p
 none-stay p q [] other h = refl
 none-stay p q (x ∷ xs) other h = goes p q x xs (p x) (other x) (λ k. none-stay p q xs other k) h
 
--- of two lists together, what is left once the first is known
+-- of two lists appended, what is left once the first is known
 pub rest-all : {X : Type 0} (p : X → Bool) (xs ys : List X) → list_all p (xs ++ ys) ≡ true → list_all p ys ≡ true
 rest-all p xs ys h = second (list_all p xs) (list_all p ys) (sym (list_all-append p xs ys) ∙ h)
   where

@@ -8,7 +8,7 @@ use Rattle.venue_core.specs.State.{VenueFacts, State}
 use Rattle.venue_core.specs.VenueFacts.{IsAfter, IsAnswer, IsHistory, IsStanding}
 use Rattle.venue_core.specs.Taking.{IsSame, Stands, Takes, TakesAll}
 
--- a run of one input more is the run, and then its answer
+-- a run with a further input: the run, and then its answer
 abbrev one_more : Market → Outcome → Input → Outcome
 one_more m o i = record { history = after o.history (answer_input m o.history i); replies = o.replies ++ (answer_input m o.history i).replies }
 
@@ -22,7 +22,7 @@ run-more : (m : Market) (h : History) (is : List Input) (i : Input) → run_from
 run-more m h [] i = ap (λ replies. let p : Outcome = record { history = after h (answer_input m h i); replies = replies } in p) (append-nil (answer_input m h i).replies)
 run-more m h (j ∷ is) i = ap (behind (answer_input m h j).replies) (run-more m (after h (answer_input m h j)) is i) ∙ behind-more m (answer_input m h j).replies (run_from m (after h (answer_input m h j)) is) i
 
--- the answer that is taken is that of the rules, by the market in question
+-- the answer taken is that of the rules, in this market
 taken-answer : (m : Market) (h : History) (i : Input) (s s' : State) (a : Answer) → s.market ≡ m → IsHistory s h → Takes s i a s' → a ≡ answer_input m h i
 taken-answer m h i s s' a e stands takes = takes.answers h stands ∙ ap (λ (n : Market). answer_input n h i) e
 

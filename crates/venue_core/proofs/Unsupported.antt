@@ -15,7 +15,7 @@ use Rattle.venue_rules.specs.Facts.{History}
 use Rattle.venue_rules.specs.Market.{Market}
 use Rattle.order_handler.specs.Market.{sender}
 
--- a message of what only the venue sends, or of no known type
+-- a message of an unknown type, or of one that only the venue sends
 abbrev pub IsUnsupported : App → Type 0
 IsUnsupported app =
     ((x : StatusReport) × (app ≡ QuoteStatusReport x))

@@ -1,14 +1,14 @@
 -- the market of the files
 pub mod Files
--- what a venue is seen as
+-- the model of a venue
 pub mod State
--- the histories that it stands for
+-- the histories of a venue's state
 pub mod VenueFacts
--- what is read back of the first quote of a room
+-- the reading of a room's first quote
 pub mod Read
--- what an input adds, and what it asks to be added
+-- the additions of an input, and their conditions
 pub mod Plan
 -- inputs taken one after another
 pub mod Taking
--- what rows tell, as they are replayed
+-- the inputs of rows, as they are replayed
 pub mod Replay

@@ -23,32 +23,32 @@ use Rattle.venue_core.specs.State.{VenueFacts, State, standing}
 use Rattle.venue_core.specs.Read.{IsReadWith, read_count, rooms_of}
 use Rattle.venue_core.specs.VenueFacts.{IsAnswer, IsStanding}
 
--- the answer that a plan is
+-- the answer of a plan
 abbrev pub answer_of : Part → Answer
 answer_of (OfOrders a) = answer_of_orders a
 answer_of (OfRooms a read) = a
 
--- this is the answer whatever history is stood for
+-- this is the answer in every history of the state
 abbrev pub IsPlanned : VenueFacts → (History → Answer) → Part → Type 0
 IsPlanned p answer a = (h : History) → IsStanding p h → answer_of a ≡ answer h
 
--- there is room for the trades among these facts, which are no more than one input makes
+-- spare capacity for the trades among these facts, at most one input's
 pub record HasTradeRoom (d : VenueState) (facts : List Fact) : Type 0 where
   pub room : trades_in facts ≤ d.traded.room
   pub few : trades_in facts ≤ 200
 
--- the parts may be applied, and there is room for their trades
+-- the parts may be applied, with spare capacity for their trades
 pub record IsOrderMade (m : Market) (d : VenueState) (a : Parts) : Type 0 where
   pub parts : AreOrdersMade (length m.instruments) d.book d.held a
   pub trades : HasTradeRoom d a.book
 
--- this is read back with these facts, whatever history is stood for, and there is room for it
+-- the reading added with these facts, in every history of the state, with spare capacity for it
 pub record IsReadAdded (d : VenueState) (facts : List Fact) (read : Option RoomFact) : Type 0 where
   pub room : read_count read ≤ d.quoted.room
   pub right : (h : History) → IsStanding (standing d) h → IsReadWith h.facts facts read
 
--- the facts are those of a step of the rooms, and there is room for them and their trades; they are for listed instruments, and of known
--- participants; and this is read back with them
+-- the facts of a step of the rooms, within capacity with their trades, for listed instruments and known participants,
+-- and with this reading
 pub record IsRoomMade (m : Market) (d : VenueState) (a : Answer) (first : Option RoomFact) : Type 0 where
   pub plan : IsRoomPlan d.rooms a.facts
   pub trades : HasTradeRoom d a.facts
@@ -56,26 +56,26 @@ pub record IsRoomMade (m : Market) (d : VenueState) (a : Answer) (first : Option
   pub known : are_known (length m.participants.names) a.facts ≡ true
   pub read : IsReadAdded d a.facts first
 
--- the facts may be added to the book, the held sides, the rooms and the trades as they are
+-- the facts may be added to the book, the held sides, the rooms and the trades
 abbrev pub IsMade : Market → VenueState → Part → Type 0
 IsMade m d (OfOrders a) = IsOrderMade m d a
 IsMade m d (OfRooms a read) = IsRoomMade m d a read
 
--- there is room for what is added to the book, the held sides, the rooms and what is read back
+-- spare capacity for the additions to the book, the held sides, the rooms and the readings
 abbrev pub IsAddedTo : VenueState → Part → Type 0
 IsAddedTo d (OfOrders a) = IsBookPlan d.book a.book × IsDelayPlan d.held a.delay × HasTradeRoom d a.book
 IsAddedTo d (OfRooms a read) = IsRoomPlan d.rooms a.facts × HasTradeRoom d a.facts × IsReadAdded d a.facts read
 
--- the trades read back, and then those among these facts, by the next numbers
+-- the readings of trades, and those among these facts, with the next numbers
 abbrev pub trades_with : List TradeFact → List Fact → List TradeFact
 trades_with read facts = read ++ read_from (length read + 1) (trades facts)
 
--- what is stood for with a plan's facts, its count of reports, its trades and what is read back of its quote added
+-- the state with a plan's facts, reports, trades and the reading of its quote
 abbrev pub with_part : VenueFacts → Part → VenueFacts
 with_part p (OfOrders a) = record { book = p.book ++ a.book; rooms = p.rooms; delay = p.delay ++ a.delay; reports = p.reports + reports_in a.replies; trades = trades_with p.trades a.book; quoted = p.quoted }
 with_part p (OfRooms a read) = record { book = p.book; rooms = p.rooms ++ a.facts; delay = p.delay; reports = p.reports + reports_in a.replies; trades = trades_with p.trades a.facts; quoted = p.quoted ++ rooms_of read }
 
--- what is kept is for listed instruments, and of known participants, and its rooms and quotes have their numbers in order
+-- listed instruments and known participants alone, with rooms and quotes numbered in order
 pub record IsListed (m : Market) (d : VenueState) : Type 0 where
   pub book : are_listed (length m.instruments) d.book.facts ≡ true
   pub delay : are_listed (length m.instruments) d.held.facts ≡ true
@@ -83,15 +83,15 @@ pub record IsListed (m : Market) (d : VenueState) : Type 0 where
   pub known : are_known (length m.participants.names) d.rooms.facts ≡ true
   pub numbered : AreNumbered d.rooms.facts
 
--- the counts leave room for those of more inputs
+-- counts small enough for further inputs
 abbrev pub AreFew : VenueState → Type 0
 AreFew d = (d.reports < 2 ^ 61) × (length d.traded.trades < 2 ^ 61)
 
--- how many items a venue takes
+-- the most items that a venue takes
 abbrev pub most_items : ℕ
 most_items = 10 ^ 15
 
--- the plan is the answer to an input whatever history the venue stands for, and may be applied as the venue is
+-- the plan is the answer to an input in every history of the venue's state, and may be applied to it
 pub record IsPlanOf (s : State) (p : Part) : Type 0 where
   pub input : Input
   pub answers : IsAnswer s input (answer_of p)

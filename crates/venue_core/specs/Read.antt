@@ -17,9 +17,9 @@ use Rattle.rfq_handler.specs.Read.{first_made}
 use Rattle.trade_history.specs.Quoted.{room_shown}
 use Rattle.trade_history.specs.ReadOf.{are_later}
 
--- What is read back of a quote that is the first of its room.
+-- The reading of a room's first quote.
 
--- these facts, added to those, are the first quote of a room; what is read back of it is the room, with what rests in the book
+-- the added facts have the first quote of a room; its reading is the room, with what rests in the book
 pub record IsFirstQuote (facts added : List Fact) (read : RoomFact) : Type 0 where
   pub asked : Room
   pub quote : RoomQuote
@@ -28,12 +28,12 @@ pub record IsFirstQuote (facts added : List Fact) (read : RoomFact) : Type 0 whe
   pub first : first_quote (room_facts facts) quote.room ≡ None
   pub shown : read ≡ room_shown asked quote.number (picture facts asked.instrument)
 
--- this is read back of the facts added to those: nothing where no quote among them is the first of its room
+-- the reading of the added facts: none without the first quote of a room
 abbrev pub IsReadWith : List Fact → List Fact → Option RoomFact → Type 0
 IsReadWith facts added None = are_later (room_facts facts) (room_facts added) ≡ true
 IsReadWith facts added (Some read) = IsFirstQuote facts added read
 
--- how many rooms that is, and which
+-- the count and list of such readings
 abbrev pub read_count : Option RoomFact → ℕ
 read_count None = 0
 read_count (Some read) = 1
@@ -42,7 +42,8 @@ abbrev pub rooms_of : Option RoomFact → List RoomFact
 rooms_of None = []
 rooms_of (Some read) = read ∷ []
 
--- Read off the answer to a quote: the first of a room is answered to its maker, then come the picture of the book and the quote itself.
+-- From the answer to a quote: for a room's first quote, the status to its maker, the book snapshot, and the quote
+-- itself.
 
 abbrev pub picture_of : ReplyBody → Option (List SnapshotEntry)
 picture_of (BookSnapshot p) = Some p.entries
@@ -58,6 +59,6 @@ read_in (Some entries) None room = None
 read_in (Some entries) (Some q) None = None
 read_in (Some entries) (Some q) (Some r) = Some (room_shown r q.number entries)
 
--- what is read back of a quote, by the answer to it
+-- the reading of a quote, by the answer to it
 abbrev pub quote_read : List Fact → Answer → Option RoomFact
 quote_read rooms a = read_in (picture_in (slice_get a.replies 1)) (first_made a.facts) (room_with rooms (first_made a.facts))

@@ -6,7 +6,7 @@ use Rattle.venue_rules.specs.Run.{Input, run}
 use Rattle.venue_core.specs.State.{State, standing}
 use Rattle.venue_core.specs.VenueFacts.{IsAfter, IsAnswer, IsHistory}
 
--- a venue of this market stands where these inputs lead
+-- a venue of this market in the state of these inputs
 pub record Stands (m : Market) (is : List Input) (s : State) : Type 0 where
   pub market : s.market ≡ m
   pub history : IsHistory s (run m is).history
@@ -17,12 +17,12 @@ pub record Takes (s : State) (i : Input) (a : Answer) (s' : State) : Type 0 wher
   pub answers : IsAnswer s i a
   pub goes : IsAfter s a s'
 
--- a venue that stands as another does
+-- a venue in the same state as another
 pub record IsSame (s s' : State) : Type 0 where
   pub market : s'.market ≡ s.market
   pub day : standing s'.day ≡ standing s.day
 
--- a venue takes an input first, with these replies, and then others
+-- a venue takes an input with these replies, and then others
 pub record TakesFirst (s : State) (i : Input) (replies : List Reply) (then : State → List Reply → Type 0) : Type 0 where
   pub first : Answer
   pub between : State

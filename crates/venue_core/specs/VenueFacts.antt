@@ -9,7 +9,8 @@ use Rattle.cross_delay.specs.DelayFacts.{delay_facts}
 use Rattle.trade_history.specs.ReadOf.{IsReadOf}
 use Rattle.venue_core.specs.State.{VenueFacts, State, standing}
 
--- these are the facts of the book, of the rooms and of the held sides of a history, its count of reports, and its trades, and its rooms in which there was a quote, as they are read back
+-- the facts of the book, of the rooms and of the held sides of a history, its count of reports, and the readings of its
+-- trades and of its rooms with a quote
 pub record IsStanding (p : VenueFacts) (h : History) : Type 0 where
   pub book : book_facts h.facts ≡ p.book
   pub rooms : room_facts h.facts ≡ p.rooms
@@ -18,14 +19,14 @@ pub record IsStanding (p : VenueFacts) (h : History) : Type 0 where
   pub trades : trade_facts h.facts ≡ p.trades
   pub quoted : IsReadOf p.quoted h.facts
 
--- the venue stands for this history
+-- this is a history of the venue's state
 abbrev pub IsHistory : State → History → Type 0
 IsHistory s h = IsStanding (standing s.day) h
 
--- this is the answer of the rules to the input, whatever history the venue stands for
+-- this is the rules' answer to the input, in every history of the venue's state
 abbrev pub IsAnswer : State → Input → Answer → Type 0
 IsAnswer s i a = (h : History) → IsHistory s h → a ≡ answer_input s.market h i
 
--- the venue comes to stand for what every history that it stood for is after the answer
+-- every history of the state, extended by the answer, is one of the state afterwards
 abbrev pub IsAfter : State → Answer → State → Type 0
 IsAfter s a s' = (h : History) → IsHistory s h → IsHistory s' (after h a)

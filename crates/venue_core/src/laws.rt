@@ -1,4 +1,4 @@
-//! What a venue comes to that takes inputs one after another.
+//! Laws of a venue that takes inputs one after another.
 ghost use Rattle.std.specs.Prelude.{◌≡◌, List, [], ◌∷◌, ◌++◌};
 ghost use Rattle.venue_rules.specs.declared.replies.Reply.{Reply};
 ghost use Rattle.venue_rules.specs.declared.trail.TrailRow.{TrailRow};
@@ -15,8 +15,8 @@ ghost use Rattle.venue_core.specs.Taking.{IsSame, Stands, Takes, TakesAll};
 use fix_decoder::printed_is_read;
 use venue_rules::every_run_is_lawful;
 
-/// A venue on which nothing had happened, and that takes inputs one after another, stands where the rules' run of these
-/// inputs leads, and its replies are those of the run; so it keeps all laws of the venue.
+/// A new venue that takes inputs one after another is in the state of the rules' run of these inputs, with the run's
+/// replies; so it keeps all laws of the venue.
 pub fn every_day_is_lawful()
     ensures run { (m : Market) (is : List Input) (s s' : State) (replies : List Reply) → s.market ≡ m → IsHistory s no_history → TakesAll s is replies s' → Stands m is s' × (replies ≡ (run m is).replies) }
     ensures lawful { (m : Market) (is : List Input) → Lawful m is }
@@ -24,16 +24,15 @@ pub fn every_day_is_lawful()
     every_run_is_lawful();
 }
 
-/// A plan that is the answer to an input, and then its application, take the input. A venue that stands where inputs
-/// lead, and takes one input more, stands where those and that one lead; the run's replies are those before, and then
-/// the answer's.
+/// Applying the plan that answers an input takes the input. A venue in the state of some inputs that takes a further
+/// one is in the state of those and that one; the run's replies are those before, then the answer's.
 pub fn day_goes_on()
     ensures takes { (i : Input) (s between s' : State) (a : Answer) → IsSame s between → IsAnswer s i a → s'.market ≡ between.market → IsAfter between a s' → Takes s i a s' }
     ensures stands { (m : Market) (is : List Input) (i : Input) (s s' : State) (a : Answer) → Stands m is s → Takes s i a s' → Stands m (is ++ i ∷ []) s' }
     ensures replies { (m : Market) (is : List Input) (i : Input) (s s' : State) (a : Answer) → Stands m is s → Takes s i a s' → (run m (is ++ i ∷ [])).replies ≡ (run m is).replies ++ a.replies }
 {}
 
-/// What the rows of inputs tell is these inputs, where their messages have values of the dictionary's forms.
+/// The rows of inputs stand for these inputs, where their messages have values of the dictionary's forms.
 pub fn rows_emit_their_inputs()
     ensures { (rs : List TrailRow) (is emitted : List Input) → rs ≡ rows is → AreFitting is → AreEmitted rs emitted → emitted ≡ is }
 {

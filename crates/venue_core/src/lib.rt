@@ -1,4 +1,4 @@
-//! The venue: what it answers to a message, and what it is after it (17 CFR 37.3(a)(3), 37.9(a)(2), (b)(1)).
+//! The venue: its answer to each input, and its state afterwards (17 CFR 37.3(a)(3), 37.9(a)(2), (b)(1)).
 #![tactic(auto)]
 
 mod laws;

@@ -1,14 +1,13 @@
-//! The participants and the instruments of a venue.
+//! Participants and instruments of a venue.
 use instruments::Instruments;
 use participants::Participants;
 
-/// The two files of a venue.
 pub(crate) struct Market {
     pub participants: Participants,
     pub instruments: Instruments,
 }
 
-// Written out, so that a proof sees one call where it is dropped, and not the drop of each part.
+// Written-out drop (docs/ARCHITECTURE.md).
 impl Drop for Market {
     fn drop(self) {
         let Market {

@@ -1,4 +1,4 @@
-//! A message by its type.
+//! Dispatch of messages by type.
 ghost use Rattle.std.specs.Prelude.{◌≡◌, IfOk};
 ghost use Rattle.venue_rules.specs.Answers.{answer};
 ghost use Rattle.venue_core.specs.Files.{market_of};
@@ -16,7 +16,7 @@ use sef_moment::Moment;
 use std::alloc::{AllocError, Global};
 use venue_rules::Taken;
 
-/// What a message would do; makes room for it.
+/// Plans a message, and reserves memory for it.
 pub(crate) fn plan_message(
     alloc: Global,
     market: &Market,

@@ -1,4 +1,4 @@
-//! Messages of orders, and held sides whose moment comes.
+//! Plans of order messages, and of held sides that come due.
 ghost use Rattle.std.specs.Prelude.{◌≡◌, IfOk};
 ghost use Rattle.venue_rules.specs.Changes.{answer_cancel, answer_replace};
 ghost use Rattle.venue_rules.specs.Crosses.{answer_cross};
@@ -20,7 +20,7 @@ use sef_moment::Moment;
 use std::alloc::{AllocError, Global};
 use venue_rules::Taken;
 
-/// What an order (NewOrderSingle, D) would do; makes room for it.
+/// Plans an order (NewOrderSingle, D), and reserves memory for it.
 pub(crate) fn plan_order(
     alloc: Global,
     market: &Market,
@@ -51,7 +51,7 @@ pub(crate) fn plan_order(
     Ok(Plan::of_orders(answer))
 }
 
-/// What a cancel (OrderCancelRequest, F) would do; makes room for it.
+/// Plans a cancel (OrderCancelRequest, F), and reserves memory for it.
 pub(crate) fn plan_cancel(
     alloc: Global,
     market: &Market,
@@ -80,7 +80,7 @@ pub(crate) fn plan_cancel(
     Ok(Plan::of_orders(answer))
 }
 
-/// What a replacement (OrderCancelReplaceRequest, G) would do; makes room for it.
+/// Plans a replacement (OrderCancelReplaceRequest, G), and reserves memory for it.
 pub(crate) fn plan_replace(
     alloc: Global,
     market: &Market,
@@ -111,7 +111,7 @@ pub(crate) fn plan_replace(
     Ok(Plan::of_orders(answer))
 }
 
-/// What a request for market data (MarketDataRequest, V) is answered.
+/// Plans the answer to a request for market data (MarketDataRequest, V).
 pub(crate) fn plan_prices(
     alloc: Global,
     market: &Market,
@@ -133,7 +133,7 @@ pub(crate) fn plan_prices(
     Ok(Plan::of_orders(answer))
 }
 
-/// What a cross (NewOrderCross, s) would do; makes room for it.
+/// Plans a cross (NewOrderCross, s), and reserves memory for it.
 pub(crate) fn plan_cross(
     alloc: Global,
     market: &Market,
@@ -164,7 +164,7 @@ pub(crate) fn plan_cross(
     Ok(Plan::of_orders(answer))
 }
 
-/// What the first held side that is due would do; makes room for it.
+/// Plans the first held side due, and reserves memory for it.
 pub(crate) fn plan_due(
     alloc: Global,
     market: &Market,

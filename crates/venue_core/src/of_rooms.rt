@@ -1,4 +1,4 @@
-//! Messages of rooms.
+//! Plans of room messages.
 ghost use Rattle.std.specs.Prelude.{◌≡◌, codes, option_map, IfOk};
 ghost use Rattle.venue_rules.specs.Quotes.{answer_quote};
 ghost use Rattle.venue_rules.specs.Requests.{answer_request};
@@ -22,7 +22,6 @@ use std::alloc::{AllocError, Global};
 use trade_history::quoted_room;
 use venue_rules::{Reply, ReplyBody, RoomFact, SnapshotEntries, Taken};
 
-/// Who sent a message.
 fn sender(taken: &Taken) -> Sender
     ensures { result ≡ record { who = taken.now.from; number = taken.now.item.number } }
 {
@@ -32,7 +31,7 @@ fn sender(taken: &Taken) -> Sender
     }
 }
 
-/// What a request for quotes (QuoteRequest, R) would do; makes room for it.
+/// Plans a request for quotes (QuoteRequest, R), and reserves memory for it.
 pub(crate) fn plan_request(
     alloc: Global,
     market: &Market,
@@ -62,7 +61,7 @@ pub(crate) fn plan_request(
     Ok(Plan::of_rooms(answer, None))
 }
 
-// The picture of the book that a reply is.
+// The book snapshot in a reply, if it is one.
 fn picture_in(reply: Option<&Reply>) -> Option<&SnapshotEntries>
     ensures { option_map (λ e. e.now) result ≡ picture_in (option_map (λ r. r.now) reply.entry) }
 {
@@ -72,7 +71,7 @@ fn picture_in(reply: Option<&Reply>) -> Option<&SnapshotEntries>
     }
 }
 
-// What is read back of a quote, if it is the first of its room: then the second reply is the picture of the book.
+// Reading of a room's first quote; there the second reply is the book snapshot.
 fn quote_read(
     alloc: Global,
     rooms: &Rooms,
@@ -93,7 +92,7 @@ fn quote_read(
     Ok(Some(read))
 }
 
-/// What a quote (Quote, S) would do; makes room for it.
+/// Plans a quote (Quote, S), and reserves memory for it.
 pub(crate) fn plan_quote(
     alloc: Global,
     market: &Market,
@@ -127,7 +126,7 @@ pub(crate) fn plan_quote(
     Ok(Plan::of_rooms(answer, read))
 }
 
-/// What a withdrawal of quotes (QuoteCancel, Z) would do; makes room for it.
+/// Plans a withdrawal of quotes (QuoteCancel, Z), and reserves memory for it.
 pub(crate) fn plan_withdrawal(
     alloc: Global,
     market: &Market,
@@ -156,7 +155,7 @@ pub(crate) fn plan_withdrawal(
     Ok(Plan::of_rooms(answer, None))
 }
 
-/// What an answer to a quote (QuoteResponse, AJ) would do; makes room for it.
+/// Plans a quote response (QuoteResponse, AJ), and reserves memory for it.
 pub(crate) fn plan_response(
     alloc: Global,
     market: &Market,

@@ -1,4 +1,4 @@
-//! What an input adds to the venue, before it does.
+//! Plans: the additions of an input to the venue.
 ghost use Rattle.std.specs.Prelude.{◌≡◌, ◌≤◌};
 ghost use Rattle.venue_core.specs.Plan.{answer_of};
 ghost use Rattle.venue_core.specs.declared.plan.Part.TheVariants.{OfOrders, OfRooms};
@@ -8,19 +8,19 @@ use rfq_handler::RoomAnswer;
 use std::marker::Model;
 use venue_rules::{Reply, RoomFact};
 
-/// What orders answer, or what rooms do, with what is read back of a quote that is the first of its room: no input adds to both.
+/// An answer about orders, or one about rooms with the reading of a room's first quote; no input has both.
 #[derive(Drop)]
 pub(crate) enum Part {
     OfOrders(OrderAnswer),
     OfRooms(RoomAnswer, Option<RoomFact>),
 }
 
-/// The facts that the venue gains, and the replies, in order.
+/// The facts that the venue gains, and the replies in order.
 pub struct Plan {
     part: Part,
 }
 
-// Written out, so that a proof sees one call where it is dropped, and not the drop of each part.
+// Written-out drop (docs/ARCHITECTURE.md).
 impl Drop for Plan {
     fn drop(self) {
         let Plan { part: _part } = self;

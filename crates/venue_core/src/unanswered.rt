@@ -22,7 +22,7 @@ pub(crate) fn plan_nothing(alloc: Global) -> Plan
     Plan::of_orders(answer)
 }
 
-/// A message of a type that only the venue sends, or of none that is known, is not processed.
+/// Refuses a message of an unknown type, or of one that only the venue sends.
 pub(crate) fn plan_unsupported(alloc: Global, taken: &Taken) -> Result<Plan, AllocError>
     ensures planned { IfOk result (λ p. (s : VenueFacts) → IsPlanned s (λ h. business_reject (sender taken.now) UnsupportedMessageType) p) }
     ensures made { IfOk result (λ p. (m : Market) (d : DayValue) → IsMade m d p) }

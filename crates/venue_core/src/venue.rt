@@ -1,4 +1,4 @@
-//! The venue: its files, its day, and how far it has come.
+//! The venue: its files, the day's state, and the count of items.
 ghost use Rattle.std.specs.Prelude.{◌≡◌, ◌≤◌, ◌+◌, option_map, IfOk, is_some};
 ghost use Rattle.venue_rules.specs.Delay.{due};
 ghost use Rattle.venue_rules.specs.Facts.{History, no_history};
@@ -21,7 +21,7 @@ use std::alloc::{AllocError, Global};
 use std::marker::Model;
 use venue_rules::{RoomFact, Taken, TradeFact};
 
-/// A swap execution facility: what it answers to each message, and what has happened on it.
+/// A swap execution facility: its state, and its answer to each input.
 pub struct Venue {
     alloc: Global,
     market: Market,
@@ -29,7 +29,7 @@ pub struct Venue {
     items: u64,
 }
 
-// Written out, so that a proof sees one call where it is dropped, and not the drop of each part.
+// Written-out drop (docs/ARCHITECTURE.md).
 impl Drop for Venue {
     fn drop(self) {
         let Venue {
@@ -55,7 +55,7 @@ impl Model for Venue {
 }
 
 impl Venue {
-    /// A venue of these participants and instruments, on which nothing has happened.
+    /// A venue of these participants and instruments, with an empty history.
     pub fn open(
         alloc: Global,
         participants: Participants,
@@ -76,14 +76,12 @@ impl Venue {
         })
     }
 
-    /// The participants.
     pub fn participants(&self) -> &Participants
         ensures { result.now ≡ self.now.market.participants }
     {
         &self.market.participants
     }
 
-    /// The instruments.
     pub fn instruments(&self) -> &Instruments
         ensures { result.now ≡ self.now.market.instruments }
     {
@@ -98,22 +96,22 @@ impl Venue {
         self.day.held.due(moment).is_some()
     }
 
-    /// The trades so far, in order: each has its place, from 1, as its number.
+    /// The trades so far, in order, numbered by their places from 1.
     pub fn trades(&self) -> &[TradeFact]
         ensures { (h : History) → IsHistory self.now h → result.now ≡ trade_facts h.facts }
     {
         self.day.traded.as_slice()
     }
 
-    /// The room with this number as it is read back, if there was a quote in it: the first of them, and what the requester was
-    /// shown with it.
+    /// Reading of the room with this number, if it had a quote: its first quote, and the orders shown to the requester
+    /// with it.
     pub fn room(&self, number: u64) -> Option<&RoomFact>
         ensures { (h : History) → IsHistory self.now h → option_map (λ f. f.now) result ≡ room_fact h.facts number }
     {
         self.day.quoted.find(number)
     }
 
-    /// What the venue would do at a message taken at a moment; makes room for it. At most 10^15 items came before.
+    /// Plans a message taken at a moment, and reserves memory for it. At most 10^15 items came before.
     pub fn plan(&mut self, taken: &Taken, moment: Moment) -> Result<Plan, AllocError>
         requires { self.old.items ≤ most_items }
         ensures market { self.new.market ≡ self.old.market }
@@ -125,8 +123,8 @@ impl Venue {
         plan_message(self.alloc, &self.market, &mut self.day, taken, moment)
     }
 
-    /// What the venue would do at a tick: the first held side that is due enters, that one alone; makes room for it. At
-    /// most 10^15 items came before.
+    /// Plans a tick: the first held side due enters, that one alone. Reserves memory for it. At most 10^15 items came
+    /// before.
     pub fn plan_tick(&mut self, moment: Moment) -> Result<Plan, AllocError>
         requires { self.old.items ≤ most_items }
         ensures market { self.new.market ≡ self.old.market }
@@ -138,7 +136,7 @@ impl Venue {
         plan_due(self.alloc, &self.market, &mut self.day, moment)
     }
 
-    /// Does what a plan says that was made from this state, before any other plan was.
+    /// Applies a plan made from this state; a later plan invalidates it. Takes no memory.
     pub fn apply(&mut self, plan: Plan)
         requires { IsPlanOf self.old plan }
         ensures market { self.new.market ≡ self.old.market }

@@ -1,4 +1,4 @@
-//! What a venue keeps of its day, and what a plan adds to it.
+//! State of a venue's day, and the effect of a plan on it.
 ghost use Rattle.std.specs.Prelude.{◌≡◌, ◌≤◌, ◌+◌, ◌++◌, [], length};
 ghost use Rattle.venue_rules.specs.Facts.{History};
 ghost use Rattle.venue_rules.specs.Run.{after};
@@ -22,8 +22,8 @@ use trade_history::{
 };
 use venue_rules::RoomFact;
 
-/// The book, the rooms and the held sides of a day, how many execution reports (message 8) there were, and what is read back:
-/// its trades, and its rooms in which there was a quote.
+/// Book, rooms and held sides of a day, the count of execution reports (message 8), and the readings of its trades and
+/// of its rooms with a quote.
 pub(crate) struct VenueState {
     pub book: PriceBook,
     pub rooms: Rooms,
@@ -33,7 +33,7 @@ pub(crate) struct VenueState {
     pub quoted: QuotedRooms,
 }
 
-// Written out, so that a proof sees one call where it is dropped, and not the drop of each part.
+// Written-out drop (docs/ARCHITECTURE.md).
 impl Drop for VenueState {
     fn drop(self) {
         let VenueState {
@@ -47,7 +47,6 @@ impl Drop for VenueState {
     }
 }
 
-/// A day on which nothing has happened.
 pub(crate) fn new_day(alloc: Global) -> VenueState
     ensures { standing result ≡ record { book = []; rooms = []; delay = []; reports = 0; trades = []; quoted = [] } }
 {
@@ -61,7 +60,7 @@ pub(crate) fn new_day(alloc: Global) -> VenueState
     }
 }
 
-/// How many reports and trades there were.
+/// Counts of reports and trades.
 pub(crate) fn counts(day: &VenueState) -> Counts
     ensures value { result ≡ record { reports = day.now.reports; trades = length day.now.traded.trades } }
     ensures read { (h : History) → IsStanding (standing day.now) h → IsRead h day.now.book.facts day.now.held.facts result }
@@ -73,7 +72,7 @@ pub(crate) fn counts(day: &VenueState) -> Counts
     }
 }
 
-// Adds what orders answer; the book and the held sides have their own facts alone.
+// Adds an answer about orders; the book and the held sides each get their own facts.
 fn add_of_orders(day: &mut VenueState, answer: OrderAnswer)
     requires few { AreFew day.old }
     requires numbered { AreNumbered day.old.rooms.facts }
@@ -94,7 +93,7 @@ fn add_of_orders(day: &mut VenueState, answer: OrderAnswer)
     let _held = day.held.facts_are_own();
 }
 
-// Adds what is read back of a quote that is the first of its room.
+// Adds the reading of a room's first quote.
 fn add_read(quoted: &mut QuotedRooms, read: Option<RoomFact>)
     requires { read_count read ≤ quoted.old.room }
     ensures { quoted.new.rooms ≡ quoted.old.rooms ++ rooms_of read }
@@ -104,7 +103,7 @@ fn add_read(quoted: &mut QuotedRooms, read: Option<RoomFact>)
     }
 }
 
-// Adds what rooms answer, and what is read back with it; the rooms have their own facts alone.
+// Adds an answer about rooms, and its reading; the rooms get their own facts.
 fn add_of_rooms(day: &mut VenueState, answer: RoomAnswer, read: Option<RoomFact>)
     requires few { AreFew day.old }
     requires numbered { AreNumbered day.old.rooms.facts }
@@ -127,7 +126,7 @@ fn add_of_rooms(day: &mut VenueState, answer: RoomAnswer, read: Option<RoomFact>
     let _rooms = day.rooms.facts_are_own();
 }
 
-/// Adds what a plan says, for which there is room.
+/// Adds a plan, within reserved capacity.
 pub(crate) fn add_plan(day: &mut VenueState, plan: Plan)
     requires few { AreFew day.old }
     requires numbered { AreNumbered day.old.rooms.facts }

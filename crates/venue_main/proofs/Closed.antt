@@ -1,4 +1,4 @@
--- How many lines a market wants, and what is told of a venue that was served.
+-- The count of a market's lines, and the output of a served venue.
 use Rattle.std.proofs.Common.{◌≡◌, ℕ, ◌≤◌, true, nat_le, List, Option, length, leb-true, ap, sym, subst, ◌∙◌}
 use Rattle.std.specs.List.{count_by}
 use Rattle.std.specs.Io.KnownBytes.{Appends}
@@ -10,14 +10,14 @@ use Rattle.venue_rules.specs.Market.{Market}
 use Rattle.venue_rules.specs.declared.trail.TrailRow.{TrailRow}
 use Rattle.venue_main.specs.Serve.{HasServed, EmitsClosed, closing_line, counted, is_message}
 
--- a file names 32 participants at most
+-- a file has at most 32 participants
 pub few_names : (file : ParticipantFile) → is_participant_file file ≡ true → length file.names ≤ 32
 few_names file h =
     let some = and_parts (nat_le 1 (length file.names)) _ h in
     let few = and_parts (nat_le (length file.names) most_participants) _ some.1 in
     leb-true (length file.names) most_participants few.0
 
--- what is told of so many sessions, which were closed, and of rows among which are as many messages as among those that were kept
+-- the output for this count of sessions, which were closed, and for rows with as many messages as the stored ones
 pub emits_read : (turns : ℕ) (m : Market) (kept : List TrailRow) (c : Closing) (count : ℕ) (read : List TrailRow) (before after : Option (List ℕ)) → HasServed turns m kept c → length c.sessions ≡ count
     → count_by is_message read ≡ count_by is_message c.rows → Appends before after (closing_line count read) → EmitsClosed turns m kept before after
 emits_read turns m kept c count read before after served counts same written =

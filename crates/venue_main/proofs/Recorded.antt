@@ -1,4 +1,4 @@
--- What is told and shown of a venue with a trail, and why one is not served.
+-- The output and the database of a venue with a trail, and why one is not served.
 use Rattle.std.proofs.Common.{◌≡◌, ◌≢◌, inl, inr, ℕ, List, Option, length, refl, sym, ap, subst, ◌∙◌}
 use Rattle.std.specs.Io.KnownBytes.{Appends}
 use Rattle.sqlite_trees.specs.declared.store.Store.{Ghosts}
@@ -17,7 +17,8 @@ use Rattle.venue_main.specs.declared.failure.Failure.TheVariants.{Stopped, Serve
 use Rattle.venue_main.specs.declared.serve.ServeFault.{ServeFault}
 use Rattle.venue_main.specs.declared.serve.ServeFault.TheVariants.{Memory, Output, Trail, Network, Thread}
 
--- what is shown and told is that of what was closed, where a journal kept its rows and showed them as they were read back
+-- the database and the output are those of the closing, where a journal recorded its rows and showed them as they were
+-- read back
 pub recorded : {S : Type 0} (g : Ghosts S) (turns : ℕ) (m m' : Market) (files : Files) (old : State) (before after : Option (List ℕ)) (start kept read : Recording S) (c : Closing) (count : ℕ) (back : Held S)
     → Began g files old start → m' ≡ m → HasServed turns m' start.rows c → length c.sessions ≡ count → kept.rows ≡ c.rows → read.rows ≡ kept.rows
     → (HasCleanDisk (disk g read) → ShowsAll g read) → (HasCleanDisk (disk g read) → Appends before after (closing_line count kept.rows)) → back ≡ read.trail.conn
@@ -38,7 +39,7 @@ recorded {S} g turns m m' files old before after start kept read c count back be
     } in
     subst (λ (k : Held S). HasRecorded g turns m files old (state g k) before after) (sym returns) (subst (λ (n : Market). HasRecorded g turns n files old (disk g read) before after) same done)
 
--- a trail's fault is told by its number, unless its disk failed
+-- a trail's fault is reported by its number, unless its disk failed
 pub numbered : (fault : TrailFault) (failure : Failure) → IsRefusalOf fault failure → IsRecordingFailure failure
 numbered fault failure (inr why) = subst IsRecordingFailure (sym why.1) tt
 numbered Refused failure (inl why) = subst IsRecordingFailure (sym why) (Refused, refl)
@@ -48,7 +49,7 @@ numbered (BadDelay x) failure (inl why) = subst IsRecordingFailure (sym why) (Ba
 numbered OtherVersion failure (inl why) = subst IsRecordingFailure (sym why) (OtherVersion, refl)
 numbered NoMemory failure (inl why) = subst IsRecordingFailure (sym why) tt
 
--- and before a venue ran no closing line was to be written
+-- and before a venue ran no closing line was due
 pub before_run : (fault : TrailFault) (failure : Failure) → IsRefusalOf fault failure → failure ≢ Served Output
 before_run fault failure (inr why) same = let wrong = sym why.1 ∙ same in cc
 before_run Refused failure (inl why) same = let wrong = sym why ∙ same in cc
@@ -58,7 +59,7 @@ before_run (BadDelay x) failure (inl why) same = let wrong = sym why ∙ same in
 before_run OtherVersion failure (inl why) same = let wrong = sym why ∙ same in cc
 before_run NoMemory failure (inl why) same = let wrong = sym why ∙ same in cc
 
--- what holds whatever failed holds unless the closing line was not written
+-- a fact that holds after every failure holds unless the closing line was not written
 pub unless_written : (fault : ServeFault) (P : Type 0) → P → UnlessWriting fault P
 unless_written Memory P p = p
 unless_written Output P p = tt

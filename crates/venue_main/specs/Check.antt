@@ -1,4 +1,4 @@
--- What is said of the two files.
+-- The output for the two files.
 use Rattle.std.specs.Prelude.{ℕ, ◌++◌, List, [], ◌∷◌, length, codes, decimal, Ok}
 use Rattle.participants.specs.ParticipantFile.{ParticipantFile}
 use Rattle.participants.specs.Reading.{IsFaultOf as IsParticipantsFaultOf, Reads as ReadsParticipants}
@@ -14,20 +14,21 @@ pub record AreRead (participants_text instruments_text : List ℕ) (file : Parti
   pub participants : ReadsParticipants participants_text (Ok file)
   pub instruments : ReadsInstruments instruments_text (Ok rows)
 
--- these many of each, as a line of text
+-- these counts, as a line of text
 abbrev pub counted : ℕ → ℕ → ℕ → List ℕ
 counted names pairs rows = codes "participants " ++ (decimal names ++ (codes " related " ++ (decimal pairs ++ (codes " instruments " ++ (decimal rows ++ 10 ∷ [])))))
 
--- how many of each the files have
+-- the counts of the files
 abbrev pub summary : ParticipantFile → List Instrument → List ℕ
 summary file rows = counted (length file.names) (length file.pairs) (length rows)
 
--- the first fault of the two files: one of the participant file's text, or, where that is read, one of the instrument file's
+-- the first fault of the two files: one of the participant file's text, or, where that is read, one of the instrument
+-- file's
 abbrev pub IsFaultOfFiles : List ℕ → List ℕ → FilesFault → Type 0
 IsFaultOfFiles participants_text instruments_text (files.Participants fault) = IsParticipantsFaultOf participants_text fault
 IsFaultOfFiles participants_text instruments_text (files.Instruments fault) = (file : ParticipantFile) × ReadsParticipants participants_text (Ok file) × IsInstrumentsFaultOf instruments_text fault
 
--- what stops the look at them: their first fault, and where both are read the output
+-- why the check stops: the first fault of the files, or, where both are read, the output
 abbrev pub Stops : List ℕ → List ℕ → CheckFault → Type 0
 Stops participants_text instruments_text (Participants fault) = IsFaultOfFiles participants_text instruments_text (files.Participants fault)
 Stops participants_text instruments_text (Instruments fault) = IsFaultOfFiles participants_text instruments_text (files.Instruments fault)

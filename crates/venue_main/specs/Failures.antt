@@ -1,4 +1,4 @@
--- How the program ends where it does not end well.
+-- The program's exit statuses other than 0.
 use Rattle.std.specs.Prelude.{ℕ}
 use Rattle.participants.specs.declared.fault.FileFault.{FileFault as ParticipantsFault}
 use Rattle.participants.specs.declared.fault.FileFault.TheVariants as participants
@@ -22,7 +22,7 @@ use Rattle.venue_rules.specs.declared.trail.TrailFault.TheVariants as trail
 use Rattle.venue_main.specs.declared.serve.ServeFault.{ServeFault}
 use Rattle.venue_main.specs.declared.serve.ServeFault.TheVariants as serve
 
--- the status that the program ends with
+-- the exit status
 abbrev pub status_of : Failure → ℕ
 status_of (Stopped fault) = 1
 status_of (Served fault) = 1
@@ -75,7 +75,7 @@ trail_failure trail.OtherVersion = TrailRefused 4
 trail_failure (trail.BadDelay x) = TrailRefused 5
 trail_failure trail.NoMemory = Stopped Memory
 
--- and where its file is not opened: somebody else has it, or the disk failed; else it is no database
+-- and where its file is not opened: another process has it, or the disk failed; else it is no database
 abbrev pub code_failure : ErrorCode → Failure
 code_failure code.OutOfMemory = Stopped Memory
 code_failure code.DatabaseBusy = Served serve.Trail

@@ -1,10 +1,10 @@
--- the statuses of the program
+-- the exit statuses of the program
 pub mod Failures
--- what is said of the two files
+-- the output for the two files
 pub mod Check
--- what is told as a served venue closes
+-- the output as a served venue closes
 pub mod Serve
 -- the same of one with a trail
 pub mod Recorded
--- how the file of a trail begins
+-- the first bytes of a trail's file
 pub mod TrailFile

@@ -1,4 +1,4 @@
--- What a venue with a trail leaves, and what it tells as it closes.
+-- The trail that a served venue leaves, and its output as it closes.
 use Rattle.std.specs.Prelude.{◌≡◌, ◌⊎◌, ℕ, List, length, Option, IsTrue, ⊤}
 use Rattle.std.specs.Io.KnownBytes.{Appends}
 use Rattle.sqlite_trees.specs.declared.store.Store.{Ghosts}
@@ -16,9 +16,10 @@ use Rattle.venue_main.specs.declared.failure.Failure.{Failure}
 use Rattle.venue_main.specs.declared.failure.Failure.TheVariants.{Stopped, Served, CommandLine, Participants, Instruments, Trail as TrailRefused}
 use Rattle.venue_main.specs.declared.serve.ServeFault.TheVariants.{Trail}
 
--- A journal began with what was found in the database as a trail of these files; a venue of this market ran from its rows, and was
--- closed, with a session for each participant. Where the disk returned what was written, the database shows the rows of what was closed,
--- and what was written is the one line that tells how many sessions it had and how many of these rows are messages.
+-- A journal began with what was found in the database as a trail of these files; a venue of this market ran from its
+-- rows, and was closed, with a session for each participant. Where the disk returned what was written, the database
+-- shows the rows of what was closed, and the output is the one line with the count of its sessions and of the messages
+-- among these rows.
 pub record HasRecorded {S : Type 0} (g : Ghosts S) (turns : ℕ) (m : Market) (files : Files) (old new : State) (before after : Option (List ℕ)) : Type 0 where
   pub start : Recording S
   pub began : Began g files old start
@@ -38,11 +39,12 @@ UnlessEmitting (Participants number) fact = fact
 UnlessEmitting (Instruments number) fact = fact
 UnlessEmitting (TrailRefused number) fact = fact
 
--- A trail with this fault ends the program so: as its number says, or, where the store refused it, as a trail whose disk failed.
+-- A trail with this fault ends the program so: as its number says, or, where the store refused it, as a trail whose
+-- disk failed.
 abbrev pub IsRefusalOf : TrailFault → Failure → Type 0
 IsRefusalOf fault failure = (failure ≡ trail_failure fault) ⊎ ((fault ≡ Refused) × (failure ≡ Served Trail))
 
--- the number of a refusal is that of a fault of a trail, and no word and no file is at fault
+-- the number of a refusal is that of a fault of a trail, and neither the command line nor a file is at fault
 abbrev pub IsRecordingFailure : Failure → Type 0
 IsRecordingFailure (Stopped fault) = ⊤
 IsRecordingFailure (Served fault) = ⊤

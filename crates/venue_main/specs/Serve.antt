@@ -1,4 +1,4 @@
--- What a venue that was served tells as it closes.
+-- The output of a served venue as it closes.
 use Rattle.std.specs.Prelude.{◌≡◌, ℕ, Bool, ◌^◌, ◌&&◌, ◌++◌, List, [], ◌∷◌, ◌==◌, nat_le, codes, decimal, not, length, Option}
 use Rattle.std.specs.List.{count_by}
 use Rattle.std.specs.Io.KnownBytes.{Appends}
@@ -17,15 +17,15 @@ is_service port turns = (nat_le 1_024 port && nat_le port 65_500) && (nat_le 1 t
 abbrev pub is_message : TrailRow → Bool
 is_message row = not (row.who == 0)
 
--- so many sessions and messages, as a line of text
+-- these counts of sessions and messages, as a line of text
 abbrev pub counted : ℕ → ℕ → List ℕ
 counted sessions taken = codes "closed sessions " ++ (decimal sessions ++ (codes " taken " ++ (decimal taken ++ 10 ∷ [])))
 
--- what is told of so many sessions, and of the rows of their trail
+-- the line for this count of sessions, and for the rows of their trail
 abbrev pub closing_line : ℕ → List TrailRow → List ℕ
 closing_line sessions rows = counted sessions (count_by is_message rows)
 
--- a venue of this market ran from these rows for so many turns, on a line for each participant, and this is what was closed of it
+-- a venue of this market ran from these rows for `turns` turns, on a line for each participant, and this is its closing
 pub record HasServed (turns : ℕ) (m : Market) (kept : List TrailRow) (c : Closing) : Type 0 where
   pub lines : List SessionIo
   pub each : length lines ≡ length m.participants.names
@@ -33,8 +33,8 @@ pub record HasServed (turns : ℕ) (m : Market) (kept : List TrailRow) (c : Clos
   pub emitted' : List ℕ
   pub closed : HasClosed turns m kept lines emitted emitted' c
 
--- Such a venue was closed, and what was written is the one line that tells how many sessions it had, one for each participant, and how
--- many of the rows that it kept are messages.
+-- Such a venue was closed, and the output is the one line with the count of its sessions, one for each participant, and
+-- of the messages among its rows.
 pub record EmitsClosed (turns : ℕ) (m : Market) (kept : List TrailRow) (before after : Option (List ℕ)) : Type 0 where
   pub closed : Closing
   pub served : HasServed turns m kept closed

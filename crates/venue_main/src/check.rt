@@ -1,4 +1,4 @@
-//! A look at the two files of a venue.
+//! The `check` command: reads the two files of a venue.
 
 ghost use Rattle.std.specs.Prelude.{List, OnOk, IfErr};
 ghost use Rattle.std.specs.Io.KnownBytes.{Appends, Keeps};
@@ -11,7 +11,7 @@ use std::alloc::Global;
 use std::io::{self, Write};
 use thiserror::Error;
 
-/// Why the files were not told of.
+/// Why no counts were written.
 #[derive(Clone, Copy, Debug, PartialEq, Eq, Error)]
 pub enum CheckFault {
     /// 1: the participant file is refused.
@@ -25,7 +25,7 @@ pub enum CheckFault {
     Output,
 }
 
-/// Reads the texts of both files, and writes how many participants, related pairs and instruments they have, as one line:
+/// Reads the texts of both files, and writes the counts of participants, related pairs and instruments, as one line:
 /// `participants 5 related 1 instruments 2`. Nothing is written where a file is refused.
 pub fn check<W: Write>(
     alloc: Global,
@@ -51,7 +51,7 @@ pub fn check<W: Write>(
     }
 }
 
-/// Writes how many of each the files have.
+/// Writes the counts of the files.
 fn write_summary<W: Write>(market: &Market, writer: &mut W) -> io::Result<()>
     ensures { OnOk result (Appends (W.contents writer.old) (W.contents writer.new) (summary market.now.participants market.now.instruments)) }
 {

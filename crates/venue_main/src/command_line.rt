@@ -10,7 +10,7 @@ use sef_moment::{Moment, read_utc};
 use std::alloc::{AllocError, Global};
 use std::{env, io};
 
-/// What the words of the command line ask for.
+/// The request of the command line.
 #[derive(Drop)]
 pub enum Task {
     /// `once --participants FILE --instruments FILE --at TIME`
@@ -18,7 +18,7 @@ pub enum Task {
         paths: Paths,
         at: Moment,
     },
-    /// `serve --participants FILE --instruments FILE --port P --turns N`, and perhaps `--trail FILE`
+    /// `serve --participants FILE --instruments FILE --port P --turns N`, with or without `--trail FILE`
     Serve {
         paths: Paths,
         service: Service,
@@ -32,7 +32,7 @@ pub enum Task {
     Help,
 }
 
-/// What the process's words ask for.
+/// The request in the process's arguments.
 pub fn task_given(rt: &HostRuntime) -> Result<Task, Failure> {
     let words = words_given(rt)?;
     let task = task_in(rt.alloc(), &words);
@@ -48,7 +48,7 @@ pub fn task_given(rt: &HostRuntime) -> Result<Task, Failure> {
     }
 }
 
-/// The process's words. One that is not UTF-8 is refused.
+/// The process's arguments. One that is not UTF-8 is refused.
 fn words_given(rt: &HostRuntime) -> Result<Vec<String>, Failure> {
     match env::args(rt) {
         Ok(words) => match words.collect(rt.alloc()) {
@@ -62,22 +62,22 @@ fn words_given(rt: &HostRuntime) -> Result<Vec<String>, Failure> {
     }
 }
 
-/// What stands below the commands in the help.
+/// The help's examples, below the commands.
 const EXAMPLES: &str = "Examples, where FILES stands for --participants FILE --instruments FILE:
   venue_main check FILES
   venue_main once FILES --at 20250303-14:30:00 <order.fix
   venue_main serve FILES --port 7000 --turns 1000000000 --trail day.trail
 
-docs/CONNECT.md tells what a desk's engine is to set, docs/PROTOCOL.md each message, docs/COMPLIANCE.md how a trail is read.";
+docs/CONNECT.md has the settings of a client's engine, docs/PROTOCOL.md each message, docs/COMPLIANCE.md how a trail is read.";
 
-/// What stands below the words of `serve` in its help.
+/// The example in the help of `serve`, below its arguments.
 const EXAMPLE_OF_SERVE: &str = "Example:
   venue_main serve --participants participants.toml --instruments instruments.toml --port 7000 --turns 1000000000 --trail day.trail
 
-Standard error tells each participant's name and port. A trail that is there is gone on with; without one the rows stay in memory. The
+Standard error has each participant's name and port. A trail that is there is gone on with; without one the rows stay in memory. The
 venue ends once each thread has made its turns; a turn in which there is nothing to do waits 100 ms at most.";
 
-/// An argument that has to be given, with one value.
+/// A required argument with one value.
 fn needed<'a>(alloc: Global, name: &'a str, value: &'a str, help: &'a str) -> Arg<'a> {
     Arg::new(alloc, name)
         .long(name)
@@ -87,8 +87,8 @@ fn needed<'a>(alloc: Global, name: &'a str, value: &'a str, help: &'a str) -> Ar
         .action(ArgAction::Set)
 }
 
-/// A command with one more argument that has to be given. (Arguments and commands are added one at a time, each by a call that takes it:
-/// where several wait in one function, a proof tells at each `?` what becomes of all.)
+/// A command with a further required argument. Each argument or command is added by a call of its own: several in one
+/// function cost the proof a case for each at every `?`.
 fn with_needed<'a>(
     alloc: Global,
     command: Command<'a>,
@@ -99,7 +99,7 @@ fn with_needed<'a>(
     command.arg(needed(alloc, name, value, help))
 }
 
-/// A command that is given the two files.
+/// A command on the two files.
 fn command_on_files<'a>(
     alloc: Global,
     name: &'a str,
@@ -165,7 +165,7 @@ fn command_of_once<'a>(alloc: Global) -> Result<Command<'a>, AllocError> {
     )
 }
 
-/// A command with another one below it, where that was made.
+/// A command with a subcommand, where that was made.
 fn with_command<'a>(
     command: Command<'a>,
     made: Result<Command<'a>, AllocError>,
@@ -179,7 +179,7 @@ fn with_command<'a>(
     }
 }
 
-/// The program's own command, with `once`, `serve` and `check`.
+/// The program's command, with `once`, `serve` and `check`.
 fn program<'a>(alloc: Global) -> Result<Command<'a>, AllocError> {
     let command = Command::new(alloc, "venue_main")
         .about("A swap execution facility over FIX")
@@ -189,11 +189,11 @@ fn program<'a>(alloc: Global) -> Result<Command<'a>, AllocError> {
     let command = with_command(command, command_of_serve(alloc))?;
     with_command(
         command,
-        command_on_files(alloc, "check", "Tells how much the two files list"),
+        command_on_files(alloc, "check", "Prints how many entries the two files have"),
     )
 }
 
-/// What these words ask for, if they ask for anything.
+/// The request in these arguments, if they are understood and ask for more than help.
 fn task_in(alloc: Global, words: &[String]) -> Result<Option<Task>, Error> {
     let matches = program(alloc)?.try_get_matches_from(words)?;
     let task = task_of(alloc, &matches);
@@ -259,7 +259,7 @@ fn service_in(given: &ArgMatches<'_>) -> Option<Service> {
     Service::of(port, turns)
 }
 
-/// The number that a text of decimal digits alone stands for.
+/// The number that a text of decimal digits spells.
 fn number_in(text: &str) -> Option<u64> {
     if text.as_bytes().iter().all(|byte| byte.is_ascii_digit()) {
         text.parse::<u64>().ok()
@@ -281,12 +281,12 @@ fn paths_in(alloc: Global, given: &ArgMatches<'_>) -> Result<Option<Paths>, Allo
     }))
 }
 
-/// The moment behind `--at`, where it is the text of one (as in a message: `20250303-14:30:00`).
+/// The moment of `--at`, where its text is one (as in a message: `20250303-14:30:00`).
 fn moment_in(given: &ArgMatches<'_>) -> Option<Moment> {
     read_utc(given.get_str("at")?.as_bytes()).ok()
 }
 
-/// Help is printed where it was asked for; other words are refused.
+/// Prints help where it was asked for; refuses other arguments.
 fn answer_to_error(rt: &HostRuntime, error: &Error) -> Result<Task, Failure> {
     match error.kind() {
         ErrorKind::DisplayHelp => match error.print(rt) {

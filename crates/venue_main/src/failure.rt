@@ -1,4 +1,4 @@
-//! How the program ends where it does not end well.
+//! The program's exit statuses other than 0.
 
 ghost use Rattle.std.specs.Prelude.{◌≡◌};
 ghost use Rattle.venue_main.specs.Failures.{check_failure, code_failure, files_failure, instruments_failure, open_failure, participants_failure, status_of, trail_failure};
@@ -18,7 +18,7 @@ pub enum Failure {
     /// Status 1.
     #[error("stopped: {0}")]
     Stopped(OnceFault),
-    /// Status 1: a venue that is served stopped.
+    /// Status 1: a served venue stopped.
     #[error("stopped: {0}")]
     Served(ServeFault),
     /// Status 2.
@@ -36,7 +36,7 @@ pub enum Failure {
 }
 
 impl Failure {
-    /// The status that the program ends with.
+    /// The exit status.
     pub fn status(&self) -> u8
         ensures { result ≡ status_of self.now }
     {

@@ -1,4 +1,4 @@
-//! The files that the command line names.
+//! The files on the command line.
 
 ghost use Rattle.std.specs.Prelude.{◌≡◌, ◌≤◌, length, IfOk, IfSome};
 
@@ -7,7 +7,7 @@ use std::alloc::Global;
 use std::fs;
 use std::io::{ErrorKind, Read};
 
-/// How many bytes a file may have.
+/// The greatest size of a file, in bytes.
 const MAX_FILE_SIZE: u64 = 1_048_576;
 
 /// The paths of the two files.

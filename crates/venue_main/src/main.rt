@@ -36,8 +36,8 @@ use std::thread::Threads;
 use std::time::Clock;
 use trail_file::close_trail;
 
-// What follows is generic and has no contract, so that a proof need not tell of `run` and `main`, who call it, what the contracts of what is
-// called say of the system's own files, sockets and streams.
+// What follows is generic and without contracts: so a proof of `run` or `main`, its callers, needs nothing of what the
+// contracts below say of the system's own files, sockets and streams.
 
 fn answer_texts<R: Read, W: Write>(
     alloc: Global,
@@ -110,7 +110,7 @@ fn serve_trail<
     served
 }
 
-/// Does what the command line asks for. What is to be served is handed back, since `main` alone may start threads.
+/// Runs the command. A venue to serve is handed back, since `main` alone may start threads.
 fn run(rt: &HostRuntime) -> Result<Option<ServeRequest>, Failure> {
     match task_given(rt)? {
         Task::Once { paths, at } => answer_texts(
@@ -175,7 +175,7 @@ fn main(rt: HostRuntime) -> ExitCode {
     match ended {
         Ok(()) => ExitCode::SUCCESS,
         Err(failure) => {
-            // Where standard error fails too there is nobody left to tell.
+            // Where standard error fails too there is nobody left to report to.
             let _ = eprintln!(rt; "venue_main: {failure}");
             ExitCode::from(failure.status())
         }

@@ -1,4 +1,4 @@
-//! The market that the two files describe.
+//! The market of the two files.
 
 ghost use Rattle.std.specs.Prelude.{IfOk, IfErr};
 ghost use Rattle.venue_main.specs.Check.{AreRead, IsFaultOfFiles};
@@ -7,7 +7,7 @@ use instruments::Instruments;
 use participants::Participants;
 use std::alloc::Global;
 
-/// Who may trade, and what.
+/// The participants and the instruments.
 #[derive(Drop)]
 pub struct Market {
     pub participants: Participants,

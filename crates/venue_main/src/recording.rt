@@ -1,4 +1,4 @@
-//! A venue that is served over TCP, with its rows in a trail.
+//! A venue served over TCP, with its rows in a trail.
 
 ghost use Rattle.std.specs.Prelude.{◌≡◌, ◌≢◌, IfErr, IfOk, OnOk, map, true};
 ghost use Rattle.std.specs.Io.KnownBytes.{Appends, Keeps};
@@ -34,9 +34,10 @@ use trail_journal::{Journal, start_trail};
 use venue_core::Venue;
 use venue_rules::TrailFault;
 
-/// As `serve`, with the rows in a trail: it begins where the rows lead that the database keeps as a trail of these files, or makes an
-/// empty trail where it lists nothing. Each row is committed before the venue acts on it. As the venue closes the rows are read back,
-/// and the closing line tells of all of them. The connection comes back. What the files tell, the market, is the caller's matter.
+/// As `serve`, with the rows in a trail: begins where the rows of the database's trail lead, a trail of these files, or
+/// makes an empty trail where the database lists nothing. Each row is committed before the venue acts on it. As the
+/// venue closes the rows are read back, and the closing line counts all of them. The connection comes back. That the
+/// market is that of the files is up to the caller.
 pub fn serve_recorded<
     R: Net<Listener = TcpListener, Stream = TcpStream>
         + Threads
@@ -79,7 +80,7 @@ pub fn serve_recorded<
     }
 }
 
-/// The journal of the trail that a database keeps, and the venue where its rows lead.
+/// The journal of the database's trail, and the venue where its rows lead.
 fn begin<S: Alter + Drop>(
     alloc: Global,
     conn: Connection<S>,
@@ -98,7 +99,8 @@ fn begin<S: Alter + Drop>(
     }
 }
 
-/// What a trail's fault comes to. Where its store refused, this is closed if the disk failed; else it is for what the database has.
+/// The failure of a trail's fault. Where the store refused: of a closed store a failed disk, else a refusal of the
+/// database.
 fn refusal_of<S: Alter + Drop>(fault: TrailFault, conn: Connection<S>) -> Failure
     ensures { IsRefusalOf fault result }
 {
@@ -116,7 +118,7 @@ fn refusal_of<S: Alter + Drop>(fault: TrailFault, conn: Connection<S>) -> Failur
     }
 }
 
-/// Serves a venue that stands where the rows of a journal lead.
+/// Serves a venue from where the rows of a journal lead.
 fn serve_journal<
     R: Net<Listener = TcpListener, Stream = TcpStream> + Threads + Wait + Sync,
     T: Clock + Copy + Send + Drop,
@@ -138,7 +140,7 @@ fn serve_journal<
     serve_over(rt, alloc, clock, venue, journal, service, notes)
 }
 
-/// Reads the rows back, and tells how many sessions were served and how many of the rows are messages.
+/// Reads the rows back, and writes how many sessions were served and how many of the rows are messages.
 fn emit_read<S: Alter + Drop, W: Write>(
     sessions: usize,
     journal: &mut Journal<S>,

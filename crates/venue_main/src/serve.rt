@@ -1,4 +1,4 @@
-//! A venue whose participants' sessions are each served over TCP.
+//! The `serve` command: each participant's session over TCP.
 
 ghost use Rattle.std.specs.Prelude.{◌≡◌, ◌≢◌, ◌+◌, ℕ, List, [], IfErr, IfOk, OnOk, length, map, true};
 ghost use Rattle.std.specs.Io.KnownBytes.{Appends, Keeps};
@@ -30,7 +30,7 @@ use venue_world::ListTrail;
 /// Why a venue is not served, or does not end well.
 #[derive(Clone, Copy, Debug, PartialEq, Eq, Error)]
 pub enum ServeFault {
-    /// 1: a growth was refused.
+    /// 1: an allocation failed.
     #[error("memory")]
     Memory,
     /// 2: the closing line was not written.
@@ -67,10 +67,10 @@ impl From<RunFault> for ServeFault {
     }
 }
 
-/// Serves each participant of a market over TCP: the k-th of its file, from 0, at 127.0.0.1 and k ports past the first. `notes`
-/// is told who listens where, once all do; as the venue closes `output` is told how many sessions it had and how many messages
-/// it took. Each session's thread makes the turns that were asked for, and so does the worker; an idle turn waits for 100 ms at
-/// most. The rows of the trail are kept in memory.
+/// Serves each participant of a market over TCP: the k-th of its file, from 0, at 127.0.0.1 and k ports past the first.
+/// Writes who listens where to `notes`, once all do; as the venue closes, writes the counts of its sessions and of the
+/// messages taken to `output`. Each session's thread makes the given turns, and so does the worker; an idle turn waits
+/// for 100 ms at most. The rows of the trail are in memory.
 pub fn serve<
     R: Net<Listener = TcpListener, Stream = TcpStream>
         + Threads
@@ -102,7 +102,7 @@ pub fn serve<
     }
 }
 
-/// Serves a venue of this market, on which nothing has happened, with its rows in memory.
+/// Serves a new venue of this market, with its rows in memory.
 fn serve_in_memory<
     R: Net<Listener = TcpListener, Stream = TcpStream> + Threads + Wait + Sync,
     T: Clock + Copy + Send + Drop,
@@ -123,7 +123,7 @@ fn serve_in_memory<
     serve_over(rt, alloc, clock, venue, trail, service, notes)
 }
 
-/// Tells how many sessions were served, and how many messages were taken: `closed sessions 5 taken 2`.
+/// Writes how many sessions were served, and how many messages were taken: `closed sessions 5 taken 2`.
 pub fn emit_closed<L: Drop, W: Write>(
     closed: &Closed<L, ListTrail>,
     output: &mut W,
@@ -134,7 +134,7 @@ pub fn emit_closed<L: Drop, W: Write>(
     write_counts(closed.sessions.len(), taken, output)
 }
 
-/// How many of these rows are messages; the others are ticks.
+/// The count of messages among these rows; the others are ticks.
 pub(crate) fn messages_in(rows: &[TrailRow]) -> usize
     ensures { result ≡ count_by is_message rows.now }
 {

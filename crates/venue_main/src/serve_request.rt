@@ -1,4 +1,4 @@
-//! What is to be served.
+//! The request to serve a venue.
 
 ghost use Rattle.std.specs.Prelude.{◌≡◌, IfOk, IfSome};
 ghost use Rattle.venue_main.specs.Check.{AreRead};
@@ -11,7 +11,7 @@ use crate::trail_file::open_trail;
 use audit_trail::{FileText, Files};
 use sqlite::{Connection, File, FileStore};
 
-/// A market that is to be served.
+/// A market to serve.
 #[derive(Drop)]
 pub struct ServeRequest {
     pub market: Market,
@@ -19,14 +19,14 @@ pub struct ServeRequest {
     pub kept: Option<StoredTrail>,
 }
 
-/// Where the rows of a venue are to be kept, and the files that are kept beside them.
+/// The database for the rows of a venue, and the files that are stored with them.
 #[derive(Drop)]
 pub struct StoredTrail {
     pub conn: Connection<FileStore<File>>,
     pub files: Files,
 }
 
-/// The market that two files describe, and, where its rows are to be kept at a path, the database there with these files.
+/// The market of two files, and, where its rows are to be stored at a path, the database there with these files.
 pub fn asked_for(
     rt: &HostRuntime,
     texts: Texts,

@@ -1,28 +1,28 @@
-//! Where a venue is served, and for how many turns.
+//! The ports of a served venue, and its count of turns.
 
 ghost use Rattle.std.specs.Prelude.{◌≡◌, ◌≤◌, IfSome, is_some};
 ghost use Rattle.venue_main.specs.Serve.{is_service};
 
-/// The least port that the first participant may have, and the greatest.
+/// The least and the greatest port of the first participant.
 const FIRST_PORT: u64 = 1_024;
 
 const LAST_PORT: u64 = 65_500;
 
-/// How many turns may be asked for.
+/// The greatest count of turns.
 const MAX_TURNS: u64 = 1_000_000_000;
 
-/// Where a venue is served, and for how many turns.
+/// The ports of a served venue, and its count of turns.
 #[derive(Clone, Copy)]
 pub struct Service {
-    /// Of the first participant; each other has the next.
+    /// The first participant's; each other has the next.
     port: u16,
-    /// Of each session's thread, and of the worker.
+    /// For each session's thread, and for the worker.
     turns: u64,
     ghost last_port: { port ≤ 65_500 },
 }
 
 impl Service {
-    /// From a port from 1,024 to 65,500 on, for 1 to 1,000,000,000 turns.
+    /// A port from 1,024 to 65,500, and 1 to 1,000,000,000 turns; none for others.
     pub fn of(port: u64, turns: u64) -> Option<Service>
         ensures range { is_some result ≡ is_service port turns }
         ensures given { IfSome result (λ s. (s.port ≡ port) × (s.turns ≡ turns)) }

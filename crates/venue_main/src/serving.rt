@@ -1,4 +1,4 @@
-//! A venue whose participants' sessions are each served over TCP, with any keeper of its rows.
+//! A venue served over TCP, with any keeper of its rows.
 
 ghost use Rattle.std.specs.Prelude.{◌≡◌, ◌≢◌, ◌≤◌, ◌+◌, ◌^◌, List, IfOk, IfErr, length, map, true};
 ghost use Rattle.venue_runtime.specs.Closing.{closing};
@@ -26,8 +26,8 @@ use venue_core::Venue;
 use venue_rules::Keep;
 use venue_runtime::run_venue;
 
-/// Opens a line for each participant, tells who listens where once all do, and runs the venue on these lines until it closes. What a
-/// counterparty did not take yet waits in its line.
+/// Opens a line for each participant, writes who listens where once all do, and runs the venue on these lines until it
+/// closes. What a counterparty has not read yet waits in its line.
 pub(crate) fn serve_over<
     R: Net<Listener = TcpListener, Stream = TcpStream> + Threads + Wait + Sync,
     T: Clock + Copy + Send + Drop,
@@ -53,13 +53,13 @@ pub(crate) fn serve_over<
     let opened = match open_lines(rt, alloc, clock, port, count) {
         Ok(opened) => opened,
         Err(error) => {
-            // (A venue is given up by a call here and below: a proof tells all that its drop does at each place where it is dropped otherwise.)
+            // (A call drops a venue here and below: otherwise a proof sees the drop of each part at each place.)
             drop(venue);
             return Err(fault_of(error.kind()));
         }
     };
     let VenueIo { sessions, worker } = opened;
-    // Where nobody can be told the venue is served all the same.
+    // A venue is served also where these notes cannot be written.
     let _ = announce(venue.participants(), count, port, notes);
     match run_lines(rt, alloc, venue, keeper, sessions, worker, service.turns()) {
         Ok(closed) => Ok(closed),
@@ -67,7 +67,7 @@ pub(crate) fn serve_over<
     }
 }
 
-/// How many participants there are.
+/// The count of participants.
 fn count_of(participants: &Participants) -> u16
     ensures count { result ≡ length participants.now.names }
     ensures few { result ≤ 32 }
@@ -75,7 +75,7 @@ fn count_of(participants: &Participants) -> u16
     participants.len() as u16
 }
 
-/// Tells who listens where, one line each.
+/// Writes who listens where, one line each.
 fn announce<N: Write>(
     participants: &Participants,
     count: u16,
@@ -114,7 +114,7 @@ fn run_lines<R: Threads + Wait + Sync, T: Clock + Send + Drop, K: Keep + Drop>(
     Ok(closed)
 }
 
-/// Gives each counterparty what still waits for it, and of what is closed keeps the keeper of the rows alone.
+/// Flushes to each counterparty what still waits for it, and keeps of the closed venue its keeper of rows alone.
 pub(crate) fn keeper_of<T: Clock + Drop, K: Keep + Drop>(closed: Closed<TcpLine<T>, K>) -> K
     ensures { result ≡ closed.keeper }
 {
@@ -136,7 +136,7 @@ pub(crate) fn keeper_of<T: Clock + Drop, K: Keep + Drop>(closed: Closed<TcpLine<
     keeper
 }
 
-/// Gives each counterparty what still waits for it, where it takes that.
+/// Flushes to each counterparty what still waits for it, where it takes that.
 fn close_lines<T: Clock + Drop>(lines: Vec<TcpLine<T>>) {
     for mut line in lines {
         let _ = line.close();

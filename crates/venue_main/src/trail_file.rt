@@ -14,11 +14,11 @@ use std::alloc::Global;
 use std::fs;
 use std::io::{self, ErrorKind, Read};
 
-/// What an SQLite database begins with, and a byte 0.
+/// The first bytes of an SQLite database, with the byte 0 at the end.
 const SQLITE_MAGIC: &[u8] = b"SQLite format 3\0";
 
-/// Opens the file at a path as a database, or makes one where there is none. The file is looked at first, so that none that is no
-/// database is touched.
+/// Opens the file at a path as a database, or makes one where there is none. The file is checked first, so that none
+/// that is no database is touched.
 pub fn open_trail(rt: &HostRuntime, path: &str) -> Result<Connection<FileStore<File>>, Failure> {
     refuse_non_database(rt, path)?;
     match Connection::open(rt, path) {
@@ -27,8 +27,8 @@ pub fn open_trail(rt: &HostRuntime, path: &str) -> Result<Connection<FileStore<F
     }
 }
 
-/// Closes the database of a trail: its log is copied into the file, which then has all rows. A trail that was served is not refused
-/// here: where the log is not copied the disk failed.
+/// Closes the database of a trail: its log is copied into the file, which then has all rows. A served trail is not
+/// refused here: where the log is not copied the disk failed.
 pub fn close_trail(conn: Connection<FileStore<File>>) -> Result<(), Failure>
     ensures { IfErr result (λ failure. (failure ≡ Stopped Memory) ⊎ (failure ≡ Served Trail)) }
 {
@@ -41,8 +41,8 @@ pub fn close_trail(conn: Connection<FileStore<File>>) -> Result<(), Failure>
     }
 }
 
-/// Refuses a file whose bytes are none of a database: opened as one it could be made into one.
-/// `Input` where the file is there and cannot be read.
+/// Refuses a file that is no database: opened as one it could become one. `Input` where the file exists and cannot be
+/// read.
 fn refuse_non_database(rt: &HostRuntime, path: &str) -> Result<(), Failure> {
     match fs::open(rt, path) {
         Ok(file) => refuse_other_bytes(rt.alloc(), file),
@@ -61,8 +61,8 @@ fn refuse_other_bytes<R: Read + Drop>(alloc: Global, file: R) -> Result<(), Fail
     }
 }
 
-/// Whether bytes may be those of a database: none; those of one that was not made to its end, which begins with a byte 0, and of which
-/// the store knows more; or as an SQLite database begins.
+/// Whether bytes may be those of a database: none; those of one that was not finished, which begins with a byte 0 and
+/// is left to the store; or as an SQLite database begins.
 pub fn may_be_database<R: Read + Drop>(alloc: Global, reader: R) -> io::Result<bool>
     ensures { IfOk result (λ may. IfSome (R.remaining reader) (λ bytes. IsTrue may → MayBegin (take 16 bytes))) }
 {

@@ -52,9 +52,10 @@ use Rattle.venue_rules.proofs.AmountLemmas.{In-earliest}
 use Rattle.venue_rules.proofs.FollowsEach.{IsEntered, named-IsEntered}
 use Rattle.venue_rules.proofs.OpenRooms.{first_of-each}
 
--- Every reply goes to a participant: to the sender, to a recipient that the participant file names, or to somebody of whom a fact tells, who was a sender.
+-- Every reply goes to a participant: the sender, a recipient found in the participant file, or an earlier sender that a
+-- fact names.
 
--- those of whom a fact tells, below a count
+-- the participants that a fact names, below a count
 abbrev IsBelow : ℕ → Fact → Type 0
 IsBelow n (Entered e) = e.order.who < n
 IsBelow n (Traded t) = Unit {0}
@@ -74,7 +75,7 @@ abbrev AreTo : ℕ → List Reply → Type 0
 AreTo n [] = Unit {0}
 AreTo n (r ∷ rs) = (r.to < n) × AreTo n rs
 
--- an answer tells of such alone, and such alone
+-- an answer names and addresses these alone
 abbrev Stays : ℕ → Answer → Type 0
 Stays n x = AreBelow n x.facts × AreTo n x.replies
 
@@ -104,7 +105,7 @@ to_in n [] r a i = absurd i
 to_in n (s ∷ ss) r a (inl same) = subst (λ (x : Reply). x.to < n) same a.0
 to_in n (s ∷ ss) r a (inr i) = to_in n ss r a.1 i
 
--- of whom the facts tell
+-- participants that the facts name
 
 entry_below : (n : ℕ) (fs : List Fact) (e : Entry) → AreBelow n fs → In e (entries fs) → e.order.who < n
 entry_below n [] e a i = absurd i
@@ -158,7 +159,7 @@ quote_below n (Asked r ∷ fs) q a i = quote_below n fs q a.1 i
 quote_below n (Withdrawn w ∷ fs) q a i = quote_below n fs q a.1 i
 quote_below n (Closed c ∷ fs) q a i = quote_below n fs q a.1 i
 
--- reports that wait for their numbers
+-- reports before numbering
 
 abbrev AreFor : ℕ → List (ℕ → Reply) → Type 0
 AreFor n [] = Unit {0}
@@ -172,7 +173,7 @@ numbered-AreTo : (n k : ℕ) (fs : List (ℕ → Reply)) → AreFor n fs → Are
 numbered-AreTo n k [] a = tt
 numbered-AreTo n k (f ∷ fs) a = (a.0 (k + 1), numbered-AreTo n (k + 1) fs a.1)
 
--- an order that enters: its owner and those of the orders that it trades with
+-- an entering order: its owner and those of the orders that it trades with
 
 fill_below : (n : ℕ) (facts : List Fact) (o : OrderFact) → AreBelow n facts → (f : Fill) → In f (fills facts o) → f.resting.entry.order.who < n
 fill_below n facts o a = killed (is_killed o.life o.quantity _) (filter (λ (g : Fill). nat_lt 0 g.quantity) pairs) of
@@ -215,7 +216,7 @@ accepted-Stays n m h o t a low =
 
 -- the answer to each message
 
--- a reply to the sender alone
+-- replies to the sender alone
 abbrev Alone : ℕ → ℕ → Type 0
 Alone n who = Unit {0} × ((who < n) × Unit {0})
 

@@ -51,9 +51,9 @@ use Rattle.venue_rules.proofs.Members.{In, In-filter, In-from_Contains}
 use Rattle.venue_rules.proofs.Follows.{NoneHolds}
 use Rattle.venue_rules.proofs.Fills.{eats, shares_in_turn}
 
--- Amounts stay within what a message has room for.
+-- Amounts stay within the greatest amount of a message.
 
--- an answer whose facts are within
+-- an answer with its facts within
 record Fits (x : Answer) : Type 0 where
   facts : are_within x.facts ≡ true
 
@@ -98,7 +98,7 @@ cancel_of-Fits m h s d IsUnknown = record { facts = refl }
 cancel_of-Fits m h s d (IsHeld k) = first_of-Fits (cancel_refusals h s d None) (held_cancelled m h s d k) (record { facts = refl }, tt) (λ n. record { facts = refl })
 cancel_of-Fits m h s d (IsResting r) = first_of-Fits (cancel_refusals h s d (Some (standing r))) (cancelled m h s d r) (record { facts = refl }, tt) (λ n. record { facts = refl })
 
--- what was filled, and the rest of a greater quantity, are that quantity
+-- a filled quantity, plus the rest of a greater quantity, is that quantity
 rest_within : (f q : ℕ) → nat_le q f ≡ false → nat_le q greatest_amount ≡ true → nat_le (f + (q - f)) greatest_amount ≡ true
 rest_within f q more h = ap (λ i. nat_le i greatest_amount) whole ∙ h
   where
@@ -172,7 +172,7 @@ due_of-Fits m h t (Some k) w e =
     let side = In-filter (λ (x : HeldSide). not (list_any (releases x) h.facts)) (held_sides h.facts) k kept.0 in
     due-Fits m h k (held-within h.facts k w side.0)
 
--- requests, quotes and answers to them add no order
+-- requests, quotes and responses add no order
 
 request-Fits : (m : Market) (h : History) (s : Sender) (d : RequestMessage) (t : ℕ) → Fits (answer_request m h s d t)
 request-Fits m h s d t = first_of-Fits (request_refusals m h s d t) (request_accepted m (opened m h s d t)) (record { facts = refl }, (record { facts = refl }, (record { facts = refl }, (record { facts = refl }, (record { facts = refl }, (record { facts = refl }, (record { facts = refl }, (record { facts = refl }, (record { facts = refl }, (record { facts = refl }, tt)))))))))) (λ n. record { facts = refl })
@@ -250,7 +250,7 @@ amounts_within m h i w q = list_all-append is_within h.facts (answer_input m h i
 
 -- fills
 
--- a share and the shares that follow are no more than the quantity
+-- a share and the shares after it are at most the quantity
 share_and_rest : (l q s : ℕ) → s ≤ q - l → min l q + s ≤ q
 share_and_rest l q s h = omega (arith, h)
 

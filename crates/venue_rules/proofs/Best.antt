@@ -13,7 +13,7 @@ use Rattle.venue_rules.proofs.Members.{In, In-filter, In-filter_map, In-from_Con
 use Rattle.venue_rules.proofs.Ranks.{In-rank, In-ranked, not_better_through, not_both, with_left_from}
 use Rattle.venue_rules.proofs.Lefts.{In-resting}
 
--- The first of the ranked orders is the best: at the best price, and of those the earliest.
+-- The first of the ranked orders is the best: at the best price, and the earliest of those.
 
 not_self : (side : Side) (p : ℤ) → is_better side p p ≡ false
 not_self Buy p = grind (arith, ints)
@@ -32,7 +32,7 @@ abbrev IsRising : List Resting → Type 0
 IsRising [] = Unit {0}
 IsRising (r ∷ rs) = ((s : Resting) → In s rs → r.entry.number ≤ s.entry.number) × IsRising rs
 
--- the order that is ranked is behind a better one
+-- the ranked order comes after a better one
 behind_better : (side : Side) (r s : Resting) (ss : List Resting) → is_better side s.entry.order.price r.entry.order.price ≡ true → ((x : Resting) → In x ss → IsBehind side s x) → (x : Resting) → (r ≡ x) ⊎ In x ss → IsBehind side s x
 behind_better side r s ss h q x (inl e) = subst (IsBehind side s) e (not_both side s.entry.order.price r.entry.order.price h, λ k. absurd (true≢false (sym h ∙ k)))
 behind_better side r s ss h q x (inr i) = q x i
@@ -68,7 +68,7 @@ filter_rise : (p : Resting → Bool) (rs : List Resting) → IsRising rs → IsR
 filter_rise p [] n = tt
 filter_rise p (r ∷ rs) n = filter_case_rise p r rs (p r) n.0 (filter_rise p rs n.1)
 
--- nothing is lost
+-- ranking loses nothing
 
 rank_case_has : (side : Side) (r s x : Resting) (ss : List Resting) (b : Bool) → (r ≡ x) ⊎ In x (s ∷ ss) → ((r ≡ x) ⊎ In x ss → In x (rank side r ss)) → In x (if b then s ∷ rank side r ss else r ∷ s ∷ ss)
 rank_case_has side r s x ss true (inl e) rec = inr (rec (inl e))

@@ -6,7 +6,7 @@ use Rattle.venue_rules.proofs.ExampleInputs.{alpha, beta, gamma, delta, epsilon,
 
 -- The order book: fills, cancels, replacements, market data.
 
--- two sellers at one price, a buyer of 100, and a seller of another instrument
+-- two sellers at one price, a buyer of 100, and a seller in another instrument
 abbrev pub first_orders : List Input
 first_orders =
     sends beta 2 (order (codes "b1") swap Sell 60 two_and_a_half) start
@@ -14,7 +14,7 @@ first_orders =
     ∷ sends alpha 2 (order (codes "a1") swap Buy 100 two_and_a_half) (start + 2)
     ∷ sends alpha 3 (order (codes "a2") basis Sell 1 (negsuc 249999)) (start + 3) ∷ []
 
--- the buyer is filled by the earlier seller first; the other order rests
+-- the earlier seller fills the buyer first; the other order rests
 pub buyer_meets_two_sellers : said_from 0 first_orders
     ≡ (beta, codes "35=8|37=O1|17=E1|150=0|39=0|55=IRS5Y|54=2|151=60|14=0|11=b1|")
     ∷ (delta, codes "35=8|37=O2|17=E2|150=0|39=0|55=IRS5Y|54=2|151=70|14=0|11=d1|")
@@ -27,7 +27,7 @@ pub buyer_meets_two_sellers : said_from 0 first_orders
 unfolding digits
 buyer_meets_two_sellers = refl
 
--- then a fill-or-kill order for one more than is there
+-- then a fill-or-kill order for 1 more than rests
 abbrev pub after_kill : List Input
 after_kill = first_orders ++ sends gamma 2 (fill_or_kill (codes "g1") swap Buy 31 two_and_a_half) (start + 4) ∷ []
 
@@ -37,7 +37,7 @@ pub kill_fills_nothing : said_from 8 after_kill
 unfolding digits
 kill_fills_nothing = refl
 
--- then a replacement, a cancel, and a cancel of what is no longer there
+-- then a replacement, a cancel, and a cancel of an order that is gone
 pub seller_replaces_and_cancels : said_from 10 (after_kill ++
     sends delta 3 (replace (codes "d2") (codes "d1") 50 (pos 2502500)) (start + 5)
     ∷ sends delta 4 (cancel (codes "d3") (codes "d2")) (start + 6)
@@ -62,13 +62,13 @@ pub market_data_after_cancel : said_from 13 (after_kill ++
 unfolding digits
 market_data_after_cancel = refl
 
--- after the killed order, a replacement by no more than is filled
+-- after the killed order, a replacement to no more than is filled
 pub replacement_below_filled : said_from 10 (after_kill ++ sends delta 3 (replace (codes "d9") (codes "d1") 40 two_and_a_half) (start + 5) ∷ [])
     ≡ (delta, codes "35=9|37=O2|11=d9|41=d1|39=1|434=2|102=99|58=Quantity already filled|") ∷ []
 unfolding digits
 replacement_below_filled = refl
 
--- after the killed order, a fill-or-kill order for just what is there
+-- after the killed order, a fill-or-kill order for exactly what rests
 pub kill_fills_all : said_from 10 (after_kill ++ sends gamma 3 (fill_or_kill (codes "g2") swap Buy 30 two_and_a_half) (start + 5) ∷ [])
     ≡ (gamma, codes "35=8|37=O6|17=E11|150=0|39=0|55=IRS5Y|54=1|151=30|14=0|11=g2|")
     ∷ (gamma, codes "35=8|37=O6|17=E12|150=F|39=2|55=IRS5Y|54=1|151=0|14=30|11=g2|31=2.5|32=30|880=T3|")

@@ -10,9 +10,9 @@ use Rattle.venue_rules.specs.Run.{Input, run}
 use Rattle.venue_rules.proofs.ExampleInputs.{venue, alpha, beta, delta, epsilon, start, swap, two_and_a_half, sends, order, linked_order, cancel, replace, market_data, recipient, request, quote, withdraw, respond, said_from}
 use Rattle.venue_rules.proofs.RoomExamples.{asked}
 
--- What a rule leaves out and what it takes in, where another rule would read much the same.
+-- Edges of rules, where another rule would read much the same.
 
--- what only the venue sends is not processed, whichever type it has: 8, 9, W, Y, AG and AI, as the venue sent them
+-- what only the venue sends is not processed: types 8, 9, W, Y, AG and AI, as the venue sent them
 abbrev pub answered : List Input
 answered =
     sends alpha 2 (order (codes "a1") (codes "X") Sell 1 two_and_a_half) start
@@ -32,7 +32,8 @@ pub answers_are_not_processed : said_from 6 (answered ++ map (λ (r : Reply). se
 unfolding digits
 answers_are_not_processed = refl
 
--- only parties with source D and role 35 are recipients: of four parties two are too few; and who else is named need not be known, nor be another
+-- only parties with source D and role 35 are recipients: two among four parties are too few; other parties need not be
+-- known, nor differ
 abbrev pub party : List ℕ → ℕ → ℕ → Party
 party name source role = record { id = name; source = source; role = role }
 
@@ -49,7 +50,7 @@ pub other_parties_are_no_recipients : said_from 0 (
 unfolding digits
 other_parties_are_no_recipients = refl
 
--- a size is compared also on the side that has no price; of that side none is sent on
+-- a size is compared on the side without a price too; that side's size is not sent on
 abbrev pub sized_quote : List ℕ → Option ℤ → Option ℤ → Option ℕ → Option ℕ → App
 sized_quote id bid offer bid_size offer_size = Quote (record { quote_id = id; request_id = codes "R1"; quote_type = None; parties = []; symbol = swap; bid_price = bid; offer_price = offer; bid_size = bid_size; offer_size = offer_size; valid_until = None })
 
@@ -65,7 +66,7 @@ pub sizes_without_a_price : said_from 4 (asked ++
 unfolding digits
 sizes_without_a_price = refl
 
--- a replacement keeps the link (583) of the order whose place it takes
+-- a replacement keeps the link (583) of the order that it replaces
 pub replacement_keeps_its_link : said_from 2 (
     sends alpha 2 (linked_order (codes "L") (codes "a1") swap Sell 10 two_and_a_half) start
     ∷ sends alpha 3 (replace (codes "a2") (codes "a1") 10 two_and_a_half) (start + 1)
@@ -78,7 +79,7 @@ pub replacement_keeps_its_link : said_from 2 (
 unfolding digits
 replacement_keeps_its_link = refl
 
--- what one participant used as the identifier of a request (131) or of a quote (117), another may use
+-- another participant may use the same identifier of a request (131) or of a quote (117)
 pub identifiers_of_others : said_from 4 (asked ++
     sends beta 2 (request (codes "q1") swap (Some Buy) 100 (codes "ALPHA" ∷ codes "DELTA" ∷ codes "EPSILON" ∷ [])) start
     ∷ sends delta 2 (quote (codes "x1") (codes "R1") swap None (Some two_and_a_half) None) start
@@ -94,7 +95,7 @@ pub identifiers_of_others : said_from 4 (asked ++
 unfolding digits
 identifiers_of_others = refl
 
--- a quote that would end after its room ends with it
+-- a quote that would outlive its room ends with it
 pub quote_ends_with_its_room : said_from 4 (asked ++
     sends delta 2 (quote (codes "d1") (codes "R1") swap None (Some two_and_a_half) (Some (start + 40000))) start
     ∷ sends alpha 4 (respond (codes "h1") (codes "Q1") 1 None) (start + 30001) ∷ [])
@@ -105,7 +106,7 @@ pub quote_ends_with_its_room : said_from 4 (asked ++
 unfolding digits
 quote_ends_with_its_room = refl
 
--- a picture has the orders of who is shown it too: with the first quote, and on request
+-- a snapshot has the receiver's own orders too: with the first quote, and on request
 pub own_orders_are_shown : said_from 5 (
     sends alpha 2 (order (codes "a1") swap Sell 30 (pos 2502500)) start
     ∷ asked ++

@@ -6,13 +6,13 @@ use Rattle.venue_rules.proofs.ExampleInputs.{venue, alpha, delta, start, swap, b
 
 -- Linked orders and crosses: fifteen seconds between their entries.
 
--- two sells, the second of which the buyer is linked to
+-- two sells; the buyer is linked to the second
 abbrev pub own_sell_rests : List Input
 own_sell_rests =
     sends delta 2 (order (codes "d1") swap Sell 15 two_and_a_half) start
     ∷ sends alpha 2 (order (codes "a1") swap Sell 10 two_and_a_half) (start + 1) ∷ []
 
--- a buy that would reach its own sell a millisecond early is refused whole, though another order is before it
+-- a buy that would reach its own sell a millisecond early is refused whole, though another order ranks before it
 pub own_sell_too_recent : said_from 2 (own_sell_rests ++ sends alpha 3 (order (codes "a2") swap Buy 20 two_and_a_half) (start + 15000) ∷ [])
     ≡ (alpha, codes "35=8|37=NONE|17=E3|150=8|39=8|55=IRS5Y|54=1|151=0|14=0|11=a2|103=99|58=Linked order too recent|") ∷ []
 unfolding digits
@@ -27,7 +27,7 @@ pub own_sell_old_enough : said_from 2 (own_sell_rests ++ sends alpha 3 (order (c
 unfolding digits
 own_sell_old_enough = refl
 
--- two participants with one link; the refused identifier is used again
+-- two participants with one link; the refused identifier is usable again
 pub one_link : said_from 1 (
     sends alpha 2 (linked_order (codes "L") (codes "a1") swap Sell 10 two_and_a_half) start
     ∷ sends delta 2 (linked_order (codes "L") (codes "d1") swap Buy 10 two_and_a_half) (start + 14999)
@@ -70,13 +70,13 @@ pub held_side_cancelled : said_from 1 (crossed ++ sends alpha 3 (cancel (codes "
 unfolding digits
 held_side_cancelled = refl
 
--- a held side is not replaced
+-- a held side cannot be replaced
 pub held_side_not_replaced : said_from 1 (crossed ++ sends alpha 3 (replace (codes "x4") (codes "x2") 20 two_and_a_half) (start + 1) ∷ [])
     ≡ (alpha, codes "35=9|37=NONE|11=x4|41=x2|39=8|434=2|102=99|58=Held side|") ∷ []
 unfolding digits
 held_side_not_replaced = refl
 
--- a tick before a message that comes as the side is due makes the list timely; the message alone does not
+-- a tick before a message, at the side's due moment, makes the list timely; the message alone does not
 pub tick_first_is_timely : is_timely venue (crossed ++ Tick (start + 15000) ∷ sends delta 2 (order (codes "d1") swap Sell 10 two_and_a_half) (start + 15000) ∷ []) ≡ true
 tick_first_is_timely = refl
 
@@ -92,7 +92,7 @@ pub own_buy_at_once : said_from 1 (sends alpha 2 (order (codes "a1") swap Buy 10
 unfolding digits
 own_buy_at_once = refl
 
--- of two sides due at one moment the one that came first enters, by a tick of its own
+-- of two sides due at one moment the first to arrive enters, by a tick of its own
 pub two_sides_due : said_from 2 (
     sends alpha 2 (cross (codes "c1") 1 (codes "x1") (codes "x2") swap 10 two_and_a_half) start
     ∷ sends delta 2 (cross (codes "c1") 1 (codes "x1") (codes "x2") basis 10 two_and_a_half) start

@@ -23,7 +23,7 @@ use Rattle.venue_rules.proofs.EveryRun.{asked_in, maker_among, member_follows, r
 use Rattle.venue_rules.proofs.OpenRooms.{filter_short}
 use Rattle.venue_rules.proofs.LiveQuotes.{live_quotes_few}
 
--- A withdrawal tells each participant of each quote once at most: a maker is not the requester.
+-- A withdrawal sends each participant at most one reply a quote: a maker is not the requester.
 
 not_among : (w : ℕ) (rs : List ℕ) (x : ℕ) → list_any (λ y. y == w) rs ≡ false → In x rs → x ≡ w → ⊥
 not_among w [] x h i e = i
@@ -56,7 +56,7 @@ all_once m rs h j p (q ∷ qs) there =
     ap length (filter-append (λ (x : Reply). x.to == j) (both_emitted m h q) (flat_map (both_emitted m h) qs)) ∙ length-append (replies_to j (both_emitted m h q)) (replies_to j (flat_map (both_emitted m h) qs)) in
     omega (arith, here, more, split)
 
--- one reply is few
+-- one reply is within the bound
 one_few : (j : ℕ) (x : Reply) → length (replies_to j (x ∷ [])) ≤ open_room
 one_few j x = let short : length (replies_to j (x ∷ [])) ≤ 1 = filter_short (λ (y : Reply). y.to == j) (x ∷ []) in omega (arith, short)
 

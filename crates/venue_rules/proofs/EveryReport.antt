@@ -18,7 +18,7 @@ use Rattle.venue_rules.proofs.ReportsEach.{input-Reports}
 
 -- Over every list of inputs the reports have the next numbers, and the trades are reported.
 
--- what a list of inputs adds to a history
+-- the additions of a list of inputs to a history
 
 abbrev pub added : Market → History → List Input → List Fact
 added m h [] = []
@@ -28,7 +28,7 @@ pub run_facts : (m : Market) (h : History) (is : List Input) → (run_from m h i
 run_facts m h [] = sym (append-nil h.facts)
 run_facts m h (i ∷ is) = run_facts m (after h (answer_input m h i)) is ∙ append_assoc h.facts (answer_input m h i).facts (added m (after h (answer_input m h i)) is)
 
--- numbers in a row, and then more of them
+-- consecutive numbers, and a continuation
 
 range_more : (a n k : ℕ) → range_with_len a (n + k) ≡ range_with_len a n ++ range_with_len (a + n) k
 range_more a zero k = ap (range_with_len a) (none k) ∙ ap (λ b. range_with_len b k) (sym (last a))

@@ -15,7 +15,7 @@ use Rattle.venue_rules.proofs.Members.{In, In-from_Contains, Contains-from_In, I
 use Rattle.venue_rules.proofs.EveryReport.{added, run_facts}
 use Rattle.venue_rules.proofs.EveryRun.{lawful, one_room, run-Follows}
 
--- What stands behind each trade in a room.
+-- The evidence for each trade in a room.
 
 -- the input that added a fact
 
@@ -36,7 +36,7 @@ asked_together m is asked k =
     let c : Contains (answer_input m (run m by.0).history by.1).facts (Asked asked) = Contains-from_In (answer_input m (run m by.0).history by.1).facts (Asked asked) by.4 in
     record { earlier = by.0; input = by.1; later = by.2; taken = by.3; opened = c; emitted = (lawful m is).recipients_asked_together by.0 by.2 by.1 asked by.3 c }
 
--- the first quote of a room that has one
+-- a room's first quote, where it has one
 
 abbrev FirstIn : List Fact → ℕ → Type 0
 FirstIn fs room = (before : List Fact) × (q : RoomQuote) × (later : List Fact) × (fs ≡ before ++ (Quoted q ∷ later)) × (q.room ≡ room) × (first_quote before room ≡ None)

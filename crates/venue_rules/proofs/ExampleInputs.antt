@@ -10,7 +10,7 @@ use Rattle.venue_rules.specs.Run.{Input, Message, run}
 use Rattle.venue_rules.specs.Messages.{message}
 use Rattle.venue_rules.proofs.Spelling.{spelled}
 
--- the venue of the examples, where linked orders wait for 15 seconds
+-- the venue of the examples: linked orders wait for 15 seconds
 abbrev pub venue : Market
 venue = record { participants = fixture_participants; instruments = fixture_instruments 15000 }
 
@@ -47,7 +47,7 @@ two_and_a_half = pos 2500000
 abbrev pub sends : ℕ → ℕ → App → ℕ → Input
 sends who n app t = Message (record { from = who; item = record { era = 1; number = n; app = app } }) t
 
--- a limit order without a time in force or a link
+-- a limit order without time in force or link
 abbrev pub order : List ℕ → List ℕ → Side → ℕ → ℤ → App
 order id symbol side quantity price = NewOrderSingle (record { order_id = id; link_id = None; symbol = symbol; side = side; quantity = quantity; order_type = 50; price = Some price; time_in_force = None; transact_time = None })
 
@@ -66,14 +66,14 @@ cancel id original = OrderCancelRequest (record { order_id = id; original_id = o
 abbrev pub replace : List ℕ → List ℕ → ℕ → ℤ → App
 replace id original quantity price = OrderCancelReplaceRequest (record { order_id = id; original_id = original; quantity = quantity; order_type = 50; price = Some price })
 
--- the replies of a venue from the n-th on: whom they go to, and their text
+-- the replies of a venue from the n-th on: addressee and text
 abbrev pub said_in : Market → ℕ → List Input → List (ℕ × List ℕ)
 said_in m n is = map (λ r. (r.to, spelled (message r.what))) (drop n (run m is).replies)
 
 abbrev pub said_from : ℕ → List Input → List (ℕ × List ℕ)
 said_from n is = said_in venue n is
 
--- a request for market data: what kind of answer is wanted (263) is a character
+-- a request for market data; SubscriptionRequestType (263) is a character
 abbrev pub market_data : List ℕ → List ℕ → ℕ → App
 market_data id symbol kind = MarketDataRequest (record { request_id = id; subscription_type = kind; depth = 0; entry_types = 48 ∷ 49 ∷ []; symbol = symbol })
 

@@ -46,7 +46,8 @@ use Rattle.venue_rules.proofs.ShortSides.{IsShort}
 use Rattle.venue_rules.proofs.ShortSidesEach.{run-IsShort}
 use Rattle.venue_rules.proofs.Emitted.{withdrawals_few}
 
--- One input tells each participant few times: an order at most twice for each resting order of a side and twice more, a withdrawal once for each live quote.
+-- One input sends each participant few replies: an order at most two for each resting order of a side plus two, a
+-- withdrawal one for each live quote.
 
 abbrev Few : Answer → Type 0
 Few x = length x.replies ≤ reply_room
@@ -66,7 +67,7 @@ unless_killed : (b : Bool) (fs : List Fill) (n : ℕ) → length fs ≤ n → le
 unless_killed true fs n h = omega arith
 unless_killed false fs n h = h
 
--- an order has no more fills than orders rest on the other side
+-- at most as many fills as orders rest on the other side
 fills-few : (facts : List Fact) (o : OrderFact) → IsShort facts → length (fills facts o) ≤ side_capacity
 fills-few facts o short =
     let pairs : List Fill = paired (against facts o) (shares o.quantity (map (λ (r : Resting). r.left) (against facts o))) in
@@ -84,7 +85,7 @@ unfilled-length : (x : ℕ → Reply) (b : Bool) → length (if b then x ∷ [] 
 unfilled-length x true = omega arith
 unfilled-length x false = omega arith
 
--- a report of the order, two of each fill, and one of what is not filled
+-- one report of the order, two of each fill, and one of a cancelled rest
 entry-few : (m : Market) (facts : List Fact) (e : Entry) (fs : List Fill) (n : ℕ) (first : ℕ → Reply) → length fs ≤ side_capacity → length (numbered n (first ∷ entry_reports m facts e fs)) ≤ reply_room
 entry-few m facts e fs n first few =
     let count : length (numbered n (first ∷ entry_reports m facts e fs)) ≡ suc (length (entry_reports m facts e fs)) = numbered-length n (first ∷ entry_reports m facts e fs) in
@@ -96,7 +97,7 @@ entry-few m facts e fs n first few =
 accepted-Few : (m : Market) (h : History) (o : OrderFact) (t : ℕ) → IsShort h.facts → Few (accepted m h o t)
 accepted-Few m h o t short = entry-few m h.facts (entering h.facts o 0 t) (fills h.facts o) h.reports (λ n. reply o.who (OrderEntered (order_report m (entering h.facts o 0 t) o.quantity 0 n))) (fills-few h.facts o short)
 
--- one reply, two and three are few
+-- one, two and three replies are within the bound
 
 one_few : 1 ≤ reply_room
 one_few = omega arith
@@ -129,7 +130,7 @@ cross-Few m h s d t short =
 due-Few : (m : Market) (h : History) (k : HeldSide) → IsShort h.facts → Few (answer_due m h k)
 due-Few m h k short = first_of-each Few (due_refusals m h k) (accepted m h k.order k.due) (one_few, (one_few, tt)) (λ n. accepted-Few m h k.order k.due short)
 
--- requests, quotes and answers to them
+-- requests, quotes and responses
 
 few_recipients : (n : ℕ) → nat_lt recipient_room n ≡ false → n ≤ reply_room
 few_recipients n h = grind (arith, nat_tests)

@@ -7,7 +7,7 @@ use Rattle.venue_rules.specs.Market.{Market}
 use Rattle.venue_rules.specs.Run.{Tick, is_timely}
 use Rattle.venue_rules.proofs.ExampleInputs.{venue, alpha, beta, gamma, delta, epsilon, start, swap, basis, two_and_a_half, sends, order, fill_or_kill, immediate, cancel, replace, cross, said_from, said_in}
 
--- What fills and what waits: related participants, orders that may not rest, replaced orders, held sides.
+-- Fills and delays: related participants, orders that may not rest, replaced orders, held sides.
 
 -- orders of two related participants are linked
 pub related_participants_wait : said_from 1 (
@@ -21,7 +21,7 @@ pub related_participants_wait : said_from 1 (
 unfolding digits
 related_participants_wait = refl
 
--- an immediate-or-cancel order takes what is there, and its rest is cancelled and does not rest
+-- an immediate-or-cancel order takes what rests; its own rest is cancelled
 pub immediate_order : said_from 1 (
     sends delta 2 (order (codes "d1") swap Sell 10 two_and_a_half) start
     ∷ sends alpha 2 (immediate (codes "a1") swap Buy 15 two_and_a_half) (start + 1)
@@ -34,7 +34,7 @@ pub immediate_order : said_from 1 (
 unfolding digits
 immediate_order = refl
 
--- what is filled of an order goes on over its replacements: resting, and entering again
+-- an order's filled quantity carries over its replacements: resting, and entering again
 pub replaced_order_goes_on : said_from 4 (
     sends delta 2 (order (codes "d1") swap Sell 70 two_and_a_half) start
     ∷ sends alpha 2 (order (codes "a1") swap Buy 40 two_and_a_half) (start + 1)
@@ -53,7 +53,8 @@ pub replaced_order_goes_on : said_from 4 (
 unfolding digits
 replaced_order_goes_on = refl
 
--- a fill-or-kill order for more than is there has no fills, so none is with a linked order; for just what is there, its own order among it, it is refused
+-- a fill-or-kill order for more than rests has no fills, so none with a linked order; for exactly what rests, its own
+-- order included, it is refused
 pub kill_counts_linked_orders : said_from 2 (
     sends alpha 2 (order (codes "a1") swap Sell 10 two_and_a_half) start
     ∷ sends delta 2 (order (codes "d1") swap Sell 5 two_and_a_half) start
@@ -65,7 +66,8 @@ pub kill_counts_linked_orders : said_from 2 (
 unfolding digits
 kill_counts_linked_orders = refl
 
--- a held side that would meet a later order of its own participant is refused as its moment comes, and is gone; its identifier stays used
+-- a held side that would meet a later order of its own participant is refused at its moment, and gone; its identifier
+-- stays used
 pub held_side_refused : said_from 2 (
     sends alpha 2 (cross (codes "c1") 1 (codes "x1") (codes "x2") swap 10 two_and_a_half) start
     ∷ sends alpha 3 (order (codes "a1") swap Buy 5 (pos 2502500)) (start + 5000)
@@ -79,7 +81,7 @@ pub held_side_refused : said_from 2 (
 unfolding digits
 held_side_refused = refl
 
--- where the delays of two instruments differ, the side that is due first enters first, though it came later
+-- with two different delays, the side due first enters first, though it arrived later
 abbrev pub uneven_delays : Market
 uneven_delays = record venue { instruments = fixture_instrument swap 15000 ∷ fixture_instrument basis 1000 ∷ [] }
 
@@ -97,6 +99,6 @@ pub earlier_due_enters_first : said_in uneven_delays 2 (
 unfolding digits
 earlier_due_enters_first = refl
 
--- a cross in the last seconds of time: its second side is due past the greatest moment, at which no tick finds it
+-- a cross in the last seconds of time: its second side is due past the greatest moment, which no tick reaches
 pub never_due : is_timely venue (sends alpha 2 (cross (codes "c1") 1 (codes "x1") (codes "x2") swap 10 two_and_a_half) greatest ∷ Tick greatest ∷ []) ≡ false
 never_due = refl

@@ -21,9 +21,9 @@ use Rattle.venue_rules.proofs.Ranks.{Ordered, ranked-Ordered}
 use Rattle.venue_rules.proofs.Lefts.{resting-entered, resting-traded, entries_traded, In-resting, rests_left, side_opposite, left_traded, left_entered, taken_part}
 use Rattle.venue_rules.proofs.Trading.{IsFresh, fresh-left}
 
--- An order that enters trades with the best resting order, time after time.
+-- An entering order trades with the best resting order at each step.
 
--- the shares, one after another
+-- the shares, in turn
 abbrev pub in_turn : ℕ → List ℕ → List ℕ
 in_turn q [] = []
 in_turn q (l ∷ ls) = min l q ∷ in_turn (q - l) ls
@@ -68,7 +68,7 @@ eats_nothing q (r ∷ rs) e = eats_case (record { resting = r; quantity = min r.
     still : (a : ℕ) → a ≡ 0 → a - r.left ≡ 0
     still a h = omega (arith, h)
 
--- where an order's price is refused, so are those of the orders behind it
+-- a refused price refuses those of the orders after it
 not_accepted : (side : Side) (limit p s : ℤ) → accepts side limit p ≡ false → is_better (opposite side) s p ≡ false → accepts side limit s ≡ false
 not_accepted Buy limit p s h k = grind (arith, ints)
 not_accepted Sell limit p s h k = grind (arith, ints)
@@ -86,7 +86,7 @@ trade_facts e fs = map (λ f. Traded (trade_of e f)) fs
 abbrev NoneTooSoon : Market → Entry → List Fill → Type 0
 NoneTooSoon m e fs = (f : Fill) → In f fs → is_too_soon m e.order e.moment f ≡ false
 
--- the trades follow from these facts, where these orders rest there
+-- the trades follow from these facts, where these orders rest
 abbrev Serves : Market → List Reply → Entry → List Resting → Type 0
 Serves m rs e ws =
     (facts : List Fact) (q : ℕ) → Places (λ (y : Entry). y.number) 0 (entries facts) → In e (entries facts) → q ≤ left facts e → resting facts e.order.instrument (opposite e.order.side) ≡ ws
@@ -95,7 +95,7 @@ Serves m rs e ws =
 Each-none : (m : Market) (rs : List Reply) (e : Entry) (facts : List Fact) (fs : List Fill) → fs ≡ [] → Each (Follows m rs) facts (trade_facts e fs)
 Each-none m rs e facts fs h = subst (λ gs. Each (Follows m rs) facts (trade_facts e gs)) (sym h) tt
 
--- what comes after one trade
+-- the steps after one trade
 after_one : (m : Market) (rs : List Reply) (e : Entry) (r : Resting) (ws : List Resting) → Serves m rs e ws → (facts : List Fact) (q : ℕ) → Places (λ (y : Entry). y.number) 0 (entries facts) → In e (entries facts) → q ≤ left facts e → resting facts e.order.instrument (opposite e.order.side) ≡ r ∷ ws
     → NoneTooSoon m e (eats (q - r.left) (filter (taken_by e) ws)) → (r.left < q) ⊎ (q ≤ r.left)
     → Each (Follows m rs) (facts ++ (Traded (trade_of e (record { resting = r; quantity = min r.left q })) ∷ [])) (trade_facts e (eats (q - r.left) (filter (taken_by e) ws)))
@@ -118,7 +118,7 @@ after_one m rs e r ws rec facts q places mine room best soon (inl h) =
 min_zero : (l q : ℕ) → nat_lt 0 (min l q) ≡ false → nat_lt 0 l ≡ true → q - l ≡ 0
 min_zero l q h k = let a : min l q ≤ 0 = ltb-false 0 (min l q) h in let b : 0 < l = ltb-true 0 l k in omega (arith, a, b)
 
--- one order, whose share is positive or not
+-- one order, with a share of 0 or above
 one_share : (m : Market) (rs : List Reply) (e : Entry) (r : Resting) (ws : List Resting) → Serves m rs e ws → (facts : List Fact) (q : ℕ) → Places (λ (y : Entry). y.number) 0 (entries facts) → In e (entries facts) → q ≤ left facts e → resting facts e.order.instrument (opposite e.order.side) ≡ r ∷ ws → taken_by e r ≡ true
     → (b : Bool) → nat_lt 0 (min r.left q) ≡ b → let fs : List Fill = cond b (record { resting = r; quantity = min r.left q } ∷ eats (q - r.left) (filter (taken_by e) ws)) (eats (q - r.left) (filter (taken_by e) ws)) in NoneTooSoon m e fs → Each (Follows m rs) facts (trade_facts e fs)
 one_share m rs e r ws rec facts q places mine room best ok true h soon = (
@@ -156,7 +156,7 @@ one_share m rs e r ws rec facts q places mine room best ok false h soon =
     let k = In-resting facts e.order.instrument (opposite e.order.side) r (subst (λ ys. In r ys) (sym best) (inl refl)) in
     Each-none m rs e facts (eats (q - r.left) (filter (taken_by e) ws)) (eats_nothing (q - r.left) (filter (taken_by e) ws) (min_zero r.left q h (rests_left e.order.instrument (opposite e.order.side) r k.2)))
 
--- one order, at a price that is accepted or not
+-- one order, at an accepted price or not
 one_order : (m : Market) (rs : List Reply) (e : Entry) (r : Resting) (ws : List Resting) → Serves m rs e ws → (facts : List Fact) (q : ℕ) → Places (λ (y : Entry). y.number) 0 (entries facts) → In e (entries facts) → q ≤ left facts e → resting facts e.order.instrument (opposite e.order.side) ≡ r ∷ ws
     → (b : Bool) → taken_by e r ≡ b → let ys : List Resting = cond b (r ∷ filter (taken_by e) ws) (filter (taken_by e) ws) in NoneTooSoon m e (eats q ys) → Each (Follows m rs) facts (trade_facts e (eats q ys))
 one_order m rs e r ws rec facts q places mine room best true h soon = one_share m rs e r ws rec facts q places mine room best h (nat_lt 0 (min r.left q)) refl soon
@@ -176,7 +176,8 @@ killed_or_not m rs e facts fs false h soon = h soon
 no_more : (m : Market) (e : Entry) (fs gs : List Fill) → fs ≡ gs → NoneTooSoon m e fs → NoneTooSoon m e gs
 no_more m e fs gs h = subst (NoneTooSoon m e) h
 
--- an order enters after `base`, on whose other side the same orders rest as after `facts`, and its fills are those of `facts`
+-- an order enters after `base`, with the same resting orders on the other side as after `facts`; its fills are those of
+-- `facts`
 pub entry-Each : (m : Market) (rs : List Reply) (base facts : List Fact) (e : Entry) → Places (λ (y : Entry). y.number) 0 (entries base) → e.number ≡ next_order base → IsFresh base e.number → resting base e.order.instrument (opposite e.order.side) ≡ resting facts e.order.instrument (opposite e.order.side)
     → NoneTooSoon m e (fills facts e.order) → Each (Follows m rs) base (entry_facts e (fills facts e.order))
 entry-Each m rs base facts e places number fresh same soon =

@@ -7,7 +7,7 @@ use Rattle.instruments.specs.Rows.{is_instrument_file}
 use Rattle.venue_rules.specs.Fixture.{fixture_instruments, fixture_participants}
 use Rattle.venue_rules.specs.Rooms.{printed}
 
--- The small market of the examples, and the numbers that the venue prints.
+-- The small market of the examples, and the venue's printed numbers.
 
 pub five_participants : (length fixture_participants.names ≡ 5) × (fixture_participants.venue ≡ codes "SEF") × (find_participant fixture_participants (codes "EPSILON") ≡ Some 4) × (find_participant fixture_participants (codes "SEF") ≡ None) × (name_of fixture_participants 3 ≡ codes "DELTA")
 five_participants = (refl, refl, refl, refl, refl)

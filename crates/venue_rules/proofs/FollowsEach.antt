@@ -57,7 +57,7 @@ use Rattle.venue_rules.proofs.Trading.{IsFresh, Numbered, fresh-quiet, not_past}
 use Rattle.venue_rules.proofs.Fills.{entry-Each}
 use Rattle.venue_rules.proofs.Hits.{found-is_live}
 
--- What each answer adds follows what has happened.
+-- The facts of each answer follow.
 
 -- orders
 
@@ -79,7 +79,7 @@ order-Keeps m h s d t places = first_of-Keeps m h.facts (order_refusals m h s d 
 
 -- cancels and replacements
 
--- a resting order that was named is one of the entries
+-- a named resting order is one of the entries
 abbrev pub IsEntered : List Fact → Named → Type 0
 IsEntered facts (IsResting r) = In r.entry (entries facts)
 IsEntered facts (IsHeld k) = Unit {0}
@@ -212,9 +212,9 @@ withdrawal_of-Keeps m h s d t true all = withdraw_one-Keeps m h s t d.quote_id
 withdrawal_of-Keeps m h s d t false true = withdrawn_or-Keeps m h (not_found s None) _ (record { each = tt })
 withdrawal_of-Keeps m h s d t false false = record { each = tt }
 
--- answers to quotes
+-- quote responses
 
--- the quote stands in the room, both are known, the room is the sender's, and the quote may be hit
+-- the quote is in the room, both exist, the room is the sender's, and the quote may be hit
 record Hit (facts : List Fact) (s : Sender) (r : Room) (q : RoomQuote) (t : ℕ) : Type 0 where
   room : In r (rooms facts)
   quote : In q (quotes facts)
@@ -222,7 +222,7 @@ record Hit (facts : List Fact) (s : Sender) (r : Room) (q : RoomQuote) (t : ℕ)
   mine : r.requester ≡ s.who
   live : is_live facts t q ≡ true
 
--- who buys and who sells, and at which price
+-- buyer, seller and price
 hit_of : (s : Sender) (r : Room) (q : RoomQuote) (side : Side) (p : ℤ) (t : ℕ) → r.requester ≡ s.who → price_for side q ≡ Some p → IsHitOf (hit_trade s r q side p t) r q
 hit_of s r q Buy p t mine at = inl (sym mine, refl, at)
 hit_of s r q Sell p t mine at = inr (refl, sym mine, at)

@@ -8,12 +8,12 @@ use Rattle.venue_rules.specs.declared.facts.Entry.{Entry}
 use Rattle.venue_rules.specs.Lawful.{RequestsComeFirst, LinkedOrdersWait}
 use Rattle.venue_rules.proofs.ExampleInputs.{venue, alpha, beta, start, two_and_a_half}
 
--- Lists of facts that the venue never keeps: the laws refuse them.
+-- Lists of facts that the venue never produces, refuted by the laws.
 
 abbrev pub room_trade : Trade
 room_trade = record { instrument = 0; quantity = 10; price = two_and_a_half; buyer = alpha; seller = beta; place = InRoom 1 1; moment = start }
 
--- a trade in a room that nobody asked for
+-- a trade in a room without a request
 pub trade_without_request : RequestsComeFirst venue (Traded room_trade ∷ []) → ⊥
 trade_without_request law = let found = law [] room_trade 1 1 ([], refl) refl in nothing_before found.2.0 found.2.1
   where
@@ -26,7 +26,7 @@ own_entry number t = record { number = number; order = record { who = alpha; id 
 abbrev pub own_trade : Trade
 own_trade = record { instrument = 0; quantity = 10; price = two_and_a_half; buyer = alpha; seller = alpha; place = InBook 1 2; moment = start + 14999 }
 
--- a participant's orders that trade a millisecond early
+-- a participant's own orders that trade a millisecond early
 pub linked_orders_too_early : LinkedOrdersWait venue (Entered (own_entry 1 start) ∷ Entered (own_entry 2 (start + 14999)) ∷ Traded own_trade ∷ []) → ⊥
 linked_orders_too_early law = too_early (law own_trade (own_entry 1 start) (own_entry 2 (start + 14999)) (2, omega arith, refl) (0, omega arith, refl) (1, omega arith, refl) refl refl)
   where

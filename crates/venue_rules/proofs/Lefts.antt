@@ -20,9 +20,10 @@ use Rattle.venue_rules.proofs.Members.{In, Places, Places-one, In-filter, filter
 use Rattle.venue_rules.proofs.Puts.{put, ranked-push}
 use Rattle.venue_rules.proofs.Ranks.{filter-ranked, ranked-Distinct, filter-Distinct, Places-Distinct, Distinct, In-ranked, with_left_from}
 
--- What rests after one more fact.
+-- The resting orders after a further fact.
 
--- what is left of an entry comes to be: as it was, of an entry that is kept; or it rests no more, of one that is not; or it did not rest and does not
+-- an entry's leaves quantity is unchanged where the entry is kept; an entry that is not kept no longer rests, or did
+-- not rest before or after
 abbrev pub Changes : ℕ → Side → (Entry → Bool) → (Entry → ℕ) → (Entry → ℕ) → Entry → Type 0
 Changes x side kept before after e =
     ((after e ≡ before e) × (kept e ≡ true)) ⊎ ((rests x side (with_left after e) ≡ false) × ((rests x side (with_left before e) && kept e) ≡ false))
@@ -56,14 +57,14 @@ all_changes x side kept l l' [] c = refl
 all_changes x side kept l l' (e ∷ es) c =
     one_change x side kept l l' e (filter (rests x side) (map (with_left l) es)) (filter (rests x side) (map (with_left l') es)) (c e (inl refl)) (all_changes x side kept l l' es (λ y i. c y (inr i)))
 
--- the same entries, of which some are kept
+-- the same entries, filtered to those kept
 pub resting-changed : (facts facts' : List Fact) (x : ℕ) (side : Side) (kept : Entry → Bool) → entries facts' ≡ entries facts → ((e : Entry) → In e (entries facts) → Changes x side kept (left facts) (left facts') e)
     → resting facts' x side ≡ filter (λ (y : Resting). kept y.entry) (resting facts x side)
 resting-changed facts facts' x side kept same c =
     ap (λ es. ranked side (filter (rests x side) (map (with_left (left facts')) es))) same
     ∙ (ap (ranked side) (all_changes x side kept (left facts) (left facts') (entries facts) c) ∙ sym (filter-ranked side (λ (y : Resting). kept y.entry) (filter (rests x side) (map (with_left (left facts)) (entries facts)))))
 
--- what is in the list of resting orders
+-- members of the resting orders
 
 pub In-resting : (facts : List Fact) (x : ℕ) (side : Side) (r : Resting) → In r (resting facts x side) → In r.entry (entries facts) × (r ≡ with_left (left facts) r.entry) × (rests x side r ≡ true)
 In-resting facts x side r i =
@@ -116,7 +117,7 @@ entered_gone x side r h = filter-none (rests x side) (r ∷ []) none
     none y (inl e) = subst (λ z. rests x side z ≡ false) e h
     none y (inr i) = absurd i
 
--- an order that enters changes nothing on the other side
+-- an entering order changes nothing on the other side
 pub resting-entered : (facts : List Fact) (n : Entry) (x : ℕ) (side : Side) → is_side n.order.side side ≡ false → resting (facts ++ (Entered n ∷ [])) x side ≡ resting facts x side
 resting-entered facts n x side h =
     let l' : Entry → ℕ = left (facts ++ (Entered n ∷ [])) in
@@ -142,7 +143,7 @@ removed_other true b q h = refl
 removed_other false true q h = absurd (true≢false h)
 removed_other false false q h = refl
 
--- an order that leaves changes nothing on the other side
+-- a removed order changes nothing on the other side
 pub resting-removed : (facts : List Fact) (r : Removal) (x : ℕ) (side : Side) → ((e : Entry) → In e (entries facts) → e.number ≡ r.order → is_side e.order.side side ≡ false) → resting (facts ++ (Removed r ∷ [])) x side ≡ resting facts x side
 resting-removed facts r x side h = resting-changed facts (facts ++ (Removed r ∷ [])) x side (λ e. true) (entries_removed facts r) (λ e i. by e i (r.order == e.number) refl) ∙ filter-trivial (resting facts x side)
   where
@@ -179,7 +180,7 @@ or_first : (a b : Bool) → a ≡ true → (a || b) ≡ true
 or_first true b h = refl
 or_first false b h = absurd (true≢false (sym h))
 
--- the best order, once it is filled, is gone, and the next one is the best
+-- the best order, once filled, is gone, and the next one is the best
 pub resting-traded : (facts : List Fact) (x : ℕ) (side : Side) (r : Resting) (worse : List Resting) (e : Entry) (t : Trade) → Places (λ (y : Entry). y.number) 0 (entries facts) → resting facts x side ≡ r ∷ worse → In e (entries facts) → is_side e.order.side side ≡ false
     → t.place ≡ InBook r.entry.number e.number → t.quantity ≡ r.left → resting (facts ++ (Traded t ∷ [])) x side ≡ worse
 resting-traded facts x side r worse e t places best mine other place all =
@@ -218,7 +219,7 @@ resting-traded facts x side r worse e t places best mine other place all =
         let part : takes_part y.number t.place ≡ false = ap (takes_part y.number) place ∙ or_from (r.entry.number == y.number) (e.number == y.number) h k in
         inl (left_traded facts t y ∙ taken_none (left facts y) t.quantity (takes_part y.number t.place) part, not_from_false (r.entry.number == y.number) h)
 
--- after a held side is held no longer
+-- after the end of a held side
 
 pub entries_unheld : (facts : List Fact) (u : Release) → entries (facts ++ (Unheld u ∷ [])) ≡ entries facts
 entries_unheld facts u = filter_map-append entry_in facts (Unheld u ∷ []) ∙ append-nil (entries facts)
@@ -235,7 +236,7 @@ left_unheld facts u e =
 pub resting-unheld : (facts : List Fact) (u : Release) (x : ℕ) (side : Side) → resting (facts ++ (Unheld u ∷ [])) x side ≡ resting facts x side
 resting-unheld facts u x side = resting-changed facts (facts ++ (Unheld u ∷ [])) x side (λ e. true) (entries_unheld facts u) (λ e i. inl (left_unheld facts u e, refl)) ∙ filter-trivial (resting facts x side)
 
--- what a keeper of resting orders does: an order that comes to rest is put before the first that it is better than
+-- the steps of a resting-order list: an order that comes to rest goes before the first that it beats
 
 entered_stays : (x : ℕ) (side : Side) (r : Resting) → rests x side r ≡ true → filter (rests x side) (r ∷ []) ≡ r ∷ []
 entered_stays x side r h = filter-all (rests x side) (r ∷ []) all
@@ -254,7 +255,7 @@ resting-rested facts n x side h =
     ap (λ ys. ranked side (filter (rests x side) (map (with_left l') ys))) es
     ∙ (ap (ranked side) (ap (filter (rests x side)) (map-append (with_left l') (entries facts) (n ∷ [])) ∙ (filter-append (rests x side) (map (with_left l') (entries facts)) (with_left l' n ∷ []) ∙ (ap (λ ys. filter (rests x side) (map (with_left l') (entries facts)) ++ ys) new ∙ ap (λ ys. ys ++ (with_left l' n ∷ [])) old))) ∙ ranked-push side olds (with_left l' n))
 
--- an order that leaves is taken off
+-- a removed order is taken off
 pub resting-taken_off : (facts : List Fact) (r : Removal) (x : ℕ) (side : Side) → resting (facts ++ (Removed r ∷ [])) x side ≡ filter (λ (y : Resting). not (r.order == y.entry.number)) (resting facts x side)
 resting-taken_off facts r x side = resting-changed facts (facts ++ (Removed r ∷ [])) x side (λ (y : Entry). not (r.order == y.number)) (entries_removed facts r) (λ e i. by e (r.order == e.number) refl)
   where
@@ -268,7 +269,7 @@ resting-taken_off facts r x side = resting-changed facts (facts ++ (Removed r �
         inr (not_rests_left x side (with_left (left (facts ++ (Removed r ∷ []))) e) (left_removed facts r e ∙ gone (list_any (removes e.number) facts) (r.order == e.number) (e.order.quantity - traded facts e.number) k), and_right (rests x side (with_left (left facts) e)) (not (r.order == e.number)) (not_from_true (r.order == e.number) k))
     by e false k = inl (left_removed facts r e ∙ removed_other (list_any (removes e.number) facts) (r.order == e.number) (e.order.quantity - traded facts e.number) k, not_from_false (r.order == e.number) k)
 
--- the best order, filled in part, is still the best
+-- the best order, partially filled, stays the best
 
 abbrev relabelled : (Entry → ℕ) → Resting → Resting
 relabelled l y = with_left l y.entry

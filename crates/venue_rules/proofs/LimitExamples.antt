@@ -14,7 +14,7 @@ use Rattle.venue_rules.proofs.Spelling.{spelled}
 
 -- Limits and relations: thirteen recipients, a full side of the book, three unrelated recipients.
 
--- a larger venue, whose last participant is related to the first recipient
+-- a larger venue, with its last participant related to the first recipient
 abbrev pub large_venue : Market
 large_venue = record venue { participants = record { venue = codes "SEF"; names = codes "P00" ∷ codes "P01" ∷ codes "P02" ∷ codes "P03" ∷ codes "P04" ∷ codes "P05" ∷ codes "P06" ∷ codes "P07" ∷ codes "P08" ∷ codes "P09" ∷ codes "P10" ∷ codes "P11" ∷ codes "P12" ∷ codes "P13" ∷ []; pairs = (13, 1) ∷ [] } }
 
@@ -32,7 +32,7 @@ thirteen_recipients = refl
 pub twelve_recipients : length (said_in_large_venue (sends 0 2 (request (codes "q1") swap (Some Buy) 100 twelve_names) start ∷ [])) ≡ 12
 twelve_recipients = refl
 
--- so many sells of one participant, entered one after another
+-- sells of one participant, entered one after another
 abbrev pub many_sells : ℕ → List Fact
 many_sells zero = []
 many_sells (suc n) = many_sells n ++ Entered (record { number = n + 1; order = record { who = 3; id = codes "d"; link = None; instrument = 0; side = Sell; quantity = 1; price = two_and_a_half; life = Day }; filled_before = 0; moment = start }) ∷ []
@@ -43,7 +43,7 @@ full_side = record { facts = many_sells 200; reports = 200 }
 abbrev pub said_to : History → Input → List (ℕ × List ℕ)
 said_to h i = map (λ r. (r.to, spelled (message r.what))) (answer_input venue h i).replies
 
--- where 200 sells rest, one more that fills nothing is refused, and a buy still fills
+-- with 200 sells resting, a further one without fills is refused, and a buy still fills
 pub side_is_full : said_to full_side (sends beta 2 (order (codes "b1") swap Sell 1 two_and_a_half) (start + 1))
     ≡ (beta, codes "35=8|37=NONE|17=E201|150=8|39=8|55=IRS5Y|54=2|151=0|14=0|11=b1|103=3|58=Book side full|") ∷ []
 unfolding digits
@@ -56,7 +56,7 @@ pub full_side_fills : said_to full_side (sends beta 2 (order (codes "b1") swap B
 unfolding digits
 full_side_fills = refl
 
--- which recipients are enough
+-- sets of recipients that are enough
 pub alpha_asks_three : three_unrelated venue.participants alpha (beta ∷ gamma ∷ delta ∷ []) ≡ false
 alpha_asks_three = refl
 
@@ -69,6 +69,6 @@ beta_asks_three = refl
 pub beta_asks_four : three_unrelated venue.participants beta (gamma ∷ delta ∷ epsilon ∷ alpha ∷ []) ≡ true
 beta_asks_four = refl
 
--- being related does not pass on from one to the next
+-- relation is not transitive
 pub not_passed_on : three_unrelated (record { venue = codes "SEF"; names = codes "A" ∷ codes "B" ∷ codes "C" ∷ codes "D" ∷ codes "E" ∷ []; pairs = (0, 1) ∷ (1, 2) ∷ [] }) 3 (0 ∷ 2 ∷ 4 ∷ []) ≡ true
 not_passed_on = refl

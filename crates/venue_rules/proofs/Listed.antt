@@ -50,7 +50,7 @@ use Rattle.venue_rules.proofs.EveryRun.{lawful, split_at}
 use Rattle.venue_rules.proofs.FollowsEach.{IsEntered, named-IsEntered}
 use Rattle.venue_rules.proofs.OpenRooms.{first_of-each}
 
--- Orders enter, and sides are held, in listed instruments alone; so linked orders of a market of files wait for a second at least.
+-- Orders and held sides are in listed instruments alone; so linked orders in a market of files wait at least a second.
 
 abbrev IsListed : ℕ → Fact → Type 0
 IsListed n (Entered e) = e.order.instrument < n
@@ -147,7 +147,7 @@ cross-AreListed m h s d t =
 due-AreListed : (n : ℕ) (m : Market) (h : History) (k : HeldSide) → k.order.instrument < n → KeepsListed n (answer_due m h k)
 due-AreListed n m h k low = (tt, first_of-each (KeepsListed n) (due_refusals m h k) (accepted m h k.order k.due) (tt, (tt, tt)) (λ x. accepted-AreListed n m h k.order k.due low))
 
--- no other answer enters an order or holds one
+-- no other answer adds an order or a held side
 
 request-AreListed : (n : ℕ) (m : Market) (h : History) (s : Sender) (d : RequestMessage) (t : ℕ) → KeepsListed n (answer_request m h s d t)
 request-AreListed n m h s d t = first_of-each (KeepsListed n) (request_refusals m h s d t) (request_accepted m (opened m h s d t)) (tt, (tt, (tt, (tt, (tt, (tt, (tt, (tt, (tt, (tt, tt)))))))))) (λ x. (tt, tt))
@@ -229,7 +229,7 @@ run-AreListed : (m : Market) (h : History) (is : List Input) → AreListed (Coun
 run-AreListed m h [] a = a
 run-AreListed m h (i ∷ is) a = run-AreListed m (after h (answer_input m h i)) is (AreListed-append (Count m) h.facts (answer_input m h i).facts a (input-AreListed m h i a))
 
--- the delay of a listed instrument of a file is a second at least
+-- the delay of a listed instrument of a file is at least a second
 
 second_at_least : (n : ℕ) → is_delay n ≡ true → 1000 ≤ n
 second_at_least n h = let k = and_parts (nat_le 1000 n) (nat_le n 3600000) h in grind (arith, nat_tests)

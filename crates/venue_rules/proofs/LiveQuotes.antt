@@ -18,9 +18,9 @@ use Rattle.venue_rules.proofs.Follows.{Follows, Each}
 use Rattle.venue_rules.proofs.EveryRun.{member_follows, quotes_placed, quoted_in, rooms_more, run-Follows}
 use Rattle.venue_rules.proofs.OpenRoomsEach.{open_rooms_few}
 
--- A participant has one live quote in each open room at most.
+-- A participant has at most one live quote in each open room.
 
--- numbers that rise
+-- rising numbers
 
 abbrev Rising : {X : Type 0} → (X → ℕ) → ℕ → List X → Type 0
 Rising num n [] = Unit {0}
@@ -47,7 +47,7 @@ rising_above num n [] x r i = absurd i
 rising_above num n (y ∷ ys) x r (inl same) = let lt : n < num y = r.0 in let e : num y ≡ num x = ap num same in omega (arith, lt, e)
 rising_above num n (y ∷ ys) x r (inr i) = let lt : n < num y = r.0 in let more : num y < num x = rising_above num (num y) ys x r.1 i in omega (arith, lt, more)
 
--- things whose keys differ and are among others are no more than those
+-- elements with distinct keys taken from a list are no more than the list
 
 abbrev without : ℕ → List ℕ → List ℕ
 without k [] = []
@@ -102,7 +102,7 @@ in_map f [] x i = i
 in_map f (y ∷ ys) x (inl same) = inl (ap f same)
 in_map f (y ∷ ys) x (inr i) = inr (in_map f ys x i)
 
--- a live quote is of an open room
+-- a live quote is in an open room
 
 both : (a b : Bool) → a ≡ true → b ≡ true → (a && b) ≡ true
 both true b h k = k
@@ -121,7 +121,7 @@ room_of_live m rs fs t p q i live =
     let open_then : is_open fs t k.3.0 ≡ true = both (not (is_closed fs k.3.0.number)) (nat_le t k.3.0.end) (ap (λ n. not (is_closed fs n)) k.3.3 ∙ c.0) (later_end t q.end k.3.0.end c.1 k.3.6) in
     subst (λ n. In n (map (λ (r : Room). r.number) (open_rooms fs t))) k.3.3 (in_map (λ (r : Room). r.number) (open_rooms fs t) k.3.0 (in_filter (is_open fs t) (rooms fs) k.3.0 here open_then))
 
--- and the last of its maker there
+-- and is its maker's last there
 
 not_not : (b : Bool) → not (not b) ≡ true → b ≡ true
 not_not true h = refl

@@ -10,7 +10,7 @@ use Rattle.venue_rules.specs.Facts.{History, no_history}
 use Rattle.venue_rules.specs.Run.{Input, after, answer_input, is_timely_from, is_timely_input, replies_to, row, run, run_from}
 use Rattle.venue_rules.specs.MoreInputs.{HistoriesJoin, HistoryGoesOn, OwedGoesOn, OwedJoins, RepliesGoOn, RepliesJoin, RowsGoOn, RowsJoin, TimelyGoesOn, TimelyJoins, said_to}
 
--- One input more, and more of them: by induction on those that came before.
+-- Further inputs, by induction on those before.
 
 from_history : (m : Market) (h : History) (is js : List Input) → (run_from m h (is ++ js)).history ≡ (run_from m (run_from m h is).history js).history
 from_history m h [] js = refl

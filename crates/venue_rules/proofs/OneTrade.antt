@@ -18,7 +18,7 @@ use Rattle.venue_rules.proofs.EveryRun.{lawful, split_at}
 use Rattle.venue_rules.proofs.Shut.{Shut, ShutBy, Shut-append, Shut-behind}
 use Rattle.venue_rules.proofs.ShutEach.{input-Shut}
 
--- No room trades twice: it is closed right after its trade, and a quote in a closed room is not live.
+-- No room trades twice: it closes right after its trade, and a quote in a closed room is not live.
 
 added-Shut : (m : Market) (h : History) (is : List Input) → Shut (added m h is)
 added-Shut m h [] = tt
@@ -34,7 +34,7 @@ not_live facts t q closed live =
     let unshut : not (is_closed facts q.room) ≡ true = (and_parts (not (is_closed facts q.room)) (nat_le t q.end) (and_parts (not (is_withdrawn facts q.number)) (not (is_closed facts q.room) && nat_le t q.end) (and_parts (not (is_replaced facts q)) (not (is_withdrawn facts q.number) && (not (is_closed facts q.room) && nat_le t q.end)) live).1).1).0 in
     true≢false (sym unshut ∙ ap not closed)
 
--- the fact right after the first trade, where another trade comes later
+-- the fact right after the first trade, with another trade later
 next_closes : (second : Trade) (room : ℕ) (post later rest : List Fact) → post ++ (Traded second ∷ later) ≡ Closed (record { room = room }) ∷ rest → (more : List Fact) × (post ≡ Closed (record { room = room }) ∷ more)
 next_closes second room [] later rest e = absurd (other e)
   where

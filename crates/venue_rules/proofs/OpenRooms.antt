@@ -11,9 +11,9 @@ use Rattle.venue_rules.specs.Requests.{open_room}
 use Rattle.venue_rules.specs.Answer.{Answer, first_of}
 use Rattle.venue_rules.proofs.Together.{NoRoom}
 
--- How many rooms are open.
+-- The count of open rooms.
 
--- an answer opens no room, or no more than may still be open
+-- an answer opens no room, or no more than the limit allows
 abbrev pub OpensFew : List Fact → ℕ → Answer → Type 0
 OpensFew facts t x = NoRoom x.facts ⊎ (length (open_rooms facts t) + length (rooms x.facts) ≤ open_room)
 
@@ -34,7 +34,7 @@ pub first_of-each : (P : Answer → Type 0) (rs : List (Bool × Answer)) (x : An
 first_of-each P [] x e k = k tt
 first_of-each P (r ∷ rs) x e k = first_case P r.0 r.0 r.1 (first_of rs x) refl e.0 (λ h. first_of-each P rs x e.1 (λ n. k (h, n)))
 
--- what is open was open before
+-- rooms open now were open before
 
 any_front : {X : Type 0} (p : X → Bool) (xs ys : List X) → list_any p (xs ++ ys) ≡ false → list_any p xs ≡ false
 any_front p [] ys h = refl
@@ -81,7 +81,7 @@ no_rooms : (fs : List Fact) → NoRoom fs → rooms fs ≡ []
 no_rooms [] n = refl
 no_rooms (f ∷ fs) n = ap (λ o. cons_option o (rooms fs)) n.0 ∙ no_rooms fs n.1
 
--- what is open after more facts: at most what was open at a moment no later, and the rooms of those facts
+-- open rooms after further facts: at most those open at an earlier or the same moment, plus those of the new facts
 open_after : (fs gs : List Fact) (u v : ℕ) → u ≤ v → length (open_rooms (fs ++ gs) v) ≤ length (open_rooms fs u) + length (rooms gs)
 open_after fs gs u v le =
     let split : open_rooms (fs ++ gs) v ≡ filter (is_open (fs ++ gs) v) (rooms fs) ++ filter (is_open (fs ++ gs) v) (rooms gs) =

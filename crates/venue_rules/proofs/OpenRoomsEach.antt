@@ -41,7 +41,7 @@ use Rattle.venue_rules.specs.Limits.{IsRising, OpenRoomsAreFew, moment_of}
 use Rattle.venue_rules.proofs.Together.{NoRoom, NoRoom-append, NoRoom-map, first_of-NoRoom}
 use Rattle.venue_rules.proofs.OpenRooms.{OpensFew, few_after, first_of-each}
 
--- No answer but that to a request opens a room; and so at most 1,000 rooms are open, over every list of inputs whose moments do not fall.
+-- Only a request opens a room; so at most 1,000 rooms are open, over every list of inputs whose moments do not fall.
 
 entry-NoRoom : (e : Entry) (fs : List Fill) → NoRoom (entry_facts e fs)
 entry-NoRoom e fs = (refl, NoRoom-map (λ f. Traded (trade_of e f)) (λ f. refl) fs)

@@ -11,22 +11,22 @@ use Rattle.venue_rules.proofs.ExampleInputs.{alpha, beta, gamma, delta, start, s
 use Rattle.venue_rules.proofs.RefusalExamples.{coarse, before, said_to_each}
 use Rattle.venue_rules.proofs.Spelling.{spelled}
 
--- Where two causes hold, the one that is looked for first is given.
+-- Where two causes hold, the one checked first is given.
 
--- what has happened after more inputs, and what is said to each message then, were it the next one
+-- the history after further inputs, and the replies to each message, were it the next one
 abbrev pub after_more : History → List Input → History
 after_more h is = (run_from coarse h is).history
 
 abbrev pub said_then : History → List Input → List (List ℕ)
 said_then h is = flat_map (λ i. map (λ r. spelled (message r.what)) (answer_input coarse h i).replies) is
 
--- an order that is no limit order, and has no price
+-- an order that is no limit order and has no price
 pub market_order_refused : said_to_each (sends alpha 5 (NewOrderSingle (record { order_id = codes "a2"; link_id = None; symbol = basis; side = Sell; quantity = 10; order_type = 49; price = None; time_in_force = None; transact_time = None })) (start + 1) ∷ [])
     ≡ codes "35=8|37=NONE|17=E4|150=8|39=8|55=BASIS1Y|54=2|151=0|14=0|11=a2|103=11|58=Unsupported order|" ∷ []
 unfolding digits
 market_order_refused = refl
 
--- replacements: a sell of 60 of which 20 are filled, and a related participant's buy below it
+-- replacements: a sell of 60 with 20 filled, and a related participant's buy below it
 
 abbrev pub partly_filled : History
 partly_filled = (run coarse (
@@ -57,13 +57,13 @@ pub replacements_in_order : said_then partly_filled (
 unfolding digits
 replacements_in_order = refl
 
--- a duplicate is looked for before a held side is refused
+-- a duplicate is checked before a held side
 pub held_replacement_duplicate : said_to_each (sends delta 5 (OrderCancelReplaceRequest (record { order_id = codes "x2"; original_id = codes "x1"; quantity = 10; order_type = 50; price = Some two_and_a_half })) (start + 1) ∷ [])
     ≡ codes "35=9|37=NONE|11=x2|41=x1|39=8|434=2|102=6|58=Duplicate ClOrdID|" ∷ []
 unfolding digits
 held_replacement_duplicate = refl
 
--- crosses, of a participant whose sell x2 rests and whose buy x1 is held
+-- crosses of a participant with the resting sell x2 and the held buy x1
 
 abbrev pub side_of : Side → List ℕ → ℕ → CrossSide
 side_of side id quantity = record { side = side; order_id = id; quantity = quantity }
@@ -108,7 +108,7 @@ pub cross_terms_in_order : said_then before (
 unfolding digits
 cross_terms_in_order = refl
 
--- a request below the least, to a participant that is not in the file
+-- a request below the least quantity, to a participant that is not in the file
 pub request_below_least : said_to_each (sends alpha 5 (request (codes "q3") swap None 9 (codes "ZETA" ∷ [])) (start + 1) ∷ [])
     ≡ codes "35=AG|131=q3|658=99|146=1|55=IRS5Y|58=Quantity below least|" ∷ []
 unfolding digits
@@ -135,7 +135,7 @@ pub quotes_in_order : said_then before (
 unfolding digits
 quotes_in_order = refl
 
--- who is asked to sell gives a bid; one bid and one offer may be equal
+-- a maker asked to sell gives a bid; a bid and an offer may be equal
 pub sides_of_quotes : said_then (after_more before (sends alpha 5 (request (codes "q3") swap (Some Sell) 100 (codes "BETA" ∷ codes "GAMMA" ∷ codes "DELTA" ∷ codes "EPSILON" ∷ [])) start ∷ [])) (
     sends delta 5 (quote (codes "d3") (codes "R3") swap None (Some two_and_a_half) None) (start + 1)
     ∷ sends delta 5 (quote (codes "d3") (codes "R2") swap (Some two_and_a_half) (Some two_and_a_half) None) (start + 1) ∷ [])
@@ -145,7 +145,7 @@ pub sides_of_quotes : said_then (after_more before (sends alpha 5 (request (code
 unfolding digits
 sides_of_quotes = refl
 
--- answers to quotes: what was withdrawn, then passed its end, then traded
+-- quote responses: to a quote withdrawn, then past its end, then traded
 
 abbrev pub withdrawn_quote : History
 withdrawn_quote = after_more before (sends delta 5 (withdraw (Some (codes "d1")) 5) (start + 1) ∷ [])

@@ -9,9 +9,9 @@ use Rattle.venue_rules.specs.Run.{run, Input}
 use Rattle.venue_rules.proofs.ExampleInputs.{venue, alpha, beta, delta, start, swap, two_and_a_half, sends, request, quote, withdraw, respond, said_from}
 use Rattle.venue_rules.proofs.RoomExamples.{asked}
 
--- Quotes that are replaced, withdrawn together, and rooms that end with time.
+-- Replaced quotes, mass withdrawals, and rooms that end by time.
 
--- two rooms of one requester; BETA quotes in the second first, and DELTA in the first
+-- two rooms of one requester; BETA quotes in the second first, DELTA in the first
 abbrev pub two_rooms : List Input
 two_rooms = asked ++
     sends alpha 4 (request (codes "q2") swap (Some Buy) 100 (codes "BETA" ∷ codes "GAMMA" ∷ codes "DELTA" ∷ codes "EPSILON" ∷ [])) start
@@ -19,7 +19,7 @@ two_rooms = asked ++
     ∷ sends beta 3 (quote (codes "b2") (codes "R1") swap None (Some two_and_a_half) None) start
     ∷ sends delta 2 (quote (codes "d1") (codes "R1") swap None (Some two_and_a_half) None) start ∷ []
 
--- all live quotes of a participant are withdrawn by their numbers, whatever quote it names, and nobody else's
+-- all live quotes of a participant, and nobody else's, are withdrawn by number, whatever quote the message names
 pub all_quotes_withdrawn : said_from 16 (two_rooms ++
     sends beta 4 (withdraw (Some (codes "b2")) 4) (start + 1)
     ∷ sends beta 5 (withdraw (Some (codes "b2")) 4) (start + 2)
@@ -34,7 +34,7 @@ pub all_quotes_withdrawn : said_from 16 (two_rooms ++
 unfolding digits
 all_quotes_withdrawn = refl
 
--- a quote that was replaced is not hit and not withdrawn, nor one that was withdrawn first and then followed by another; the last one is hit
+-- neither a replaced quote nor one withdrawn before a later one is hit or withdrawn; the last one is hit
 pub replaced_quotes : said_from 15 (asked ++
     sends delta 2 (quote (codes "d1") (codes "R1") swap None (Some (pos 2502500)) None) start
     ∷ sends delta 3 (quote (codes "d2") (codes "R1") swap None (Some two_and_a_half) None) start

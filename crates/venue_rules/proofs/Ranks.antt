@@ -7,7 +7,7 @@ use Rattle.venue_rules.specs.declared.facts.Entry.{Entry}
 use Rattle.venue_rules.specs.Book.{Resting, is_better, rank, ranked, with_left}
 use Rattle.venue_rules.proofs.Members.{In, In-filter, Places, Places-above}
 
--- Ranked orders stand by price, and a filter of them is what the filtered orders are ranked to.
+-- Ranked orders are ordered by price, and filtering commutes with ranking.
 
 pub not_better_through : (side : Side) (p q r : ℤ) → is_better side q p ≡ false → is_better side r q ≡ false → is_better side r p ≡ false
 not_better_through Buy p q r h k = grind (arith, ints)
@@ -17,7 +17,7 @@ pub not_both : (side : Side) (p q : ℤ) → is_better side p q ≡ true → is_
 not_both Buy p q h = grind (arith, ints)
 not_both Sell p q h = grind (arith, ints)
 
--- none of the orders is better than this one
+-- no order beats this one
 abbrev pub NoneBetter : Side → Resting → List Resting → Type 0
 NoneBetter side r rs = (s : Resting) → In s rs → is_better side s.entry.order.price r.entry.order.price ≡ false
 
@@ -87,7 +87,7 @@ rank_case_behind : (side : Side) (r s : Resting) (ss : List Resting) (b : Bool) 
 rank_case_behind side r s ss true h = refl
 rank_case_behind side r s ss false h = absurd (true≢false (sym h))
 
--- the order that is ranked, and the one that it comes behind, each kept or not
+-- the ranked order and the one that it comes after, each kept or not
 behind_cases : (side : Side) (p : Resting → Bool) (r s : Resting) (ss : List Resting) (kr ks : Bool) → is_better side s.entry.order.price r.entry.order.price ≡ true → filter p (rank side r ss) ≡ cond kr (rank side r (filter p ss)) (filter p ss)
     → cond ks (s ∷ filter p (rank side r ss)) (filter p (rank side r ss)) ≡ cond kr (rank side r (cond ks (s ∷ filter p ss) (filter p ss))) (cond ks (s ∷ filter p ss) (filter p ss))
 behind_cases side p r s ss true true h rec = ap (λ xs. s ∷ xs) rec ∙ sym (rank_case_behind side r s (filter p ss) (is_better side s.entry.order.price r.entry.order.price) h)
@@ -160,7 +160,7 @@ pub filter-Distinct : (p : Resting → Bool) (rs : List Resting) → Distinct rs
 filter-Distinct p [] d = tt
 filter-Distinct p (r ∷ rs) d = filter_case_Distinct p r rs (p r) d.0 (filter-Distinct p rs d.1)
 
--- one of all entries, with what is left of each
+-- one of all entries, with its leaves quantity
 pub with_left_from : (l : Entry → ℕ) (es : List Entry) (x : Resting) → In x (map (with_left l) es) → In x.entry es × (x ≡ with_left l x.entry)
 with_left_from l [] x i = absurd i
 with_left_from l (e ∷ es) x (inl k) = (inl (ap (λ (y : Resting). y.entry) k), subst (λ (y : Resting). y ≡ with_left l y.entry) k refl)

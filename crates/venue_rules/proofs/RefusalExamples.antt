@@ -12,7 +12,7 @@ use Rattle.venue_rules.specs.Market.{Market}
 use Rattle.venue_rules.specs.Messages.{message}
 use Rattle.venue_rules.proofs.Spelling.{spelled}
 
--- What is refused, message type by message type, in the order in which it is looked for.
+-- Refusals, by message type, in the order in which their causes are checked.
 
 -- the venue of the examples with a least quantity of 10
 abbrev pub coarse : Market
@@ -29,7 +29,7 @@ before = (run coarse (
     ∷ sends alpha 4 (request (codes "q2") swap None 100 (codes "BETA" ∷ codes "GAMMA" ∷ codes "DELTA" ∷ codes "EPSILON" ∷ [])) start
     ∷ sends delta 4 (quote (codes "d2") (codes "R2") swap (Some (pos 2497500)) None None) start ∷ [])).history
 
--- what is said to each message, were it the next one
+-- the replies to each message, were it the next one
 abbrev pub said_to_each : List Input → List (List ℕ)
 said_to_each is = flat_map (λ i. map (λ r. spelled (message r.what)) (answer_input coarse before i).replies) is
 

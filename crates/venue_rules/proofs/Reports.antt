@@ -24,7 +24,7 @@ use Rattle.venue_rules.specs.Reported.{Emitted, execution_id, execution_ids, emi
 use Rattle.venue_rules.proofs.Members.{In, In-filter}
 use Rattle.venue_rules.proofs.Lefts.{In-resting, rests_side, rests_instrument}
 
--- How the reports of an answer are numbered, and which trades they tell of.
+-- The numbering of an answer's reports, and the trades that they report.
 
 abbrev pub reports_in : List Reply → ℕ
 reports_in [] = 0
@@ -39,11 +39,11 @@ count_reports [] = refl
 count_reports (r ∷ rs) =
     sum_by-cons (λ (x : Reply). cond (is_report x.what) 1 0) r rs ∙ (ap (λ n. cond (is_report r.what) 1 0 + n) (count_reports rs) ∙ count_one (is_report r.what) (reports_in rs))
 
--- what is told of trades whose first has this number
+-- the reports of trades numbered on from this number
 abbrev pub emits : Market → Side → ℕ → List Trade → List Emitted
 emits m side n ts = map (to_be_emitted m side) (enumerate_from n ts)
 
--- the reports of an answer have the next numbers, and its trades are told once to each side
+-- an answer's reports have the next numbers, and report each of its trades once to each side
 abbrev pub Reports : Market → History → Answer → Type 0
 Reports m h a =
     (execution_ids a.replies ≡ map (printed 69) (range_with_len (h.reports + 1) (reports_in a.replies)))
@@ -76,7 +76,7 @@ quiet-Reports m h a q e = (
   λ side. q.emitted side ∙ sym (ap (emits m side (next_trade h.facts)) e),
 )
 
--- reports that wait for their numbers
+-- reports before numbering
 
 abbrev pub IsMaker : (ℕ → Reply) → Type 0
 IsMaker f =
@@ -100,7 +100,7 @@ numbered_ids n (f ∷ fs) w =
     ap (λ o. cons_option o (execution_ids (numbered (n + 1) fs))) (w.0 (n + 1)).1
     ∙ (ap (λ xs. printed 69 (n + 1) ∷ xs) (numbered_ids (n + 1) fs w.1) ∙ sym (ap (λ k. map (printed 69) (range_with_len (n + 1) k)) (counted (is_report (f (n + 1)).what) (reports_in (numbered (n + 1) fs)) (w.0 (n + 1)).0)))
 
--- what a report tells whatever its number
+-- a report's trade, for any number
 abbrev pub emitted_by : Side → (ℕ → Reply) → Option Emitted
 emitted_by side f = emitted_in side (f 0).to (message (f 0).what)
 
@@ -108,7 +108,7 @@ pub numbered_emitted : (side : Side) (n : ℕ) (fs : List (ℕ → Reply)) → A
 numbered_emitted side n [] w = refl
 numbered_emitted side n (f ∷ fs) w = ap (λ o. cons_option o (trades_emitted side (numbered (n + 1) fs))) ((w.0 (n + 1)).2 side) ∙ ap (cons_option (emitted_by side f)) (numbered_emitted side (n + 1) fs w.1)
 
--- the fills of an order are with orders of the other side in its instrument
+-- an order's fills are with orders of the other side in its instrument
 
 abbrev AreOpposite : Entry → List Fill → Type 0
 AreOpposite e [] = Unit {0}
@@ -149,7 +149,7 @@ fills-AreOpposite facts e = unless_killed e _ (filter positive pairs) (each_oppo
         let rest = (In-resting facts e.order.instrument (opposite e.order.side) f.resting there.0).2 in
         (same_side f.resting.entry.order.side (opposite e.order.side) (rests_side e.order.instrument (opposite e.order.side) f.resting rest), rests_instrument e.order.instrument (opposite e.order.side) f.resting rest)
 
--- the two reports of a trade, of which one is the buyer's and one the seller's
+-- the two reports of a trade, one to the buyer and one to the seller
 
 abbrev party_of : Side → Side → ℕ → ℕ → ℕ
 party_of Buy s w v = buyer s w v
@@ -175,7 +175,7 @@ fill_emitted m e f left filled left' filled' number rest side other here =
     emitted : ℕ → ℕ → Emitted
     emitted w x = record { who = w; symbol = symbol_of m.instruments x; trade = printed 84 number; price = Some f.resting.entry.order.price; quantity = Some f.quantity }
 
--- the trades of the fills of an order
+-- the trades of an order's fills
 
 abbrev traded_facts : Entry → List Fill → List Fact
 traded_facts e fs = map (λ f. Traded (trade_of e f)) fs
@@ -217,7 +217,7 @@ entry_emitted m facts e fs side k =
     from_zero : (n : ℕ) → n + 0 ≡ n
     from_zero n = omega arith
 
--- an order that enters after one report of another kind, such as that it is new
+-- an order that enters after one report of another kind, such as the one that it is new
 pub entered-Reports : (m : Market) (h : History) (e : Entry) (first : ℕ → Reply) → IsMaker first → ((side : Side) → emitted_by side first ≡ None) → (before : List Fact) → trades before ≡ []
     → Reports m h (record { facts = before ++ entry_facts e (fills h.facts e.order); replies = numbered h.reports (first ∷ entry_reports m h.facts e (fills h.facts e.order)) })
 entered-Reports m h e first maker silent before none = (

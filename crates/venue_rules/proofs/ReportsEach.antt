@@ -129,9 +129,9 @@ withdrawal_of-Reports m h s d t true all = withdraw_one-Reports m h s t d.quote_
 withdrawal_of-Reports m h s d t false true = withdrawn_or-Reports m h (not_found s None) _ (refl, λ side. refl)
 withdrawal_of-Reports m h s d t false false = (refl, λ side. refl)
 
--- answers to quotes
+-- quote responses
 
--- the requester is told first, the maker then, and one of them is the buyer
+-- the report to the requester comes first, then the maker's, and one of them is the buyer
 traded-Reports : (m : Market) (h : History) (s : Sender) (r : Room) (q : RoomQuote) (d : ResponseMessage) (t : ℕ) (side : Side) (p : ℤ) → Reports m h (room_traded m h s r q d side p t)
 traded-Reports m h s r q d t taken p = (refl, emitted taken)
   where

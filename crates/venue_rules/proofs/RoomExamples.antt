@@ -5,15 +5,15 @@ use Rattle.venue_rules.specs.Readings.{trade_facts, room_fact}
 use Rattle.venue_rules.specs.Run.{run, Input}
 use Rattle.venue_rules.proofs.ExampleInputs.{venue, alpha, beta, gamma, delta, epsilon, start, swap, basis, two_and_a_half, sends, order, fill_or_kill, request, quote, withdraw, respond, said_from}
 
--- Requests for quotes: recipients, quotes, pictures, hits, withdrawals.
+-- Requests for quotes: recipients, quotes, snapshots, hits, withdrawals.
 
--- a request to three, two of whom are related, is refused
+-- a request to three, two related, is refused
 pub three_recipients_not_unrelated : said_from 0 (sends alpha 2 (request (codes "q1") swap (Some Buy) 100 (codes "BETA" ∷ codes "GAMMA" ∷ codes "DELTA" ∷ [])) start ∷ [])
     ≡ (alpha, codes "35=AG|131=q1|658=99|146=1|55=IRS5Y|58=Recipients not unrelated|") ∷ []
 unfolding digits
 three_recipients_not_unrelated = refl
 
--- the same request to four is sent on in one answer
+-- the same request to four goes out in one answer
 abbrev pub asked : List Input
 asked = sends alpha 3 (request (codes "q1") swap (Some Buy) 100 (codes "BETA" ∷ codes "GAMMA" ∷ codes "DELTA" ∷ codes "EPSILON" ∷ [])) start ∷ []
 
@@ -32,7 +32,7 @@ quoted = asked ++
     ∷ sends beta 3 (quote (codes "b1") (codes "R1") swap None (Some (pos 2502500)) (Some (start + 10000))) start
     ∷ sends delta 2 (quote (codes "d1") (codes "R1") swap None (Some two_and_a_half) None) start ∷ []
 
--- with the first response, and not with the second, the requester is shown the book
+-- with the first response alone, the requester is shown the book
 pub quotes_are_sent_on : said_from 4 quoted
     ≡ (beta, codes "35=AI|117=b1|131=R1|55=IRS5Y|297=5|300=8|58=Invalid price|")
     ∷ (beta, codes "35=AI|117=b1|131=R1|55=IRS5Y|297=0|")
@@ -99,7 +99,7 @@ pub second_response_without_the_book : said_from 17 (book_then_request ++
 unfolding digits
 second_response_without_the_book = refl
 
--- a request for both sides: the answer names one, and the requester sells at the bid
+-- a request for both sides: the response names one, and the requester sells at the bid
 pub both_sides : said_from 4 (
     sends alpha 2 (request (codes "q1") swap None 100 (codes "BETA" ∷ codes "GAMMA" ∷ codes "DELTA" ∷ codes "EPSILON" ∷ [])) start
     ∷ sends delta 2 (quote (codes "d1") (codes "R1") swap (Some (pos 2497500)) (Some (pos 2502500)) None) start
@@ -114,7 +114,7 @@ pub both_sides : said_from 4 (
 unfolding digits
 both_sides = refl
 
--- what is read back of the requests, the quotes and a hit after the book: three trades, and the room with what was shown
+-- readings of the requests, the quotes and a hit after the book: three trades, and the room with what was shown
 pub trades_read_back : trade_facts (run venue (book_then_request ++ sends alpha 5 (respond (codes "h1") (codes "Q1") 1 (Some Buy)) (start + 7) ∷ [])).history.facts
     ≡ record { number = 1; instrument = 0; quantity = 60; price = two_and_a_half; buyer = alpha; seller = beta; room = None }
     ∷ record { number = 2; instrument = 0; quantity = 40; price = two_and_a_half; buyer = alpha; seller = delta; room = None }

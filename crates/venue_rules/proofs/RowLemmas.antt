@@ -29,7 +29,7 @@ rows_back read n (Tick t ∷ is) k = ap (λ xs. Tick t ∷ xs) (rows_back read (
 pub rows_read_back : RowsAreReadBack
 rows_read_back read is k = rows_back read 1 is k
 
--- and their numbers and moments are in order
+-- rows' numbers and moments are in order
 
 in_order : (n from : ℕ) (is : List Input) (to : ℕ) → IsRising from is to → AreInOrder n from (map (λ p. row p.0 p.1) (enumerate_from (n + 1) is))
 in_order n from [] to r = tt

@@ -18,12 +18,12 @@ use Rattle.venue_rules.specs.Entering.{entry_facts, trade_of}
 use Rattle.venue_rules.proofs.Members.{In}
 use Rattle.venue_rules.proofs.Own.{left-own}
 
--- How many orders rest on a side: at most 200, after more facts too, where an order comes to rest alone where there is room.
+-- At most 200 orders rest on a side, after further facts too, where an order comes to rest only below capacity.
 
 abbrev pub IsShort : List Fact → Type 0
 IsShort facts = (x : ℕ) (side : Side) → length (resting facts x side) ≤ side_capacity
 
--- what is left grows with no fact
+-- no fact raises a leaves quantity
 
 less_left : (gone more : Bool) (q s z : ℕ) → (if gone || more then 0 else q - (s + z)) ≤ (if gone then 0 else q - s)
 less_left true more q s z = omega arith
@@ -39,7 +39,7 @@ left-less facts more e =
     ap (λ b. if b then 0 else e.order.quantity - traded (facts ++ more) e.number) gone ∙ ap (λ n. if list_any (removes e.number) facts || list_any (removes e.number) more then 0 else e.order.quantity - n) sold in
     subst (λ n. n ≤ left facts e) (sym same) (less_left (list_any (removes e.number) facts) (list_any (removes e.number) more) e.order.quantity (traded facts e.number) (traded more e.number))
 
--- an entry that rests, by what these facts leave of it
+-- an entry that rests, by the leaves quantity of these facts
 abbrev stays : List Fact → ℕ → Side → Entry → Bool
 stays facts x side e = rests x side (with_left (left facts) e)
 
@@ -52,7 +52,7 @@ rested_before false here its l l' less h = h
 stayed : (facts more : List Fact) (x : ℕ) (side : Side) (e : Entry) → stays (facts ++ more) x side e ≡ true → stays facts x side e ≡ true
 stayed facts more x side e h = rested_before (is_day e.order.life) (e.order.instrument == x) (is_side e.order.side side) (left facts e) (left (facts ++ more) e) (left-less facts more e) h
 
--- what rests is counted among the entries
+-- resting orders are counted among the entries
 
 rank_case_length : (side : Side) (r s : Resting) (ss : List Resting) (b : Bool) → length (rank side r ss) ≡ suc (length ss) → length (if b then s ∷ rank side r ss else r ∷ s ∷ ss) ≡ suc (suc (length ss))
 rank_case_length side r s ss true e = ap suc e
@@ -77,7 +77,7 @@ counted x side l (e ∷ es) = counted_case e (with_left l e) (filter (λ (y : En
 resting-length : (facts : List Fact) (x : ℕ) (side : Side) → length (resting facts x side) ≡ length (filter (stays facts x side) (entries facts))
 resting-length facts x side = ranked-length side (filter (rests x side) (map (with_left (left facts)) (entries facts))) ∙ counted x side (left facts) (entries facts)
 
--- fewer pass a stronger test, and fewer still where one passes the weaker alone
+-- a stronger test passes no more, and fewer where an element passes the weaker alone
 
 fewer_case : {X : Type 0} (x : X) (xs ys : List X) (a b : Bool) → (a ≡ true → b ≡ true) → length xs ≤ length ys → length (cond a (x ∷ xs) xs) ≤ length (cond b (x ∷ ys) ys)
 fewer_case x xs ys true true h le = omega (arith, le)
@@ -105,7 +105,7 @@ still_fewer p q [] x h i gone there = absurd i
 still_fewer p q (y ∷ ys) x h (inl same) gone there = one_fewer y (filter p ys) (filter q ys) (p y) (q y) (ap p same ∙ gone) (ap q same ∙ there) (fewer p q ys h)
 still_fewer p q (y ∷ ys) x h (inr i) gone there = less_behind y (filter p ys) (filter q ys) (p y) (q y) (h y) (still_fewer p q ys x h i gone there)
 
--- what rests after more facts: of the entries before no more than rested, and of those entered since
+-- resting orders after further facts: at most those that rested, plus those entered since
 
 more_resting : (facts more : List Fact) (x : ℕ) (side : Side) → length (resting (facts ++ more) x side) ≤ length (resting facts x side) + length (filter (stays (facts ++ more) x side) (entries more))
 more_resting facts more x side =
@@ -129,7 +129,7 @@ quiet-IsShort facts more short none x side =
     let few : length (resting facts x side) ≤ side_capacity = short x side in
     omega (arith, less, few)
 
--- no more of an order is left than its fills leave
+-- an order's leaves quantity is at most what its fills leave
 own-left : (facts : List Fact) (e : Entry) (fs : List Fill) → left (facts ++ entry_facts e fs) e ≤ e.order.quantity - filled_by fs
 own-left facts e fs =
     let split : left (facts ++ entry_facts e fs) e ≡ left (facts ++ (Entered e ∷ [])) e - filled_by fs = ap (λ xs. left xs e) (sym (append_assoc facts (Entered e ∷ []) _)) ∙ left-own (facts ++ (Entered e ∷ [])) e fs in
@@ -146,7 +146,7 @@ same_side Buy Sell h = absurd (true≢false (sym h))
 same_side Sell Buy h = absurd (true≢false (sym h))
 same_side Sell Sell h = refl
 
--- an order of which something is left rests where there is room
+-- an order with a rest, on a side below capacity
 abbrev pub HasRoom : List Fact → Entry → List Fill → Type 0
 HasRoom facts e fs = is_day e.order.life ≡ true → filled_by fs < e.order.quantity → length (resting facts e.order.instrument e.order.side) < side_capacity
 
@@ -183,7 +183,7 @@ entered-IsShort facts e fs short room x side = go (stays (facts ++ entry_facts e
         let just = one true h in
         omega (arith, all, just, low, place)
 
--- an order that rested left: there is room for another
+-- a resting order left, so another one fits
 gone_first : (any b : Bool) → b ≡ true → (any || (b || false)) ≡ true
 gone_first true b h = refl
 gone_first false true h = refl

@@ -46,7 +46,7 @@ use Rattle.venue_rules.proofs.Lefts.{resting-unheld}
 use Rattle.venue_rules.proofs.OpenRooms.{first_of-each}
 use Rattle.venue_rules.proofs.ShortSides.{IsShort, entered-IsShort, one_left, quiet-IsShort}
 
--- No answer lets more orders rest on a side than there is room for.
+-- Every answer keeps the sides within capacity.
 
 abbrev KeepsShort : List Fact → Answer → Type 0
 KeepsShort facts x = IsShort (facts ++ x.facts)
@@ -61,7 +61,7 @@ second_false false b h k = absurd (true≢false (sym k))
 below : (n : ℕ) → nat_le side_capacity n ≡ false → n < side_capacity
 below n h = grind (arith, nat_tests)
 
--- where the side is not full, there is room for what is left
+-- a side that is not full has capacity for the rest
 room_for : (facts : List Fact) (o : OrderFact) → is_side_full facts o ≡ false → is_day o.life ≡ true → filled_by (fills facts o) < o.quantity → length (resting facts o.instrument o.side) < side_capacity
 room_for facts o h day less =
     below (length (resting facts o.instrument o.side))
@@ -77,7 +77,7 @@ order-IsShort m h s d t short =
     first_of-each (KeepsShort h.facts) (order_refusals m h s d t) (accepted m h (order_asked m s.who d) t) (same, (same, (same, (same, (same, (same, (same, (same, tt))))))))
     (λ n. accepted-IsShort m h (order_asked m s.who d) t short n.1.1.1.1.1.1.1.0)
 
--- an order that is replaced rested on that side
+-- a replaced order rested on that side
 
 abbrev RestsThere : List Fact → Named → Type 0
 RestsThere facts (IsResting r) = In r.entry (entries facts) × (rests r.entry.order.instrument r.entry.order.side (with_left (left facts) r.entry) ≡ true)
@@ -139,7 +139,7 @@ due-IsShort m h k short =
     (λ n. entered-IsShort (h.facts ++ (Unheld u ∷ [])) (entering h.facts k.order 0 k.due) (fills h.facts k.order) now
     (λ day some. subst (λ (rs : List Resting). length rs < side_capacity) (sym (resting-unheld h.facts u k.order.instrument k.order.side)) (room_for h.facts k.order n.1.0 day some))))
 
--- no other answer enters an order
+-- no other answer adds an order
 
 abbrev EntersNone : Answer → Type 0
 EntersNone x = entries x.facts ≡ []

@@ -5,9 +5,9 @@ use Rattle.venue_rules.specs.declared.facts.TradeSource.{TradeSource}
 use Rattle.venue_rules.specs.declared.facts.TradeSource.TheVariants.{Book as InBook, Room as InRoom}
 use Rattle.venue_rules.specs.Answer.{Answer, first_of}
 
--- A room is closed right after its trade.
+-- A room closes right after its trade.
 
--- what comes after a trade closes its room
+-- the facts after a trade close its room
 abbrev pub ShutBy : TradeSource → List Fact → Type 0
 ShutBy (InBook old new) fs = Unit {0}
 ShutBy (InRoom room quote) fs = (rest : List Fact) × (fs ≡ Closed (record { room = room }) ∷ rest)
@@ -40,7 +40,7 @@ Shut-append (Quoted x ∷ fs) gs a b = Shut-append fs gs a b
 Shut-append (Withdrawn x ∷ fs) gs a b = Shut-append fs gs a b
 Shut-append (Closed x ∷ fs) gs a b = Shut-append fs gs a b
 
--- what comes after some facts
+-- a suffix of the facts
 pub Shut-behind : (fs gs : List Fact) → Shut (fs ++ gs) → Shut gs
 Shut-behind [] gs k = k
 Shut-behind (Traded t ∷ fs) gs k = Shut-behind fs gs k.1
@@ -53,7 +53,7 @@ Shut-behind (Quoted x ∷ fs) gs k = Shut-behind fs gs k
 Shut-behind (Withdrawn x ∷ fs) gs k = Shut-behind fs gs k
 Shut-behind (Closed x ∷ fs) gs k = Shut-behind fs gs k
 
--- the first refusal that holds
+-- every refusal keeps this
 abbrev pub AllShut : List (Bool × Answer) → Type 0
 AllShut [] = Unit {0}
 AllShut (r ∷ rs) = Shut r.1.facts × AllShut rs

@@ -38,7 +38,7 @@ use Rattle.venue_rules.specs.Answers.{answer_app}
 use Rattle.venue_rules.specs.Run.{Input, Message, Tick, answer_input, answer_due_of}
 use Rattle.venue_rules.proofs.Shut.{Shut, first_of-Shut, Shut-append}
 
--- Where an answer has a trade in a room, the room is closed next.
+-- After an answer's trade in a room, its next fact closes the room.
 
 entry-Shut : (e : Entry) (fs : List Fill) → Shut (entry_facts e fs)
 entry-Shut e [] = tt

@@ -7,7 +7,7 @@ use Rattle.fix_dictionary.specs.declared.messages.MarketDataEntry.{MarketDataEnt
 use Rattle.fix_dictionary.specs.declared.messages.Party.{Party}
 use Rattle.fix_dictionary.specs.Text.{app_text, side_text}
 
--- The text of messages that the venue sends, with `|` for the separator; those with groups are spelled here.
+-- Texts of messages that the venue sends, with `|` for the separator; those with groups are spelled here.
 
 abbrev pub field : List ℕ → List ℕ → List ℕ
 field tag value = tag ++ 61 ∷ value ++ 124 ∷ []

@@ -17,25 +17,25 @@ use Rattle.venue_rules.specs.Book.{left, removes, takes_part, traded}
 use Rattle.venue_rules.proofs.Members.{In, In-append_cases, Places, Places-one, Places-upto}
 use Rattle.venue_rules.proofs.Follows.{Follows, TradeFollows}
 
--- What is traded of an order: nothing before it has a number, and no more than its quantity.
+-- Traded quantities: 0 for a number not yet given, and at most an order's quantity.
 
--- nothing was traded under this number, and nothing took it off
+-- nothing was traded under this number, and nothing removed it
 abbrev pub IsFresh : List Fact → ℕ → Type 0
 IsFresh facts n = (list_any (removes n) facts ≡ false) × (traded facts n ≡ 0)
 
--- numbers of orders are places, and those past the last are fresh
+-- orders are numbered by place, and numbers past the last are fresh
 pub record Numbered (facts : List Fact) : Type 0 where
   pub places : Places (λ (y : Entry). y.number) 0 (entries facts)
   pub fresh : (n : ℕ) → length (entries facts) < n → IsFresh facts n
 
--- all of a fresh order is left
+-- a fresh order's leaves quantity is its quantity
 pub fresh-left : (facts : List Fact) (e : Entry) → IsFresh facts e.number → left facts e ≡ e.order.quantity
 fresh-left facts e f = ap (λ b. if b then 0 else e.order.quantity - traded facts e.number) f.0 ∙ (ap (λ n. e.order.quantity - n) f.1 ∙ less_none e.order.quantity)
   where
     less_none : (n : ℕ) → n - 0 ≡ n
     less_none n = omega arith
 
--- a fact that is no trade changes nothing of what is traded
+-- a fact that is no trade leaves traded quantities
 pub traded_quiet : (facts : List Fact) (f : Fact) (n : ℕ) → trades (f ∷ []) ≡ [] → traded (facts ++ (f ∷ [])) n ≡ traded facts n
 traded_quiet facts f n none =
     ap (sum_by (λ (t : Trade). if takes_part n t.place then t.quantity else 0)) (filter_map-append trade_in facts (f ∷ []) ∙ (ap (λ ts. trades facts ++ ts) none ∙ append-nil (trades facts)))
@@ -60,13 +60,13 @@ fresh-quiet facts f n h k none = (removed_quiet facts f n h.0 k, traded_quiet fa
 fresh-traded : (facts : List Fact) (t : Trade) (n : ℕ) → IsFresh facts n → takes_part n t.place ≡ false → IsFresh (facts ++ (Traded t ∷ [])) n
 fresh-traded facts t n h k = (removed_quiet facts (Traded t) n h.0 refl, traded_other facts t n k ∙ h.1)
 
--- the number of an order that entered is not past the last
+-- an entered order's number is at most the last
 pub not_past : (facts : List Fact) (e : Entry) (k n : ℕ) → Places (λ (y : Entry). y.number) 0 (entries facts) → In e (entries facts) → e.number ≡ k → length (entries facts) < n → (k == n) ≡ false
 not_past facts e k n places i same past =
     let most : e.number < 0 + length (entries facts) + 1 = Places-upto (λ (y : Entry). y.number) 0 (entries facts) places e i in
     ne_eqb k n (λ h. absurd (omega (arith, most, same, past, h)))
 
--- one fact more
+-- a further fact
 
 grown : (facts : List Fact) (f : Fact) (n : ℕ) → length (entries (facts ++ (f ∷ []))) < n → length (entries facts) < n
 grown facts f n h =
@@ -104,7 +104,7 @@ same_entries facts f y none i = subst (λ es. In y es) (filter_map-append entry_
 within-quiet : (facts : List Fact) (f : Fact) → TradesWithin facts → entries (f ∷ []) ≡ [] → trades (f ∷ []) ≡ [] → TradesWithin (facts ++ (f ∷ []))
 within-quiet facts f w none quiet y i = subst (λ n. n ≤ y.order.quantity) (sym (traded_quiet facts f y.number quiet)) (w y (same_entries facts f y none i))
 
--- a trade of no more than is left of an order
+-- a trade of at most an order's leaves quantity
 within-part : (facts : List Fact) (t : Trade) (y : Entry) → traded facts y.number ≤ y.order.quantity → (takes_part y.number t.place ≡ true → t.quantity ≤ left facts y) → traded (facts ++ (Traded t ∷ [])) y.number ≤ y.order.quantity
 within-part facts t y w part = subst (λ n. n ≤ y.order.quantity) (sym (traded_push facts t y.number)) (by (takes_part y.number t.place) part)
   where

@@ -4,13 +4,13 @@ use Rattle.venue_rules.specs.Market.{Market}
 use Rattle.venue_rules.specs.Run.{Input, Message, Tick, run}
 use Rattle.venue_rules.specs.MoreInputs.{answer_after}
 
--- Whom replies go to, where messages come from participants.
+-- Addressees of replies, where messages come from participants.
 
--- a participant is a place in the participant file
+-- a place in the participant file
 abbrev pub IsParticipant : Market → ℕ → Type 0
 IsParticipant m who = who < length m.participants.names
 
--- who sent a message is a participant; a tick has no sender
+-- the sender is a participant; a tick has no sender
 abbrev pub ComesFromParticipant : Market → Input → Type 0
 ComesFromParticipant m (Message taken t) = IsParticipant m taken.from
 ComesFromParticipant m (Tick t) = Unit {0}
@@ -27,6 +27,6 @@ GoToParticipants m rs = (r : Reply) → Contains rs r → IsParticipant m r.to
 abbrev pub RepliesGoToParticipants : Type 0
 RepliesGoToParticipants = (m : Market) (is : List Input) → ComeFromParticipants m is → GoToParticipants m (run m is).replies
 
--- and those to one input more
+-- and in the answer to a further input
 abbrev pub AnswersGoToParticipants : Type 0
 AnswersGoToParticipants = (m : Market) (is : List Input) (i : Input) → ComeFromParticipants m is → ComesFromParticipant m i → GoToParticipants m (answer_after m is i).replies

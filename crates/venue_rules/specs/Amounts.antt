@@ -12,12 +12,12 @@ use Rattle.venue_rules.specs.Book.{Fill, fills, filled_by}
 use Rattle.venue_rules.specs.Rooms.{printed}
 use Rattle.venue_rules.specs.Run.{Input, Message, Tick, after, answer_input}
 
--- What is left and what is filled of an order stay within the greatest amount that a message has room for.
+-- Leaves quantities and filled quantities within the greatest amount of a message.
 
 abbrev pub greatest_amount : ℕ
 greatest_amount = 1_000_000_000_000_000
 
--- what was filled under the numbers that an order replaced, with its own quantity, is an amount; a held side is of such a quantity
+-- what was filled under replaced numbers, plus the order's quantity, is an amount; so is a held side's quantity
 abbrev pub is_within : Fact → Bool
 is_within (Entered e) = nat_le (e.filled_before + e.order.quantity) greatest_amount
 is_within (Held h) = nat_le h.order.quantity greatest_amount
@@ -26,7 +26,7 @@ is_within _ = true
 abbrev pub are_within : List Fact → Bool
 are_within facts = list_all is_within facts
 
--- the quantities that a message asks for are amounts, as those that are read always are
+-- the quantities of a message are amounts, as decoding ensures
 abbrev pub asks_within : App → Bool
 asks_within (NewOrderSingle d) = nat_le d.quantity greatest_amount
 asks_within (OrderCancelReplaceRequest d) = nat_le d.quantity greatest_amount
@@ -37,14 +37,15 @@ abbrev pub is_input_within : Input → Bool
 is_input_within (Message taken t) = asks_within taken.item.app
 is_input_within (Tick t) = true
 
--- the answer to an input leaves the facts within, where they were and its quantities are
+-- an answer keeps the facts within, where they were and the input's quantities are
 abbrev pub AmountsStayWithin : Type 0
 AmountsStayWithin = (m : Market) (h : History) (i : Input) → are_within h.facts ≡ true → is_input_within i ≡ true → are_within (after h (answer_input m h i)).facts ≡ true
 
--- the first fills of an order, and so all of them, are together no more than its quantity, and none is more than what is left of its resting order
+-- the first k fills of an order add up to at most its quantity, for each k; each is at most its resting order's leaves
+-- quantity
 abbrev pub FillsAreWithin : Type 0
 FillsAreWithin = (facts : List Fact) (o : OrderFact) → ((k : ℕ) → filled_by (take k (fills facts o)) ≤ o.quantity) × (filled_by (fills facts o) ≤ o.quantity) × ((f : Fill) → Contains (fills facts o) f → (0 < f.quantity) × (f.quantity ≤ f.resting.left))
 
--- the identifier that is printed for a number of 64 bits has the form of one
+-- the identifier printed for a 64-bit number has the form of one
 abbrev pub PrintedNumbersAreIdentifiers : Type 0
 PrintedNumbersAreIdentifiers = (prefix n : ℕ) → is_printable prefix ≡ true → n < 2 ^ 64 → IsText 64 (printed prefix n)

@@ -1,23 +1,23 @@
--- The rules of the venue, in the order in which they are read.
+-- The rules of the venue, in reading order.
 -- the files, and who is related to whom
 pub mod Market
--- a small market of examples
+-- the small market of the examples
 pub mod Fixture
--- what has happened, and what is read off it
+-- facts, and what is read off them
 pub mod Facts
--- the order book: what is left, what rests, what fills, what is shown
+-- the order book: leaves quantities, resting orders, fills, snapshots
 pub mod Book
 -- requests for quotes: open rooms, live quotes
 pub mod Rooms
--- trades and rooms as they are read back
+-- readings of trades and rooms
 pub mod Readings
--- the held sides of crosses
+-- held sides of crosses
 pub mod Delay
--- what an answer is
+-- the form of an answer
 pub mod Answer
 -- an order enters the book
 pub mod Entering
--- the answers, one file for each message type or two
+-- answers, a file for one message type or two
 pub mod Orders
 pub mod Changes
 pub mod Crosses
@@ -28,24 +28,24 @@ pub mod Responses
 pub mod MarketData
 -- the answer to any message
 pub mod Answers
--- the message that a reply is sent as
+-- the message of each reply
 pub mod Messages
 -- the venue over a list of inputs
 pub mod Run
--- what one input more changes
+-- the effect of further inputs
 pub mod MoreInputs
--- whom replies go to
+-- addressees of replies
 pub mod Addressees
--- what is reported over a list of inputs
+-- reports over a list of inputs
 pub mod Reported
--- the inputs that rows tell of
+-- the inputs that rows stand for
 pub mod ReadBack
--- what every list of inputs keeps
+-- the laws of every list of inputs
 pub mod Lawful
 pub mod RoomTrades
--- what inputs whose moments do not fall are limited to
+-- limits of inputs whose moments do not fall
 pub mod Limits
--- what is left and filled of orders stays an amount
+-- leaves and filled quantities stay amounts
 pub mod Amounts
--- what a keeper of rows promises
+-- promises of a row store
 pub mod Kept

@@ -11,7 +11,7 @@ use Rattle.venue_rules.specs.Answer.{Sender}
 use Rattle.venue_rules.specs.Withdrawals.{answer_withdrawal}
 use Rattle.fix_dictionary.specs.declared.messages.QuoteCancel.{QuoteCancel}
 
--- What a list of inputs is limited to; of rooms and quotes, where the moments do not fall.
+-- Limits over a list of inputs; those of rooms and quotes where the moments do not fall.
 
 -- at most 200 orders rest on a side of an instrument
 abbrev pub SidesAreShort : Market → List Input → Type 0
@@ -21,12 +21,12 @@ abbrev pub moment_of : Input → ℕ
 moment_of (Message taken t) = t
 moment_of (Tick t) = t
 
--- the moments of inputs do not fall, from one moment to another
+-- the inputs' moments do not fall, from one moment to another
 abbrev pub IsRising : ℕ → List Input → ℕ → Type 0
 IsRising from [] to = from ≤ to
 IsRising from (i ∷ is) to = (from ≤ moment_of i) × IsRising (moment_of i) is to
 
--- rows as a trail asks them to be: each with the number after the last, and at a moment no earlier
+-- rows as a trail requires them: numbered on from the last, at moments that do not fall
 abbrev pub AreInOrder : ℕ → ℕ → List TrailRow → Type 0
 AreInOrder before last [] = Unit {0}
 AreInOrder before last (r ∷ rs) = ((r.n ≡ before + 1) × (last ≤ r.moment)) × AreInOrder (before + 1) r.moment rs
@@ -38,15 +38,15 @@ RowsAreInOrder = (is : List Input) (to : ℕ) → IsRising 0 is to → AreInOrde
 abbrev pub OpenRoomsAreFew : Market → List Input → Type 0
 OpenRoomsAreFew m is = (t : ℕ) → IsRising 0 is t → length (open_rooms (run m is).history.facts t) ≤ open_room
 
--- and at most as many quotes of one participant are live, which one message may withdraw all at once
+-- and at most as many quotes of one participant are live, all withdrawn by one message at most
 abbrev pub LiveQuotesAreFew : Market → List Input → Type 0
 LiveQuotesAreFew m is = (t maker : ℕ) → IsRising 0 is t → length (live_quotes (run m is).history.facts maker t) ≤ open_room
 
--- so a withdrawal tells nobody more often than that
+-- a withdrawal sends nobody more replies than that
 abbrev pub WithdrawalsAreFew : Market → List Input → Type 0
 WithdrawalsAreFew m is = (t j : ℕ) (s : Sender) (d : QuoteCancel) → IsRising 0 is t → length (replies_to j (answer_withdrawal m (run m is).history s d t).replies) ≤ open_room
 
--- one input, at its moment, adds at most so many replies for one participant
+-- the most replies that one input adds for one participant
 abbrev pub reply_room : ℕ
 reply_room = 1536
 

@@ -15,21 +15,21 @@ use Rattle.venue_rules.specs.Facts.{History, is_request_id_used, next_room}
 use Rattle.venue_rules.specs.Rooms.{open_rooms}
 use Rattle.venue_rules.specs.Answer.{Answer, Sender, answers, first_of, reply}
 
--- how many recipients a request may have, and how many rooms may be open
+-- the most recipients of a request, and the most open rooms
 abbrev pub recipient_room : ℕ
 recipient_room = 12
 
 abbrev pub open_room : ℕ
 open_room = 1000
 
--- the parties with source D and role 35 (liquidity provider), each a place in the participant file or none
+-- the parties with source D and role 35 (liquidity provider), each as a place in the participant file or none
 abbrev pub named_recipients : Market → QuoteRequest → List (Option ℕ)
 named_recipients m d = map (λ p. find_participant m.participants p.id) (filter (λ p. p.source == 68 && p.role == 35) d.parties)
 
 abbrev pub recipients : Market → QuoteRequest → List ℕ
 recipients m d = filter_map (λ r. r) (named_recipients m d)
 
--- a number stands twice in the list
+-- a number occurs twice in the list
 abbrev pub has_twice : List ℕ → Bool
 has_twice [] = false
 has_twice (r ∷ rs) = elim (list_any (λ q. q == r) rs) [ true ↦ true | false ↦ has_twice rs ]
@@ -43,7 +43,7 @@ opened m h s d t =
     let x = instrument_of m.instruments d.symbol in
     record { number = next_room h.facts; requester = s.who; id = d.request_id; instrument = x; side = d.side; quantity = d.quantity; recipients = recipients m d; end = min (t + request_life_of m.instruments x) greatest }
 
--- a request as it is sent to one recipient
+-- a request, as sent to one recipient
 abbrev pub request_sent : Market → Room → ℕ → Reply
 request_sent m r recipient = reply recipient (RequestSent (record { room = r.number; symbol = symbol_of m.instruments r.instrument; side = r.side; quantity = r.quantity }))
 
@@ -54,7 +54,7 @@ request_accepted m r = record {
   replies = map (request_sent m r) r.recipients;
 }
 
--- why a request is refused, in the order in which it is looked for
+-- causes that refuse a request, in order
 abbrev pub request_refusals : Market → History → Sender → QuoteRequest → ℕ → List (Bool × Answer)
 request_refusals m h s d t =
     let refuse = request_refused s d in

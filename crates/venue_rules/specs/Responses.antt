@@ -22,11 +22,11 @@ use Rattle.venue_rules.specs.Entering.{buyer}
 use Rattle.venue_rules.specs.Withdrawals.{to_maker}
 use Rattle.venue_rules.specs.Answer.{Answer, Sender, answers, first_of, numbered, reply, business_reject}
 
--- what is said to the sender: 117 and 693 as sent, and of a room of its own its request and the instrument
+-- the status sent to the sender: 117 and 693 as sent, and of a room of its own the request and the instrument
 abbrev pub response_status : Sender → QuoteResponse → Option (List ℕ) → Option (List ℕ) → QuoteState → Reply
 response_status s d request symbol state = reply s.who (QuoteStatus (record { quote_id = Some d.quote_id; request_id = request; response_id = Some d.response_id; symbol = symbol; state = state }))
 
--- the requester's side of a trade: the one that it asked for, or, where it asked for both, the one that it names
+-- the requester's side of a trade: the side asked for, or the one that the response names where both were asked for
 abbrev pub taken_side : Option Side → Option Side → Option Side
 taken_side (Some asked) given = Some asked
 taken_side None given = given
@@ -40,7 +40,7 @@ abbrev pub price_for : Side → RoomQuote → Option ℤ
 price_for Buy q = q.offer
 price_for Sell q = q.bid
 
--- the requester passes: it and the maker are told, and the quote counts as withdrawn
+-- the requester passes: a status goes to it and to the maker, and the quote counts as withdrawn
 abbrev pub passed : Market → Sender → Room → RoomQuote → QuoteResponse → Answer
 passed m s r q d = record {
   facts = WithdrawnFact (record { quote = q.number }) ∷ [];
@@ -50,11 +50,11 @@ passed m s r q d = record {
 abbrev pub room_report : Market → Room → ℕ → ℕ → Side → ℤ → Option (List ℕ) → ℕ → Reply
 room_report m r trade who side price response n = reply who (RoomTraded (record { report = n; room = r.number; symbol = symbol_of m.instruments r.instrument; side = side; quantity = r.quantity; price = price; trade = trade; response_id = response }))
 
--- the trade of a hit: of the asked quantity, at the quote's price for the side that the requester takes
+-- the trade of a hit: the requested quantity, at the quote's price for the requester's side
 abbrev pub hit_trade : Sender → Room → RoomQuote → Side → ℤ → ℕ → Trade
 hit_trade s r q side price t = record { instrument = r.instrument; quantity = r.quantity; price = price; buyer = buyer side s.who q.maker; seller = buyer side q.maker s.who; place = InRoom r.number q.number; moment = t }
 
--- a trade, after which the room is closed (17 CFR 37.9(a)(2), (a)(3))
+-- a trade, which closes the room (17 CFR 37.9(a)(2), (a)(3))
 abbrev pub room_traded : Market → History → Sender → Room → RoomQuote → QuoteResponse → Side → ℤ → ℕ → Answer
 room_traded m h s r q d side price t =
     let trade = next_trade h.facts in
@@ -63,7 +63,7 @@ room_traded m h s r q d side price t =
       replies = numbered h.reports (room_report m r trade s.who side price (Some d.response_id) ∷ room_report m r trade q.maker (opposite side) price None ∷ []);
     }
 
--- a hit on a live quote, by the side that the requester takes, and the price that the quote has for it
+-- a hit on a live quote, by the requester's side and the quote's price for it
 abbrev pub answer_hit_at : Market → History → Sender → Room → RoomQuote → QuoteResponse → ℕ → Side → Option ℤ → Answer
 answer_hit_at m h s r q d t side None = answers (response_status s d (Some r.id) (Some (symbol_of m.instruments r.instrument)) (ResponseRefused InvalidPrice) ∷ [])
 answer_hit_at m h s r q d t side (Some price) = room_traded m h s r q d side price t
@@ -72,7 +72,7 @@ abbrev pub answer_hit : Market → History → Sender → Room → RoomQuote →
 answer_hit m h s r q d t None = business_reject s SideMissing
 answer_hit m h s r q d t (Some side) = answer_hit_at m h s r q d t side (price_for side q)
 
--- what comes before a hit: the room is another's, the quote is no longer there, the requester passes it, or names the other side
+-- checks before a hit: the room is another's, the quote is gone, the requester passes it, or names the other side
 abbrev pub response_refusals : Market → History → Sender → Room → RoomQuote → QuoteResponse → ℕ → List (Bool × Answer)
 response_refusals m h s r q d t =
     let say : QuoteState → Answer = λ state. answers (response_status s d (Some r.id) (Some (symbol_of m.instruments r.instrument)) state ∷ []) in
@@ -84,17 +84,17 @@ response_refusals m h s r q d t =
     ∷ (is_other_side r.side d.side, say (ResponseRefused WrongSide))
     ∷ []
 
--- an answer to a quote that the venue numbered, by its room
+-- the answer about a quote that exists, by its room
 abbrev pub answer_response_in : Market → History → Sender → RoomQuote → QuoteResponse → ℕ → Option Room → Answer
 answer_response_in m h s q d t None = answers (response_status s d None None NotFound ∷ [])
 answer_response_in m h s q d t (Some r) = first_of (response_refusals m h s r q d t) (answer_hit m h s r q d t (taken_side r.side d.side))
 
--- by the quote that it names
+-- the answer by the quote named
 abbrev pub answer_response_to : Market → History → Sender → QuoteResponse → ℕ → Option RoomQuote → Answer
 answer_response_to m h s d t None = answers (response_status s d None None NotFound ∷ [])
 answer_response_to m h s d t (Some q) = answer_response_in m h s q d t (room_by_number h.facts q.room)
 
--- 694 is 1, a hit, or 6, a pass
+-- 694 has to be 1, a hit, or 6, a pass
 abbrev pub kind_refusals : Sender → QuoteResponse → List (Bool × Answer)
 kind_refusals s d = (not (d.response_type == 1 || d.response_type == 6), answers (response_status s d None None (ResponseRefused UnsupportedResponse) ∷ [])) ∷ []
 

@@ -14,9 +14,10 @@ use Rattle.venue_rules.specs.Quotes.{quote_sent}
 use Rattle.venue_rules.specs.Run.{Input, Outcome, answer_input, replies_to, run}
 use Rattle.venue_rules.specs.Lawful.{HappenedAfter, IsHitOf, shown_then}
 
--- What stands behind each trade in a room, in one place.
+-- The evidence for each trade in a room, in one place.
 
--- the message that opened a room was answered by the request to each of its recipients, and by nothing else (17 CFR 37.9(a)(3))
+-- the answer to the message that opened a room was the request to each of its recipients, and nothing else (17 CFR
+-- 37.9(a)(3))
 pub record AskedTogether (m : Market) (is : List Input) (asked : Room) : Type 0 where
   pub earlier : List Input
   pub input : Input
@@ -25,7 +26,8 @@ pub record AskedTogether (m : Market) (is : List Input) (asked : Room) : Type 0 
   pub opened : Contains (answer_input m (run m earlier).history input).facts (Asked asked)
   pub emitted : (answer_input m (run m earlier).history input).replies ≡ map (request_sent m asked) asked.recipients
 
--- the room had a first quote among these facts, and the requester was shown what rested in the book when it came, right before it was sent on (17 CFR 37.9(a)(3))
+-- the room had a first quote among these facts; right before it was sent on, the requester was shown what rested in the
+-- book then (17 CFR 37.9(a)(3))
 pub record ShownWithFirst (m : Market) (o : Outcome) (facts : List Fact) (asked : Room) : Type 0 where
   pub first : RoomQuote
   pub before : List Fact
@@ -36,7 +38,9 @@ pub record ShownWithFirst (m : Market) (o : Outcome) (facts : List Fact) (asked 
   pub replies_after : List Reply
   pub shown : replies_to asked.requester o.replies ≡ replies_before ++ (shown_then m before asked ∷ quote_sent m asked first ∷ replies_after)
 
--- a trade in a room after these facts: the requester had asked three participants unrelated to it and to each other, all recipients in one answer; it traded with one of them, at a quote that was live, what it had asked for; and it had been shown the book with the first quote (17 CFR 37.9(a)(2), (a)(3))
+-- a trade in a room after these facts: the requester had asked three participants unrelated to it and to each other,
+-- all recipients in one answer. It traded with one of them, at a live quote, what it had asked for. It had been shown
+-- the book with the first quote (17 CFR 37.9(a)(2), (a)(3)).
 pub record RoomTradeIsLawful (m : Market) (is : List Input) (before : List Fact) (trade : Trade) (room quote : ℕ) : Type 0 where
   pub asked : Room
   pub hit : RoomQuote

@@ -33,7 +33,7 @@ is_report (OrderReplaced r) = true
 is_report (RoomTraded r) = true
 is_report _ = false
 
--- the answer to a tick, by the first held side due, if there is one
+-- the answer to a tick, by the first held side due, if any
 abbrev pub answer_due_of : Market → History → Option HeldSide → Answer
 answer_due_of m h None = no_answer
 answer_due_of m h (Some k) = answer_due m h k
@@ -47,12 +47,12 @@ answer_input m h (Tick t) = answer_due_of m h (due h.facts t)
 abbrev pub after : History → Answer → History
 after h a = record { facts = h.facts ++ a.facts; reports = h.reports + count_by (λ (r : Reply). is_report r.what) a.replies }
 
--- what a list of inputs leads to: the history, and all replies in order
+-- the result of a list of inputs: the history, and all replies in order
 pub record Outcome : Type 0 where
   pub history : History
   pub replies : List Reply
 
--- the venue goes on from a history
+-- the venue from a history on
 abbrev pub run_from : Market → History → List Input → Outcome
 run_from m h [] = record { history = h; replies = [] }
 run_from m h (i ∷ is) =
@@ -64,7 +64,7 @@ run_from m h (i ∷ is) =
 abbrev pub run : Market → List Input → Outcome
 run m is = run_from m no_history is
 
--- each tick finds a side due, and no message does
+-- a tick finds a side due, a message finds none
 abbrev pub is_timely_input : History → Input → Bool
 is_timely_input h (Message taken t) = is_none (due h.facts t)
 is_timely_input h (Tick t) = is_some (due h.facts t)
@@ -80,11 +80,11 @@ is_timely m is = is_timely_from m no_history is
 abbrev pub replies_to : ℕ → List Reply → List Reply
 replies_to who rs = filter (λ r. r.to == who) rs
 
--- the messages that a participant is owed; their texts are what its session sends
+-- the messages owed to a participant; their texts are what its session sends
 abbrev pub owed : Market → ℕ → List Input → List App
 owed m who is = map (λ r. message r.what) (replies_to who (run m is).replies)
 
--- the row of an input: a participant is its place and one more, and a tick has who 0, era 0, number 0 and no text
+-- the row of an input; `who` is the participant's place plus 1, and a tick has who 0, era 0, number 0, no text
 abbrev pub row : ℕ → Input → TrailRow
 row n (Message taken t) = record { n = n; who = taken.from + 1; era = taken.item.era; number = taken.item.number; moment = t; text = app_text taken.item.app }
 row n (Tick t) = record { n = n; who = 0; era = 0; number = 0; moment = t; text = [] }

@@ -1,4 +1,4 @@
-//! A small market: five participants and two instruments, for first runs and for tests.
+//! A small market for examples and tests: five participants, two instruments.
 
 ghost use Rattle.std.specs.Prelude.{◌≡◌, true, IfOk};
 ghost use Rattle.instruments.specs.Rows.{is_delay};
@@ -8,7 +8,7 @@ use instruments::{Instrument, Instruments, Symbol};
 use participants::{Name, Participants, Who};
 use std::alloc::{AllocError, Global};
 
-/// The venue SEF with ALPHA, BETA, GAMMA, DELTA and EPSILON, of whom BETA and GAMMA are related.
+/// The venue SEF with ALPHA, BETA, GAMMA, DELTA and EPSILON; BETA and GAMMA are related.
 pub fn fixture_participants(alloc: Global) -> Result<Participants, AllocError>
     ensures { IfOk result (λ file. file ≡ fixture_participants) }
 {
@@ -24,7 +24,7 @@ pub fn fixture_participants(alloc: Global) -> Result<Participants, AllocError>
     Participants::from_rows(alloc, venue, names, pairs)
 }
 
-/// An instrument with a tick of 0.0025 and a least quantity of 1, whose requests stay open for 30 seconds.
+/// Tick 0.0025, least quantity 1, requests open for 30 seconds.
 fn fixture_instrument(symbol: Symbol, delay: u64) -> Instrument
     ensures { result ≡ fixture_instrument symbol delay }
 {
@@ -37,7 +37,7 @@ fn fixture_instrument(symbol: Symbol, delay: u64) -> Instrument
     }
 }
 
-/// IRS5Y and BASIS1Y, with this delay between linked orders, in milliseconds: 1,000 to 3,600,000.
+/// IRS5Y and BASIS1Y; `delay` between linked orders, in milliseconds: 1,000 to 3,600,000.
 pub fn fixture_instruments(alloc: Global, delay: u64) -> Result<Instruments, AllocError>
     requires { is_delay delay ≡ true }
     ensures { IfOk result (λ file. file ≡ fixture_instruments delay) }

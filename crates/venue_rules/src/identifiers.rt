@@ -1,4 +1,4 @@
-//! Names and symbols of the files, and the venue's numbers, as identifiers of messages.
+//! Names, symbols and the venue's numbers as identifiers of messages.
 
 ghost use Rattle.std.specs.Prelude.{◌≡◌, ◌<◌, true, length};
 ghost use Rattle.fix_dictionary.specs.Values.{is_printable};
@@ -12,7 +12,7 @@ use fix_dictionary::Identifier;
 use instruments::Instruments;
 use itoa::Buffer;
 
-/// A participant's name as the identifier that a message has of it.
+/// A participant's name as an identifier.
 pub fn name_identifier(name: &[u8]) -> Identifier
     requires { is_name name.now ≡ true }
     ensures { result ≡ name.now }
@@ -20,7 +20,7 @@ pub fn name_identifier(name: &[u8]) -> Identifier
     Identifier::from_slice(name)
 }
 
-/// The symbol of an instrument as the identifier that a message has of it.
+/// An instrument's symbol as an identifier.
 pub fn symbol_of(instruments: &Instruments, instrument: u32) -> Identifier
     requires { instrument < length instruments.now }
     ensures { result ≡ symbol_of instruments.now instrument }
@@ -28,7 +28,7 @@ pub fn symbol_of(instruments: &Instruments, instrument: u32) -> Identifier
     Identifier::from_slice(instruments.get(instrument).symbol.as_slice())
 }
 
-/// The identifier that the venue prints for a number: a letter, as `O` for an order, then the digits.
+/// The venue's identifier for a number: a prefix, such as `O` for an order, then the digits.
 pub fn printed_identifier(prefix: u8, number: u64) -> Identifier
     requires { is_printable prefix ≡ true }
     ensures { result ≡ printed prefix number }

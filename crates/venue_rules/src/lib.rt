@@ -1,6 +1,6 @@
-//! The words in which the venue's rules are written: facts, replies and refusals.
+//! The vocabulary of the venue's rules: facts, replies and refusals.
 //!
-//! The rules themselves are the definitions of `specs/`, which are read in the order of `specs/Lib.antt`.
+//! The rules are the definitions in `specs/`, in the reading order of `specs/Lib.antt`.
 #![tactic(auto)]
 
 mod facts;

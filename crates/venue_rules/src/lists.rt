@@ -1,4 +1,4 @@
-//! Lists within facts and replies, each seen as a list.
+//! Lists within facts and replies, each modelled as a list.
 
 ghost use Rattle.std.specs.Prelude.{◌≡◌, ◌≤◌, ◌*◌, length};
 ghost use Rattle.venue_rules.specs.Book.{side_capacity};
@@ -8,7 +8,7 @@ use crate::trail::ShownOrder;
 use participants::Who;
 use std::marker::Model;
 
-/// The recipients of a request for quotes, in its order.
+/// Recipients of a request for quotes, in the request's order.
 #[derive(Drop)]
 pub struct Recipients {
     members: Vec<Who>,
@@ -29,7 +29,6 @@ impl Recipients {
         Recipients { members }
     }
 
-    /// Its members.
     pub fn as_slice(&self) -> &[Who]
         ensures { result.now ≡ self.now }
     {
@@ -37,7 +36,7 @@ impl Recipients {
     }
 }
 
-/// The resting orders of an instrument, as they are shown: bids, then offers, each best first.
+/// Resting orders of an instrument: bids, then offers, each best first.
 #[derive(Drop)]
 pub struct SnapshotEntries {
     entries: Vec<SnapshotEntry>,
@@ -56,7 +55,7 @@ impl Model for SnapshotEntries {
 }
 
 impl SnapshotEntries {
-    /// These entries, no more than may rest on the two sides.
+    /// At most as many entries as may rest on two sides.
     pub fn from_vec(entries: Vec<SnapshotEntry>) -> SnapshotEntries
         requires { length entries.items ≤ 2 * side_capacity }
         ensures { result ≡ entries.items }
@@ -64,7 +63,6 @@ impl SnapshotEntries {
         SnapshotEntries { entries }
     }
 
-    /// Its members.
     pub fn as_slice(&self) -> &[SnapshotEntry]
         ensures value { result.now ≡ self.now }
         ensures few { length result.now ≤ 2 * side_capacity }
@@ -73,7 +71,7 @@ impl SnapshotEntries {
     }
 }
 
-/// The text of a row: an application message as the venue spells it, or nothing.
+/// Text of a row: an application message as the venue encodes it, or nothing.
 #[derive(Drop)]
 pub struct RowText {
     bytes: Vec<u8>,
@@ -94,7 +92,6 @@ impl RowText {
         RowText { bytes }
     }
 
-    /// Its members.
     pub fn as_slice(&self) -> &[u8]
         ensures { result.now ≡ self.now }
     {
@@ -102,7 +99,7 @@ impl RowText {
     }
 }
 
-/// The orders that a requester was shown with the first quote.
+/// Orders shown to a requester with the first quote.
 #[derive(Drop)]
 pub struct Shown {
     orders: Vec<ShownOrder>,
@@ -124,7 +121,6 @@ impl Shown {
         Shown { orders }
     }
 
-    /// Its members.
     pub fn as_slice(&self) -> &[ShownOrder]
         ensures { result.now ≡ self.now }
     {

@@ -1,4 +1,4 @@
-//! What the venue answers.
+//! Replies of the venue.
 
 ghost use Rattle.std.specs.Prelude.{◌≡◌, [], ◌∷◌};
 ghost use Rattle.venue_rules.specs.Answer.{answers, business_reject};
@@ -12,7 +12,7 @@ use fix_dictionary::{Amount, Identifier, Price, Quantity, SequenceNumber, Side};
 use participants::Who;
 use sef_moment::Moment;
 
-/// What every report on an order says. `order` is none where no order of the book is spoken of.
+/// Common part of execution reports. `order` is none where the report names no order of the book.
 #[derive(Drop)]
 pub struct OrderReport {
     pub report: u64,
@@ -24,7 +24,7 @@ pub struct OrderReport {
     pub id: Identifier,
 }
 
-/// A report of a fill: its price, quantity and trade.
+/// Report of a fill: price, quantity and trade.
 #[derive(Drop)]
 pub struct FilledReport {
     pub order: OrderReport,
@@ -33,35 +33,35 @@ pub struct FilledReport {
     pub trade: u64,
 }
 
-/// A report of a cancel or a replacement, with the identifier (41) that the request named.
+/// Report of a cancel or a replacement; `original` is the identifier (41) that the request named.
 #[derive(Drop)]
 pub struct ChangedReport {
     pub order: OrderReport,
     pub original_id: Identifier,
 }
 
-/// A report that refuses an order.
+/// Report that refuses an order.
 #[derive(Drop)]
 pub struct OrderRefused {
     pub order: OrderReport,
     pub cause: OrderRefusal,
 }
 
-/// A report that refuses one side of a cross.
+/// Report that refuses one side of a cross.
 #[derive(Drop)]
 pub struct CrossRefused {
     pub order: OrderReport,
     pub cause: CrossRefusal,
 }
 
-/// Which request a refusal speaks of.
+/// Kind of the refused request.
 #[derive(Clone, Copy, PartialEq, Eq)]
 pub enum ChangeKind {
     Cancel,
     Replace,
 }
 
-/// The resting order that a cancel or replacement named, and what of it is filled.
+/// The resting order that a cancel or replacement named, with its filled quantity.
 #[derive(Drop)]
 pub struct OrderStatus {
     pub order: u64,
@@ -86,7 +86,7 @@ pub struct RequestRefused {
     pub cause: RequestRefusal,
 }
 
-/// A request for quotes as a recipient sees it.
+/// A request for quotes, as sent to a recipient.
 #[derive(Drop)]
 pub struct RequestSent {
     pub room: u64,
@@ -95,7 +95,7 @@ pub struct RequestSent {
     pub quantity: Quantity,
 }
 
-/// What a status report says of a quote.
+/// State of a quote in a status report.
 #[derive(Drop)]
 pub enum QuoteState {
     Accepted,
@@ -108,7 +108,7 @@ pub enum QuoteState {
     Withdrawn,
 }
 
-/// A status report of a quote, by the identifiers that its receiver knows.
+/// Status report of a quote, by the identifiers that its receiver knows.
 #[derive(Drop)]
 pub struct QuoteStatus {
     pub quote_id: Option<Identifier>,
@@ -118,7 +118,7 @@ pub struct QuoteStatus {
     pub state: QuoteState,
 }
 
-/// A quote as the requester sees it.
+/// A quote, as sent to the requester.
 #[derive(Drop)]
 pub struct QuoteSent {
     pub quote: u64,
@@ -131,7 +131,7 @@ pub struct QuoteSent {
     pub end: Moment,
 }
 
-/// A report of a trade in a room.
+/// Report of a trade in a room.
 #[derive(Drop)]
 pub struct RoomReport {
     pub report: u64,
@@ -144,7 +144,7 @@ pub struct RoomReport {
     pub response_id: Option<Identifier>,
 }
 
-/// One resting order of a picture.
+/// One resting order of a snapshot.
 #[derive(Drop)]
 pub struct SnapshotEntry {
     pub side: Side,
@@ -153,7 +153,7 @@ pub struct SnapshotEntry {
     pub order: u64,
 }
 
-/// The picture of an instrument.
+/// Book snapshot of an instrument.
 #[derive(Drop)]
 pub struct BookSnapshot {
     pub request_id: Identifier,
@@ -176,7 +176,7 @@ pub struct BusinessReject {
     pub cause: BusinessRefusal,
 }
 
-/// An answer of the venue.
+/// Body of a reply.
 pub enum ReplyBody {
     OrderRefused(OrderRefused),
     CrossRefused(CrossRefused),
@@ -196,7 +196,7 @@ pub enum ReplyBody {
     BusinessReject(BusinessReject),
 }
 
-// Written out, so that a proof sees one call where it is dropped, and not the drop of each part.
+// Written-out drop (docs/ARCHITECTURE.md).
 impl Drop for ReplyBody {
     fn drop(self) {
         match self {
@@ -220,13 +220,13 @@ impl Drop for ReplyBody {
     }
 }
 
-/// An answer and whom it goes to.
+/// A reply and its addressee.
 pub struct Reply {
     pub to: Who,
     pub what: ReplyBody,
 }
 
-// Written out, so that a proof sees one call where it is dropped, and not the drop of each part.
+// Written-out drop (docs/ARCHITECTURE.md).
 impl Drop for Reply {
     fn drop(self) {
         let Reply {
@@ -237,7 +237,7 @@ impl Drop for Reply {
 }
 
 impl Reply {
-    /// The message of this number and type (35) is not processed, for this cause: a BusinessMessageReject (j).
+    /// BusinessMessageReject (j) of the message with this number and type (35).
     pub fn business_reject(
         to: Who,
         number: SequenceNumber,

@@ -1,4 +1,4 @@
-//! The two sides of the market, and who buys.
+//! Sides of the market.
 
 ghost use Rattle.std.specs.Prelude.{◌≡◌};
 ghost use Rattle.venue_rules.specs.Book.{is_side, opposite};
@@ -7,7 +7,6 @@ ghost use Rattle.venue_rules.specs.Entering.{buyer};
 use fix_dictionary::Side;
 use participants::Who;
 
-/// Whether two sides are the same.
 pub fn is_side(side: Side, other: Side) -> bool
     ensures { result ≡ is_side side other }
 {
@@ -17,7 +16,7 @@ pub fn is_side(side: Side, other: Side) -> bool
     }
 }
 
-/// The side that trades with this one.
+/// The side that trades with `side`.
 pub fn opposite(side: Side) -> Side
     ensures { result ≡ opposite side }
 {
@@ -27,7 +26,7 @@ pub fn opposite(side: Side) -> Side
     }
 }
 
-/// Who buys in a trade of one on this side with another.
+/// The buyer in a trade of `one`, on this side, with `other`.
 pub fn buyer(side: Side, one: Who, other: Who) -> Who
     ensures { result ≡ buyer side one other }
 {

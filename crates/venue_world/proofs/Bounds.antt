@@ -1,4 +1,4 @@
--- How many sides there are and how much waits at each, from whom messages were taken, and when.
+-- The number of sides and the length of each queue; the senders and moments of messages taken.
 use Rattle.std.proofs.Common.{◌≡◌, ℕ, zero, suc, ◌+◌, ◌≤◌, ◌<◌, Bool, true, false, List, [], ◌∷◌, ◌++◌, length, map, max, refl, sym, ap, ◌∙◌, arith, subst, length-append, Option, Some, None}
 use Rattle.std.specs.Prelude.{◌&&◌, not, nat_lt, if◌then◌else◌, slice_get}
 use Rattle.std.proofs.Math.Nat.{le-max_left}
@@ -80,7 +80,7 @@ none_behind replies (z ∷ sides) k j s none e = by (is_behind k replies z) refl
         let later : first_behind (k + 1) replies sides ≡ None = ap (λ (b : Bool). if b then Some k else first_behind (k + 1) replies sides) (sym is) ∙ none in
         ap (λ (n : ℕ). is_behind n replies s) (let e : k + suc j ≡ k + 1 + j = omega arith in e) ∙ rest j later e
 
--- how many are for this one
+-- the number of replies for this one
 count : ℕ → List Reply → ℕ
 count who replies = length (replies_to who replies)
 
@@ -92,7 +92,7 @@ length-added : (b : Bool) (apps : List App) → length (added b apps) ≡ (if b 
 length-added true apps = refl
 length-added false apps = length-map apps outgoing_is.Message
 
--- the test of a side, by the count of what is for it
+-- the test of a side, by the count of its replies
 abbrev test : Bool → ℕ → ℕ → Bool
 test cut n queued = not cut && nat_lt 0 n && nat_lt most_queued (queued + n)
 
@@ -124,7 +124,7 @@ at_few k f sides keeps few i s' s'_at = (let u = side_at sides k i f s' s'_at in
     go s s_at (here e is) = subst IsFew (sym is) (keeps s (few i s s_at))
     go s s_at (there ne is) = subst IsFew (sym is) (few i s s_at)
 
--- From whom, and when.
+-- Senders and moments.
 
 from-append : (n : ℕ) (xs ys : List Input) → AreFrom n xs → AreFrom n ys → AreFrom n (xs ++ ys)
 from-append n [] ys p q = q
@@ -161,7 +161,7 @@ alone_bounded r w k x b = record {
 waits_bounded : (w : WorldState) (t : ℕ) → w.moment ≤ t → Bounded w → Bounded (record w { moment = t })
 waits_bounded w t later b = record { sides = b.sides; senders = b.senders; moments = rising_later 0 w.items w.moment t b.moments later; few = b.few }
 
--- an item is answered, nobody being behind
+-- an item is answered, with nobody behind
 unless_bounded : (w : WorldState) (item : Input) (t : ℕ) (sides : List Side) (fb : Option ℕ) → first_behind 0 (replies_after w.market w.items item) w.sides ≡ fb → first_behind 0 (replies_after w.market w.items item) sides ≡ fb
     → w.moment ≤ t → moment_of item ≡ t → length sides ≡ length w.sides → QueuesAreFew sides → AreFrom (length w.market.participants.names) (item ∷ []) → Bounded w → Bounded (unless_behind fb (answered w item t sides) w)
 unless_bounded w item t sides (Some j) is is' later at_t long few from b = b
@@ -195,7 +195,7 @@ pub acts_bounded : (r : Reader) (w : WorldState) (acts : List WorldEvent) → Bo
 acts_bounded r w [] b = b
 acts_bounded r w (a ∷ acts) b = acts_bounded r (after_act r w a) acts (act_bounded r w a b)
 
--- From the beginning.
+-- From a new world on.
 
 pub fresh_side_at : (file : ParticipantFile) (names : List (List ℕ)) (i : ℕ) (s : Side) → slice_get (map (λ name. fresh_side (ids_of file name)) names) i ≡ Some s → (name : List ℕ) × (slice_get names i ≡ Some name) × (s ≡ fresh_side (ids_of file name))
 fresh_side_at file [] i s e = absurd (cc)

@@ -1,4 +1,4 @@
--- Room at the desks, and what is written to one of them.
+-- Spare capacity at the slots, and a write to one of them.
 use Rattle.std.proofs.Common.{◌≡◌, ℕ, zero, suc, ◌+◌, ◌≤◌, ◌<◌, List, [], ◌∷◌, ◌++◌, length, set, take, get_or, refl, sym, ap, ◌∙◌, arith, subst, Option, Some, None}
 use Rattle.std.specs.Prelude.{slice_get}
 use Rattle.std.specs.VecDeque.{deque_len, deque_capacity}
@@ -10,7 +10,7 @@ use Rattle.venue_world.specs.Side.{Side}
 use Rattle.venue_world.specs.World.{at, posted, emitted}
 use Rattle.venue_world.specs.Slots.{AllHaveCapacity, HasCapacity, all_addressed, places_of, recipients, side_of, sides_of, enqueued}
 
--- one desk is written
+-- a write to one slot
 pub written : (slots : List SessionSlot) (i : ℕ) (f : Side → Side) (d d' : SessionSlot) → i < length slots → d ≡ get_or slots i d → side_of d' ≡ f (side_of d) → sides_of (set slots i d') ≡ at i f (sides_of slots)
 written [] i f d d' low is e = absurd (omega arith)
 written (x ∷ slots) zero f d d' low is e = ap (λ (s : Side). s ∷ sides_of slots) (e ∙ ap (λ (y : SessionSlot). f (side_of y)) is)
@@ -47,7 +47,7 @@ no_slot (d ∷ slots) (suc i) n high = no_slot slots i n (omega arith)
 pub none_there : (slots : List SessionSlot) (i n : ℕ) → length slots ≤ i → HasCapacity n (slice_get slots i)
 none_there = no_slot
 
--- what holds at the one that is written, and at the others, holds at each
+-- a property of the written slot, and of the others, holds for each
 pub capacity_set : (slots : List SessionSlot) (i j n m : ℕ) (d d' : SessionSlot) → i < length slots → d ≡ get_or slots i d → n ≤ m → (deque_len d.queue.waiting + m ≤ deque_capacity d.queue.waiting → deque_len d'.queue.waiting + n ≤ deque_capacity d'.queue.waiting) → HasCapacity m (slice_get slots j) → HasCapacity n (slice_get (set slots i d') j)
 capacity_set [] i j n m d d' low is less f room = absurd (omega arith)
 capacity_set (x ∷ slots) zero zero n m d d' low is less f room = f (subst (λ (y : SessionSlot). deque_len y.queue.waiting + m ≤ deque_capacity y.queue.waiting) (sym is) room)
@@ -86,7 +86,7 @@ capacity_written [] i n d low room = absurd (omega arith)
 capacity_written (x ∷ slots) zero n d low room = room
 capacity_written (x ∷ slots) (suc i) n d low room = capacity_written slots i n d (omega arith) room
 
--- letters are queued as replies are
+-- messages are queued as replies are
 pub sorted_addressed : (replies : List Reply) (sides : List Side) → enqueued (all_addressed replies) sides ≡ posted replies sides
 sorted_addressed [] sides = refl
 sorted_addressed (r ∷ replies) sides = sorted_addressed replies (at r.to (emitted (message r.what)) sides)

@@ -1,4 +1,4 @@
--- What is done at one desk, as it is seen of all.
+-- A change at one slot, in the model of all.
 use Rattle.std.proofs.Common.{◌≡◌, ℕ, zero, suc, ◌+◌, ◌<◌, Bool, true, false, List, [], ◌∷◌, ◌++◌, length, map, max, set, take, get_or, length-set, refl, sym, ap, ◌∙◌, arith, subst, Option, Some, None, Result, Ok, Err}
 use Rattle.std.specs.Prelude.{IfErr, IfOk, OnErr, OnOk, if◌then◌else◌, slice_get}
 use Rattle.fix_session.specs.Reader.{Reader}
@@ -25,7 +25,7 @@ use Rattle.venue_world.specs.Slots.{IsCauseAlone, side_of, sides_of}
 use Rattle.venue_world.specs.Answering.{AreRows, IsAnswered, IsDueAt, IsHindered, IsTakeFault, IsTick, IsTickFault, tick_if}
 use Rattle.venue_world.proofs.Capacity.{at_same, length-sides, written}
 
--- a desk's side, in its place
+-- a slot's side, in its place
 pub seen_at : (ds : List SessionSlot) (who place : ℕ) (d : SessionSlot) → place ≡ who → place < length ds → d ≡ get_or ds place d → slice_get (sides_of ds) who ≡ Some (side_of d)
 seen_at ds who place d is low at_d = subst (λ (n : ℕ). slice_get (sides_of ds) n ≡ Some (side_of d)) is (go ds place low at_d)
   where
@@ -56,7 +56,7 @@ failed_at x who place ds d (Err f) is low at_d e = subst (λ (o : Option Side). 
 pub same_length : (xs ys : List SessionSlot) → sides_of xs ≡ sides_of ys → length xs ≡ length ys
 same_length xs ys e = sym (length-sides xs) ∙ ap length e ∙ length-sides ys
 
--- a message that was taken out of its seat is put back
+-- a message taken out of its seat is put back
 pub refilled : (ds : List SessionSlot) (i : ℕ) (d : SessionSlot) (item : Item) → i < length ds → d ≡ get_or ds i d → (side_of d).seat ≡ Some item → at i (filled item) (at i emptied (sides_of ds)) ≡ sides_of ds
 refilled [] i d item low is full = absurd (omega arith)
 refilled (x ∷ ds) zero d item low is full =
@@ -82,7 +82,7 @@ pub tick_fault : {A : Type 0} (t : ℕ) (v : Venue) (sides : List Side) (refused
 tick_fault t v sides refused refused' (Ok x) d h = tt
 tick_fault t v sides refused refused' (Err f) d h = (d, h)
 
--- one desk more
+-- a further slot
 named_suc : (file : ParticipantFile) (names : List (List ℕ)) (k : ℕ) → k < length names → map (λ name. fresh_side (ids_of file name)) (take (suc k) names) ≡ map (λ name. fresh_side (ids_of file name)) (take k names) ++ fresh_side (ids_of file (get_or names k [])) ∷ []
 named_suc file [] k low = absurd (omega arith)
 named_suc file (n ∷ names) zero low = refl
@@ -99,7 +99,7 @@ slots_more file ds d k who is low before here =
 pub same_count : (ds : List SessionSlot) (i : ℕ) (d : SessionSlot) → length (sides_of (set ds i d)) ≡ length (sides_of ds)
 same_count ds i d = length-sides (set ds i d) ∙ length-set ds i d ∙ sym (length-sides ds)
 
--- the side at a place is that of the desk there
+-- the side at a place is that of the slot there
 pub its_side : (ds : List SessionSlot) (who place : ℕ) (d : SessionSlot) (s : Side) → place ≡ who → place < length ds → d ≡ get_or ds place d → slice_get (sides_of ds) who ≡ Some s → side_of d ≡ s
 its_side ds who place d s is low at_d s_at = same_side (side_of d) s (sym (seen_at ds who place d is low at_d) ∙ s_at)
   where
@@ -117,7 +117,7 @@ answer_at r t who place ds d result s is low at_d emitted s_at =
 pub queue_at : (ds : List SessionSlot) (who place : ℕ) (d : SessionSlot) (count : ℕ) (s : Side) → place ≡ who → place < length ds → d ≡ get_or ds place d → count ≡ length (side_of d).queue → slice_get (sides_of ds) who ≡ Some s → count ≡ length s.queue
 queue_at ds who place d count s is low at_d emitted s_at = emitted ∙ ap (λ (x : Side). length x.queue) (its_side ds who place d s is low at_d s_at)
 
--- what fails at one side may take memory
+-- a failing act of one side may allocate
 pub free_at : {A : Type 0} (i : ℕ) (x : SessionEvent) (side : Option Side) (result : Result A EventFault) → IfErr result (λ fault. IsCauseAlone (refusal_at i x side) x fault) → OnErr result (takes_memory x ≡ true)
 free_at i x side (Ok y) f = tt
 free_at i x side (Err fault) f = by x fault f

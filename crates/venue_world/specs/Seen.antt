@@ -1,4 +1,4 @@
--- What is seen of a world, and what an event makes of it.
+-- The model of a world, and the effect of an event.
 use Rattle.std.specs.Prelude.{ℕ, ◌<◌, ◌≡◌, Result, Ok, Err, Bool, true, false, List, [], ◌∷◌, ◌++◌, Option, Some, None, length}
 use Rattle.fix_session.specs.Reader.{Reader}
 use Rattle.venue_rules.specs.declared.trail.EventFault.{EventFault}
@@ -18,8 +18,8 @@ use Rattle.venue_world.specs.Acts.{act_of}
 use Rattle.venue_world.specs.Side.{Side}
 use Rattle.venue_world.specs.World.{WorldState, after_act, after_all, fresh_world, refusal}
 
--- The venue; the keeper's rows, whether its store is as its calls left it, and how often it refused; how many items there were; the
--- venue's last moment; and the participants' sides.
+-- The venue; the keeper's rows, whether its store is as its calls left it, and its count of refusals; the count of
+-- items; the venue's last moment; and the participants' sides.
 pub record Seen : Type 0 where
   pub venue : Venue
   pub rows : List TrailRow
@@ -29,8 +29,8 @@ pub record Seen : Type 0 where
   pub moment : ℕ
   pub sides : List Side
 
--- The world stands so: its venue stands for what was taken, its rows are those of what was taken, unless the store failed, and its
--- sides are these.
+-- The world's state: its venue is in the state of the items taken, its rows are theirs, unless the store failed, and
+-- its sides are these.
 pub record Shows (s : Seen) (w : WorldState) : Type 0 where
   pub venue : VenueStands w.market w.items s.venue
   pub rows : s.is_clean ≡ true → s.rows ≡ rows w.items
@@ -40,7 +40,7 @@ pub record Shows (s : Seen) (w : WorldState) : Type 0 where
 
 -- Of one event.
 
--- what is done at one side may take memory: a piece, a step, a tick and a collected reply
+-- these acts of one side may allocate: a piece, a step, a tick and a collected reply
 abbrev pub takes_memory : SessionEvent → Bool
 takes_memory (Pieces bytes) = true
 takes_memory (Steps t) = true
@@ -48,31 +48,31 @@ takes_memory (Ticks t) = true
 takes_memory (Collects t) = true
 takes_memory x = false
 
--- an act may take memory; a break, a resume, a hand, a delivery and a cut take none
+-- an act that may allocate; a break, a resume, a hand, a delivery and a cut do not
 abbrev pub may_take_memory : WorldEvent → Bool
 may_take_memory (Alone i x) = takes_memory x
 may_take_memory (Takes i t) = true
 may_take_memory (VenueTicks t) = true
 
--- it is the venue's, which alone records rows
+-- an act of the venue, which alone records rows
 abbrev pub is_of_venue : WorldEvent → Bool
 is_of_venue (Alone i x) = false
 is_of_venue (Takes i t) = true
 is_of_venue (VenueTicks t) = true
 
--- it is refused before any memory is taken
+-- the act is refused before any allocation
 abbrev pub is_refused_first : Option EventFault → Bool
 is_refused_first (Some Due) = true
 is_refused_first (Some (Down j)) = true
 is_refused_first refusal = false
 
--- Why an act failed: its refusal; the trail, whose count of refusals rose; or memory, where it may take some.
+-- Why an act failed: its refusal; the trail, whose count of refusals rose; or an allocation, where it may allocate.
 abbrev pub IsCause : Option EventFault → WorldEvent → ℕ → ℕ → EventFault → Type 0
 IsCause refusal a refused refused' NoMemory = (may_take_memory a ≡ true) × (is_refused_first refusal ≡ false)
 IsCause refusal a refused refused' TrailRefused = (refusal ≡ None) × IsRisen refused refused' × (is_of_venue a ≡ true)
 IsCause refusal a refused refused' fault = refusal ≡ Some fault
 
--- an act was done to a world that stood so: it was not refused, and the world stands as after it
+-- an act was done in this state: it was not refused, and the world is in the state after it
 pub record WasDone (r : Reader) (a : WorldEvent) (w : WorldState) (s' : Seen) : Type 0 where
   pub shows : Shows s' (after_act r w a)
   pub allowed : refusal w a ≡ None
@@ -80,7 +80,7 @@ pub record WasDone (r : Reader) (a : WorldEvent) (w : WorldState) (s' : Seen) : 
 abbrev pub Done : Reader → WorldEvent → Seen → Seen → Type 0
 Done r a s s' = (w : WorldState) → Shows s w → WasDone r a w s'
 
--- an act failed: the world stands as before, and there was a cause
+-- an act failed: the state is as before, and there was a cause
 pub record WasUndone (a : WorldEvent) (w : WorldState) (s s' : Seen) (fault : EventFault) : Type 0 where
   pub shows : Shows s' w
   pub cause : IsCause (refusal w a) a s.refused s'.refused fault
@@ -88,7 +88,7 @@ pub record WasUndone (a : WorldEvent) (w : WorldState) (s s' : Seen) (fault : Ev
 abbrev pub Undone : WorldEvent → Seen → Seen → EventFault → Type 0
 Undone a s s' fault = (w : WorldState) → Shows s w → WasUndone a w s s' fault
 
--- an act names a participant that there is
+-- an act names an existing participant
 abbrev pub IsNamed : ℕ → WorldEvent → Type 0
 IsNamed n (Alone i x) = i < n
 IsNamed n (Takes i t) = i < n
@@ -100,7 +100,7 @@ abbrev pub AreNamed : ℕ → List Event → Type 0
 AreNamed n [] = Unit {0}
 AreNamed n (e ∷ events) = IsNamed n (act_of e) × AreNamed n events
 
--- the acts of the events that were answered Ok
+-- the acts of the events with result Ok
 abbrev pub happened : {A B : Type 0} → List (Result A B) → List Event → List WorldEvent
 happened [] events = []
 happened (Ok x ∷ results) [] = []
@@ -108,7 +108,7 @@ happened (Err x ∷ results) [] = []
 happened (Ok x ∷ results) (e ∷ events) = act_of e ∷ happened results events
 happened (Err x ∷ results) (e ∷ events) = happened results events
 
--- the events were done one after another: each was done where its result is Ok, and changed nothing where it is a fault
+-- the events were done one after another: each with result Ok had its effect, and each fault changed nothing
 abbrev pub AreSteps : {A : Type 0} → Reader → Seen → List (Result A EventFault) → List Event → Seen → Type 0
 AreSteps r s [] events s' = s ≡ s'
 AreSteps r s (Ok x ∷ results) [] s' = ⊥
@@ -116,11 +116,11 @@ AreSteps r s (Err f ∷ results) [] s' = ⊥
 AreSteps r s (Ok x ∷ results) (e ∷ events) s' = (between : Seen) × Done r (act_of e) s between × AreSteps r between results events s'
 AreSteps r s (Err f ∷ results) (e ∷ events) s' = (between : Seen) × Undone (act_of e) s between f × AreSteps r between results events s'
 
--- Once these events were given, this holds of all that happened: of the acts that led from a fresh world to the one before them,
--- whichever they were, and then of the events that were answered Ok.
+-- After these events a property of all acts holds: of any acts that led from a new world to the one before them,
+-- followed by the events with result Ok.
 abbrev pub Holds : {A : Type 0} → (Reader → Market → List WorldEvent → Type 0) → Seen → List (Result A EventFault) → List Event → Type 0
 Holds P old results events = (r : Reader) (m : Market) (before : List WorldEvent) → Shows old (after_all r (fresh_world m) before) → P r m (before ++ happened results events)
 
--- the world stands as after all acts
+-- the world is in the state after all acts
 abbrev pub StandsAfter : Seen → Reader → Market → List WorldEvent → Type 0
 StandsAfter s r m acts = Shows s (after_all r (fresh_world m) acts)

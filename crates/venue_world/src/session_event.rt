@@ -1,4 +1,4 @@
-//! What is done at one participant's side alone.
+//! Events of one participant's side alone.
 
 ghost use Rattle.std.specs.Prelude.{◌≡◌, ◌<◌, max, length, None, Some, slice_get, IfErr, IfOk, OnOk, OnErr};
 ghost use Rattle.fix_session.specs.Reader.{Reader};
@@ -15,7 +15,7 @@ use participants::Who;
 use sef_moment::{Moment, later};
 use venue_rules::EventFault;
 
-/// Does this at a participant's side, and nothing at the others.
+/// Applies a change to a participant's side, and to no other.
 pub(crate) fn do_at(
     slots: &mut Vec<SessionSlot>,
     who: Who,
@@ -32,7 +32,7 @@ pub(crate) fn do_at(
     does(&mut slots[place], who, doing)
 }
 
-/// A participant's session hears its next frame; its answer is told.
+/// Has a participant's session process its next frame; gives the session's result.
 pub(crate) fn step_at(slots: &mut Vec<SessionSlot>, who: Who, t: Moment) -> Result<Step, EventFault>
     requires { who < length slots.old.items }
     ensures ok { (r : Reader) → OnOk result (sides_of slots.new.items ≡ at who (does r (SessionEvent.Steps t)) (sides_of slots.old.items)) }
@@ -45,7 +45,7 @@ pub(crate) fn step_at(slots: &mut Vec<SessionSlot>, who: Who, t: Moment) -> Resu
     step(&mut slots[place], t)
 }
 
-/// How many messages and marks wait in a participant's queue.
+/// The number of messages and sentinels in a participant's queue.
 pub(crate) fn queued_at(slots: &[SessionSlot], who: Who) -> usize
     requires { who < length slots.now }
     ensures { (s : Side) → slice_get (sides_of slots.now) who ≡ Some s → result ≡ length s.queue }
@@ -60,7 +60,7 @@ fn queued(slot: &SessionSlot) -> usize
     slot.queue.waiting.len()
 }
 
-/// Does this at a participant's side, or changes nothing.
+/// Applies an event to a participant's side, or changes nothing.
 pub(crate) fn does(
     slot: &mut SessionSlot,
     who: Who,
@@ -156,7 +156,7 @@ fn resume(slot: &mut SessionSlot, t: Moment)
     slot.moment = t;
 }
 
-/// The first ready message moves to the intake seat, if that is empty.
+/// Moves the first ready message to the intake seat, if that is empty.
 fn hand(slot: &mut SessionSlot)
     ensures { (r : Reader) → side_of slot.new ≡ does r SessionEvent.Hands (side_of slot.old) }
 {
@@ -165,7 +165,7 @@ fn hand(slot: &mut SessionSlot)
     }
 }
 
-/// What waits first moves to the reply seat, if that is empty.
+/// Moves the first of the queue to the reply seat, if that is empty.
 fn deliver(slot: &mut SessionSlot)
     ensures { (r : Reader) → side_of slot.new ≡ does r SessionEvent.Delivers (side_of slot.old) }
 {
@@ -174,7 +174,7 @@ fn deliver(slot: &mut SessionSlot)
     }
 }
 
-/// The session sends the reply in the seat; at the mark its line breaks.
+/// Has the session send the reply in the seat; at the sentinel its line breaks.
 fn collect(slot: &mut SessionSlot, who: Who, t: Moment) -> Result<(), EventFault>
     ensures ok { (r : Reader) → OnOk result (side_of slot.new ≡ does r (SessionEvent.Collects t) (side_of slot.old)) }
     ensures allowed { OnOk result (refusal_at who (SessionEvent.Collects t) (Some (side_of slot.old)) ≡ None) }
@@ -206,14 +206,14 @@ fn fault_of(fault: SendFault, who: Who) -> EventFault
     }
 }
 
-/// What waits becomes the mark. A session that is cut stays so.
+/// Replaces the queue by the sentinel. A session that is cut stays so.
 fn cut(slot: &mut SessionSlot)
     ensures { (r : Reader) → side_of slot.new ≡ does r SessionEvent.Cuts (side_of slot.old) }
 {
     slot.queue.cut();
 }
 
-/// The frames that the session queued, once.
+/// Takes the frames that the session queued.
 fn write(slot: &mut SessionSlot) -> Vec<u8>
     ensures taken { result.items ≡ slot.old.session.state.wire }
     ensures left { side_of slot.new ≡ wire_taken (side_of slot.old) }
@@ -221,7 +221,7 @@ fn write(slot: &mut SessionSlot) -> Vec<u8>
     slot.session.take_wire()
 }
 
-/// The frames that a participant's session queued, once.
+/// Takes the frames that a participant's session queued.
 pub(crate) fn write_at(slots: &mut Vec<SessionSlot>, who: Who) -> Vec<u8>
     requires { who < length slots.old.items }
     ensures taken { (s : Side) → slice_get (sides_of slots.old.items) who ≡ Some s → result.items ≡ s.session.wire }

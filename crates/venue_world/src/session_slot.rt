@@ -5,8 +5,8 @@ use fix_session::Session;
 use outbound_queue::{Outgoing, Queue};
 use sef_moment::Moment;
 
-/// A participant's session, with the last moment of what it did; the message on its way to the venue; the reply on its way
-/// to the session; and what waits for that seat.
+/// A participant's session with its last moment, the message for the venue, the reply for the session, and the queue
+/// for that seat.
 #[derive(Drop)]
 pub(crate) struct SessionSlot {
     pub session: Session,

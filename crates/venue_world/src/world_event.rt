@@ -1,4 +1,4 @@
-//! What an event comes to: what concerns one participant's side alone, or what the venue does.
+//! Acts: an event of one participant's side, or of the venue.
 
 ghost use Rattle.std.specs.Prelude.{◌≡◌};
 ghost use Rattle.venue_world.specs.Acts.{act_of};
@@ -7,42 +7,41 @@ use crate::event::{Event, Piece};
 use participants::Who;
 use sef_moment::Moment;
 
-/// What is done at one participant's side.
+/// Acts of one participant's side.
 #[derive(Drop)]
 pub enum SessionEvent<'a> {
-    /// Bytes come.
+    /// bytes arrive
     Pieces(Piece<'a>),
-    /// The session hears the next frame.
+    /// the session processes the next frame
     Steps(Moment),
-    /// Time passes for the session.
+    /// time passes for the session
     Ticks(Moment),
-    /// The line breaks.
+    /// the line breaks
     Breaks,
-    /// The line comes up.
+    /// the line comes up
     Resumes(Moment),
-    /// The first ready message moves to the intake seat.
+    /// the first ready message moves to the intake seat
     Hands,
-    /// What waits first moves to the reply seat.
+    /// the first of the queue moves to the reply seat
     Delivers,
-    /// The session sends what is in the reply seat.
+    /// the session sends the reply in its seat
     Collects(Moment),
-    /// What waits becomes the mark.
+    /// the sentinel replaces the queue
     Cuts,
-    /// What the session queued for its line is taken. This is no event, but a call between events.
+    /// the frames queued for the line are taken: no event, but a call between events
     Writes,
 }
 
-/// What is done in the world.
+/// Acts of the world.
 #[derive(Drop)]
 pub enum WorldEvent<'a> {
     Alone(Who, SessionEvent<'a>),
-    /// The venue takes the message in a participant's intake seat.
+    /// the venue takes the message in a participant's intake seat
     Takes(Who, Moment),
-    /// The venue enters the first held side that is due.
+    /// the venue enters the first held side due
     VenueTicks(Moment),
 }
 
-/// The act that an event is.
 pub(crate) fn act_of<'a>(event: &'a Event<'_>) -> WorldEvent<'a>
     ensures { result ≡ act_of event.now }
 {

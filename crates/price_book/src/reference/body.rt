@@ -1,4 +1,4 @@
-//! A book that keeps the facts of its day as a list, and reads everything off them.
+//! A book that keeps the day's facts as a list, and reads everything off them.
 ghost use Rattle.std.specs.Prelude.{◌≡◌, ◌≤◌, ◌+◌, ℕ, [], ◌++◌, All, length, take, sum_by, IfOk, IfErr, option_map, Some, IsSome, MatchOption, ◌<◌, true, ◌*◌};
 ghost use Rattle.std.specs.Vec.{vec_capacity, vec_len};
 ghost use Rattle.venue_rules.specs.Facts.{is_order_id_used};
@@ -26,7 +26,7 @@ use std::alloc::{AllocError, Global};
 use std::marker::Model;
 use venue_rules::{Fact, OrderFact, SnapshotEntry, fills_are_within};
 
-/// The orders of one day, and their trades.
+/// Facts of one day.
 #[derive(Drop)]
 pub struct ReferenceBook {
     facts: Vec<Fact>,
@@ -45,7 +45,7 @@ impl Model for ReferenceBook {
     ghost invariant = { λ b. IsBook b.facts.items };
 }
 
-// Appends facts for which there is room.
+// Appends facts within reserved capacity.
 fn append_reserved(facts: &mut Vec<Fact>, mut more: Vec<Fact>)
     requires { vec_len facts.old + vec_len more ≤ vec_capacity facts.old }
     ensures { facts.new.items ≡ facts.old.items ++ more.items }
@@ -54,7 +54,6 @@ fn append_reserved(facts: &mut Vec<Fact>, mut more: Vec<Fact>)
 }
 
 impl ReferenceBook {
-    /// A book without orders.
     pub fn new(alloc: Global) -> ReferenceBook
         ensures { result.facts ≡ [] }
     {
@@ -63,7 +62,6 @@ impl ReferenceBook {
         }
     }
 
-    /// The facts of the book, in order.
     pub fn facts(&self) -> &[Fact]
         ensures facts { result.now ≡ self.now.facts }
         ensures own { are_own self.now.facts ≡ true }
@@ -86,7 +84,7 @@ impl ReferenceBook {
         is_order_id_used(&self.facts, who, id)
     }
 
-    /// What an order would do as it enters; makes room for it.
+    /// Plans the entry of an order, and reserves memory for it.
     pub fn plan_entry(
         &mut self,
         participants: &Participants,
@@ -111,7 +109,7 @@ impl ReferenceBook {
         Ok(plan)
     }
 
-    /// What a cancel of this identifier would do to a resting order; makes room for it.
+    /// Plans a cancel, with this identifier, of a resting order; reserves memory for it.
     pub fn plan_cancel(
         &mut self,
         who: Who,
@@ -130,7 +128,7 @@ impl ReferenceBook {
         Ok(plan)
     }
 
-    /// What a replacement of this identifier would do to a resting order; makes room for it.
+    /// Plans a replacement, with this identifier, of a resting order; reserves memory for it.
     pub fn plan_replace(
         &mut self,
         participants: &Participants,
@@ -169,7 +167,7 @@ impl ReferenceBook {
         Ok(plan)
     }
 
-    /// What rests of an instrument: bids, then offers, each best first.
+    /// Snapshot of an instrument: its resting orders, bids, then offers, each best first.
     pub fn picture(&self, instrument: u32) -> Result<Vec<SnapshotEntry>, AllocError>
         ensures shown { IfOk result (λ v. v.items ≡ picture self.now.facts instrument) }
         ensures few { IfOk result (λ v. length v.items ≤ 2 * side_capacity) }
@@ -177,7 +175,7 @@ impl ReferenceBook {
         picture(*self.facts.allocator(), &self.facts, instrument)
     }
 
-    /// Does what a plan says that was made from this state, before any other plan was.
+    /// Applies a plan made from this state; a later plan invalidates it. Takes no memory.
     pub fn apply(&mut self, plan: FillPlan)
         requires { IsPlanOf self.old plan.facts }
         ensures { self.new.facts ≡ self.old.facts ++ plan.facts }

@@ -1,4 +1,4 @@
-//! An order enters a scanned book.
+//! Entry of an order into the reference book.
 ghost use Rattle.std.specs.Prelude.{◌≡◌, ◌≤◌, ◌-◌, ◌^◌, map, length, true, IfOk, IfErr};
 ghost use Rattle.venue_rules.specs.Book.{fills, filled_by, is_side_full, side_capacity};
 ghost use Rattle.venue_rules.specs.Entering.{entry_facts};
@@ -20,7 +20,7 @@ use sef_moment::Moment;
 use std::alloc::{AllocError, Global};
 use venue_rules::{Entry, Fact, OrderFact};
 
-// Whether the order would rest where no more may.
+// Whether the order would rest on a side at capacity.
 fn is_side_full(
     alloc: Global,
     facts: &[Fact],
@@ -38,7 +38,7 @@ fn is_side_full(
     Ok(MAX_ORDERS_PER_SIDE <= orders.len())
 }
 
-/// The plan of an entry, before room is made for it.
+/// The plan of an entry, before memory is reserved for it.
 pub(crate) fn draft_entry(
     alloc: Global,
     participants: &Participants,

@@ -1,4 +1,4 @@
-//! What is shown of an instrument in a scanned book.
+//! Snapshots of the reference book.
 ghost use Rattle.std.specs.Prelude.{◌≡◌, map, true, IfOk};
 ghost use Rattle.venue_rules.specs.Book.{picture, shown};
 ghost use Rattle.price_book.specs.Kept.{are_whole};
@@ -27,7 +27,7 @@ fn shown_side(
     Ok(entries)
 }
 
-/// What rests of an instrument: bids, then offers, each best first.
+/// The resting orders of an instrument: bids, then offers, each best first.
 pub(crate) fn picture(
     alloc: Global,
     facts: &[Fact],

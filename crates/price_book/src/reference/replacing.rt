@@ -1,4 +1,4 @@
-//! An order takes the place of another in a scanned book.
+//! Replacement of an order in the reference book.
 ghost use Rattle.std.specs.Prelude.{◌≡◌, ◌≤◌, ◌<◌, ◌+◌, ◌^◌, true, None, IfOk, IfErr};
 ghost use Rattle.venue_rules.specs.Book.{filled, too_soon};
 ghost use Rattle.price_book.specs.Kept.{are_whole};
@@ -19,7 +19,7 @@ use sef_moment::Moment;
 use std::alloc::Global;
 use venue_rules::{Entry, Fact, OrderFact};
 
-/// The plan of a replacement, before room is made for it.
+/// The plan of a replacement, before memory is reserved for it.
 pub(crate) fn draft_replace(
     alloc: Global,
     participants: &Participants,

@@ -18,7 +18,7 @@ second : (a b : Bool) → (a || b) ≡ false → b ≡ false
 second true b e = absurd (cc)
 second false b e = e
 
--- none of the types is it: test by test
+-- none of the types is it, test by test
 no_rows : (kind : List ℕ) (begin : ℕ) → is_among kind codes_stated ≡ false → length (rows_of (type_of kind) begin) ≡ 0
 unfolding session_types application_types
 no_rows kind begin e0 =

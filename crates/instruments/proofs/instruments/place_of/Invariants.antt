@@ -2,7 +2,7 @@ use Rattle.std.proofs.Common.{◌≡◌, ℕ, ◌<◌, false, [], get_or, bytes_
 use Rattle.instruments.specs.declared.instruments.Instrument.{Instrument}
 use Rattle.instruments.proofs.instruments.place_of.Given as goal
 
--- what is read past the end of the rows
+-- the value past the end of the rows
 abbrev pub no_row : Instrument
 no_row = record { symbol = []; tick = 0; least = 0; request_life = 0; delay = 0 }
 

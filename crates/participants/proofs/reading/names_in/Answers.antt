@@ -6,7 +6,7 @@ use Rattle.config_format.specs.Document.{text_at}
 use Rattle.config_format.proofs.ListLemmas.{all-at, pushed-more}
 use Rattle.participants.proofs.reading.names_in.Goals as goal
 
--- the name that an entry states
+-- the name of an entry
 abbrev name_at : Value → List ℕ
 name_at entry = text_at (codes "name") (view entry)
 

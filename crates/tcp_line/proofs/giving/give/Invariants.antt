@@ -1,4 +1,4 @@
--- What is gone from `park` was appended.
+-- the bytes gone from `park` were appended
 use Rattle.std.proofs.Common.{◌≡◌, ℕ, List, ◌++◌}
 use Rattle.std.specs.Io.KnownBytes.{Appends}
 use Rattle.tcp_line.proofs.giving.give.Given as goal

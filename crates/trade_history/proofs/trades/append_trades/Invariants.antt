@@ -4,7 +4,7 @@ use Rattle.venue_rules.specs.Facts.{trades}
 use Rattle.trade_history.specs.Traded.{read_from}
 use Rattle.trade_history.proofs.trades.append_trades.Given as goal
 
--- what is read so far, with what is left, is what is to be read; and there is room for what is left
+-- what is read, plus what is left, is the whole; and capacity is reserved for what is left
 abbrev pub invariant-loop-fact : goal.invariant-loop-fact
 invariant-loop-fact l = record {
   read : l.read.items ++ read_from (length l.read.items + 1) (trades (drop l.fact-index l.facts)) ≡ l.fn.read.items ++ read_from (length l.fn.read.items + 1) (trades l.facts);
