@@ -1,4 +1,5 @@
--- What a step answers: Idle only where no frame is unread or the line is down, and App(n) exactly where the ready list grew by item n.
+-- The result of a step: Idle only where no frame is unread or the line is down, and App(n) exactly where the ready list
+-- grew by item n.
 use Rattle.std.proofs.Common.{◌≡◌, ℕ, List, ◌++◌, length, append-nil, Bool, true, false, Option, Some, None, refl, inl, inr}
 use Rattle.std.specs.Prelude.{max, nat_lt, nat_le, if◌then◌else◌}
 use Rattle.fix_dictionary.specs.Values.{Resend}
@@ -32,7 +33,7 @@ abbrev IsApplication : Content → Type 0
 IsApplication (Application app) = Unit {0}
 IsApplication said = ⊥
 
--- what a frame of this content can be answered
+-- the possible answers to a frame of this content
 abbrev IsWork : Content → Step → Type 0
 IsWork said Idle = ⊥
 IsWork said Did = Unit {0}
@@ -145,7 +146,7 @@ end_by r s t true (Some found) up is =
 pub idle_at_the_end : (r : Reader) (s : State) (t : ℕ) → AtEnd r (step r s t).0 (step r s t).1
 idle_at_the_end r s t = end_by r s t s.line.up (r.front s.unread).found refl refl
 
--- what joins the ready list
+-- the item that joins the ready list
 
 item_grows : (era : ℕ) (ready : List Item) (said : Content) (answer : Step) → IsWork said answer → Grows era ready (ready ++ item_of era said answer) answer
 item_grows era ready said Idle work = absurd work

@@ -1,4 +1,4 @@
--- When a new era begins, and what a step makes of it.
+-- When a new era begins, and its effect on a step.
 use Rattle.std.proofs.Common.{◌≡◌, ℕ, ◌+◌, ◌<◌, ◌≤◌, List, [], ◌++◌, length, max, Bool, true, false, not, Option, Some, None, refl, sym, ap, ◌∙◌, subst, cond, arith, append-nil}
 use Rattle.std.specs.Prelude.{◌&&◌, ◌==◌, nat_lt}
 use Rattle.std.proofs.lemmas.Bool.{and_parts}

@@ -1,4 +1,4 @@
--- A step makes of a state what the machine says, from what its calls promise.
+-- A step follows the state machine, by the contracts of its calls.
 use Rattle.std.proofs.Common.{◌≡◌, ◌≤◌, ◌+◌, ◌-◌, arith, Bool, ℕ, List, ◌++◌, length, drop, true, false, Option, Some, None, refl, max, sym, ap, ◌∙◌, subst}
 use Rattle.std.proofs.lemmas.List.{drop_at, length-append}
 use Rattle.std.specs.Prelude.{IfSome, slice_range}
@@ -41,13 +41,12 @@ made_heard r s t now len body rest plan line unread past0 past entries0 entries 
     since_is ∙ ap (λ n. drop n wire) len_is ∙ ap (drop (length s.wire)) wire_is ∙ drop_at s.wire _ (length s.wire) refl in
     rw (line_is, written_is, unread_is, past_is, entries_is, ready_is, past0_is, entries0_is, ready0_is, wire_is, item_is, plan_is, at) (sym (step_heard r s t (body, rest) up found))
 
--- nothing is changed
 pub unchanged : (s : State) (unread : List ℕ) (past : List (List Entry)) (entries : List Entry) (ready : List Item) (wire : List ℕ)
     → unread ≡ s.unread → past ≡ s.past → entries ≡ s.entries → ready ≡ s.ready → wire ≡ s.wire
     → record s { unread = unread; past = past; entries = entries; ready = ready; wire = wire } ≡ s
 unchanged s unread past entries ready wire unread_is past_is entries_is ready_is wire_is = rw (unread_is, past_is, entries_is, ready_is, wire_is) refl
 
--- what was appended to is no longer than what came of it
+-- a list is no longer than the list it was extended to
 pub longer : (old more new : List ℕ) → new ≡ old ++ more → length old ≤ length new
 longer old more new is = omega (arith, ap length is, length-append old more)
 

@@ -1,4 +1,4 @@
--- What a step leaves unread.
+-- The bytes that a step leaves unread.
 use Rattle.std.proofs.Common.{ℕ, ◌≤◌, ◌<◌, ◌%◌, sum, List, length, drop, max, Bool, true, false, if◌then◌else◌, Option, Some, None, ap, length-append, length-drop, arith}
 use Rattle.fix_frame.specs.Frame.{counted, trailer}
 use Rattle.fix_frame.specs.Stream.{Begins}

@@ -1,4 +1,4 @@
--- When a new era begins, and what it begins with, by itself (FIXT 1.1, ResetSeqNumFlag).
+-- When a new era begins, and its first state, defined alone (FIXT 1.1, ResetSeqNumFlag).
 use Rattle.std.specs.Prelude.{◌≡◌, ℕ, List, [], ◌∷◌, ◌++◌, true, false, Some, None}
 use Rattle.resend_store.specs.declared.entry.Entry.TheVariants.{Session}
 use Rattle.fix_session.specs.declared.frame.Frame.{Frame}
@@ -10,15 +10,16 @@ use Rattle.fix_session.specs.declared.plan.Why.TheVariants as why
 use Rattle.fix_session.specs.Sent.{admin_reply_frame}
 use Rattle.fix_session.specs.State.{State}
 
--- a Logon of the counterparty with number 1, ResetSeqNumFlag and this heartbeat interval, that is no possible duplicate
+-- a Logon of the counterparty with number 1, ResetSeqNumFlag and this heartbeat interval, not a possible duplicate
 pub record IsReset (f : Frame) (heartbeat : ℕ) : Type 0 where
   pub spelled : f.content ≡ Logon heartbeat (Some true)
   pub first : f.number ≡ Some 1
   pub from_peer : f.comp_ids_right ≡ true
   pub emitted_once : f.possible_duplicate ≡ false
 
--- Behind such a Logon, heard at moment t, both sides number from 1, and each has spent it; no request and no test stands. What was
--- numbered is kept, what is ready stays, and the reply is queued behind what was.
+-- After such a Logon, heard at moment t, both sides number from 1, and each has spent it; no request and no test is
+-- outstanding. The numbered entries are kept, the ready items stay, and the reply is queued after the frames queued
+-- before.
 pub record EraBegins (s new : State) (answer : Step) (t : ℕ) (kind : List ℕ) (f : Frame) (heartbeat : ℕ) : Type 0 where
   pub answered : answer ≡ Did
   pub past : new.past ≡ s.past ++ s.entries ∷ []
@@ -31,7 +32,7 @@ pub record EraBegins (s new : State) (answer : Step) (t : ℕ) (kind : List ℕ)
   pub ready : new.ready ≡ s.ready
   pub wire : new.wire ≡ s.wire ++ admin_reply_frame s.ids t kind f.content 1 (admin_reply.Logon heartbeat (Some true))
 
--- where 1,000 eras have begun such a Logon ends the connection, with nothing sent or spent
+-- after 1,000 eras such a Logon ends the connection, with nothing sent or spent
 pub record NoEraBegins (s new : State) (answer : Step) : Type 0 where
   pub answered : answer ≡ Dropped why.Reset
   pub up : new.line.up ≡ false

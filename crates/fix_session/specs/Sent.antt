@@ -1,5 +1,5 @@
--- What is numbered for the counterparty, and what the wire carries of it: each message as first sent, and what is asked for
--- again (FIXT 1.1, message recovery).
+-- What is numbered for the counterparty, and what the wire carries of it: each message as first sent, and the requested
+-- resends (FIXT 1.1, message recovery).
 use Rattle.std.specs.Prelude.{ℕ, ◌+◌, List, [], ◌∷◌, ◌++◌, length, Bool, true, Option, Some, None, if◌then◌else◌, decimal, codes}
 use Rattle.fix_frame.specs.Frame.{frame}
 use Rattle.fix_dictionary.specs.Text.{message_text}
@@ -41,12 +41,12 @@ logout_text CompIdProblem = Some (codes "CompID problem")
 abbrev pub reference_type : List ℕ → Option (List ℕ)
 reference_type kind = if is_text 64 kind then Some kind else None
 
--- the test (112) that a TestRequest asks to be answered
+-- the TestReqID (112) of a TestRequest
 abbrev pub test_id : Content → Option (List ℕ)
 test_id (content.TestRequest id) = Some id
 test_id said = None
 
--- the session message of a notice, for a frame that states this type and has this content
+-- the session message of a reply, for a frame that states this type and has this content
 abbrev pub admin_of : List ℕ → Content → AdminReply → Admin
 admin_of kind said (admin_reply.Logon heartbeat reset) = admin.Logon (record { heartbeat_interval = heartbeat; reset = reset })
 admin_of kind said admin_reply.Heartbeat = admin.Heartbeat (record { test_id = None })
@@ -63,7 +63,7 @@ admin_of kind said (admin_reply.Reject of fault) =
     })
 admin_of kind said (admin_reply.Logout text) = admin.Logout (record { text = logout_text text })
 
--- 43=Y where a message is sent again
+-- 43=Y on a resent message
 abbrev pub duplicate : Option ℕ → Option Bool
 duplicate None = None
 duplicate (Some first_sent) = Some true
@@ -88,7 +88,7 @@ admin_message ids number t m = record { header = header_of ids number t None; bo
 abbrev pub app_message : CompIds → ℕ → ℕ → App → Message
 app_message ids number t app = record { header = header_of ids number t None; body = bodies.App app }
 
--- a message sent again at moment t: an application message under its old number, or a gap fill up to a new number
+-- a message resent at moment t: an application message under its old number, or a gap fill up to a new number
 abbrev pub message_again : CompIds → ℕ → Resent → Message
 message_again ids t (repeated number app first_sent) = record { header = header_of ids number t (Some first_sent); body = bodies.App app }
 message_again ids t (filled number new) =
@@ -98,18 +98,18 @@ message_again ids t (filled number new) =
 unfoldable pub framed : Message → List ℕ
 framed m = frame (decimal (length (message_text m))) (message_text m)
 
--- the frame of a notice, as first sent
+-- the frame of a reply, as first sent
 unfoldable pub admin_reply_frame : CompIds → ℕ → List ℕ → Content → ℕ → AdminReply → List ℕ
 admin_reply_frame ids t kind said number a = framed (admin_message ids number t (admin_of kind said a))
 
--- the frames of notices, as first sent, from this number on
+-- the frames of replies, as first sent, from this number on
 abbrev pub sends_frames : CompIds → ℕ → List ℕ → Content → ℕ → AdminReplies → List ℕ
 sends_frames ids t kind said number Nothing = []
 sends_frames ids t kind said number (One a) = admin_reply_frame ids t kind said number a
 sends_frames ids t kind said number (Two a b) =
     admin_reply_frame ids t kind said number a ++ admin_reply_frame ids t kind said (number + 1) b
 
--- the frame of a message that is sent again
+-- the frame of a resent message
 unfoldable pub again_frame : CompIds → ℕ → Resent → List ℕ
 again_frame ids t x = framed (message_again ids t x)
 
@@ -117,27 +117,27 @@ abbrev pub again_frames : CompIds → ℕ → List Resent → List ℕ
 again_frames ids t [] = []
 again_frames ids t (x ∷ xs) = again_frame ids t x ++ again_frames ids t xs
 
--- what is sent for a request
+-- the resends of a request
 abbrev pub asked_frames : CompIds → ℕ → List Entry → Option Resend → List ℕ
 asked_frames ids t entries None = []
 asked_frames ids t entries (Some request) = again_frames ids t (resent request.begin (asked request.begin request.end entries))
 
--- what a plan writes at moment t: in a new era its messages from number 1 on; else what is asked for again of these entries,
--- which are those of the era, then the new messages under the next numbers
+-- what a plan writes at moment t: in a new era its messages from number 1 on; else the requested resends of these
+-- entries, which are those of the era, then the new messages under the next numbers
 unfoldable pub written : CompIds → List Entry → ℕ → List ℕ → Content → Plan → List ℕ
 written ids entries t kind said plan =
     if plan.begins
     then sends_frames ids t kind said 1 plan.admin_replies
     else asked_frames ids t entries plan.again ++ sends_frames ids t kind said (length entries + 1) plan.admin_replies
 
--- the eras that are over, and the entries of the era, where a new one begins or does not
+-- the past eras, and the entries of the era, where a new one begins or does not
 abbrev pub past_after : Bool → List (List Entry) → List Entry → List (List Entry)
 past_after begins past entries = if begins then past ++ entries ∷ [] else past
 
 abbrev pub entries_in : Bool → List Entry → List Entry
 entries_in begins entries = if begins then [] else entries
 
--- the entries that these messages make
+-- the marks of these messages
 abbrev pub marks : AdminReplies → List Entry
 marks Nothing = []
 marks (One a) = entry.Session ∷ []
@@ -157,7 +157,7 @@ abbrev pub apps_past : List (List Entry) → List App
 apps_past [] = []
 apps_past (es ∷ past) = apps es ++ apps_past past
 
--- the application messages that were numbered for the counterparty, era after era, in order
+-- the application messages numbered for the counterparty, era after era, in order
 abbrev pub numbered_in : List (List Entry) → List Entry → List App
 numbered_in past entries = apps_past past ++ apps entries
 

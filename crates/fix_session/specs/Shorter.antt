@@ -1,9 +1,9 @@
--- How much a step leaves unread.
+-- The bytes that a step leaves unread.
 use Rattle.std.specs.Prelude.{ℕ, ◌≤◌, ◌<◌}
 use Rattle.fix_session.specs.declared.plan.Step.{Step}
 use Rattle.fix_session.specs.declared.plan.Step.TheVariants.{Idle}
 
--- so many bytes are unread after a step with this answer, of so many before it: fewer where it did something
+-- the number of bytes unread after a step with this answer, and before it: fewer where it did something
 abbrev pub Shortens : Step → ℕ → ℕ → Type 0
 Shortens Idle before after = after ≤ before
 Shortens answer before after = after < before

@@ -20,21 +20,23 @@ ghost use Rattle.fix_session.specs.declared.frame.Frame.{Frame};
 use fix_fields::{one_fault, one_list, some_reading};
 use fix_frame::stream_laws;
 
-/// Over every list of calls, what was taken and then what is ready is what the heard frames spell, and the number due is the
-/// chain's, and so is the era.
+/// Law call (docs/ARCHITECTURE.md): over every list of calls, what was taken and then what is ready is what the heard
+/// frames spell, and the expected number and the era are those of the chain.
 pub fn taken_then_ready()
     ensures accepted { (r : Reader) (ids : CompIds) (events : List Event) → (run r events (begin ids)).taken ++ (run r events (begin ids)).session.ready ≡ accepted (run r events (begin ids)).heard }
     ensures era { (r : Reader) (ids : CompIds) (events : List Event) → era_of (run r events (begin ids)).session.past ≡ era_after (run r events (begin ids)).heard }
     ensures next_incoming { (r : Reader) (ids : CompIds) (events : List Event) → (run r events (begin ids)).session.line.next_incoming ≡ next_incoming_after (run r events (begin ids)).heard }
 {}
 
-/// Whatever is heard, the eras of what is accepted, and within an era the numbers, rise: each message once.
+/// Law call (docs/ARCHITECTURE.md): whatever is heard, the eras of the accepted messages, and within an era their
+/// numbers, rise: each message once.
 pub fn numbers_rise()
     ensures { (heard : List Heard) → Rises 1 1 (accepted heard) }
 {}
 
-/// A frame asks for a new era exactly where it is a Logon with ResetSeqNumFlag as the rule has it, and not both sides have their
-/// first number to give. A step that hears such a frame begins an era, and none past the thousandth.
+/// Law call (docs/ARCHITECTURE.md): a frame asks for a new era exactly where it is a Logon with ResetSeqNumFlag as the
+/// rule requires, and not both sides still have their first number to give. A step that hears such a frame begins an
+/// era, but none past the thousandth.
 pub fn new_eras()
     ensures asked { (f : Frame) (next_incoming entries heartbeat : ℕ) → era_asked f next_incoming entries ≡ Some heartbeat → IsReset f heartbeat × ((next_incoming ≡ 1) × (entries ≡ 0) → ⊥) }
     ensures asks { (f : Frame) (next_incoming entries heartbeat : ℕ) → IsReset f heartbeat → ((next_incoming ≡ 1) × (entries ≡ 0) → ⊥) → era_asked f next_incoming entries ≡ Some heartbeat }
@@ -44,14 +46,14 @@ pub fn new_eras()
         → NoEraBegins s (step r s t).0 (step r s t).1 }
 {}
 
-/// Over every list of calls, the application messages among what was numbered, era after era, are the replies that were sent,
-/// in order, whatever lines broke and whatever eras began.
+/// Law call (docs/ARCHITECTURE.md): over every list of calls, the application messages that were numbered, era after
+/// era, are the replies that were sent, in order, across disconnects and new eras.
 pub fn replies_in_order()
     ensures { (r : Reader) (ids : CompIds) (events : List Event) → numbered (run r events (begin ids)).session ≡ replies r (begin ids) events }
 {}
 
-/// Only a send numbers an application message, behind those numbered before it. Every other call leaves them as they are,
-/// whatever era begins.
+/// Law call (docs/ARCHITECTURE.md): only a send numbers an application message, after those numbered before it. Every
+/// other call leaves them as they are, across new eras.
 pub fn sends_alone_number()
     ensures step { (r : Reader) (s : State) (t : ℕ) → numbered (step r s t).0 ≡ numbered s }
     ensures tick { (s : State) (t : ℕ) → numbered (tick s t).0 ≡ numbered s }
@@ -63,24 +65,25 @@ pub fn sends_alone_number()
     ensures send { (s : State) (app : App) (t : ℕ) → numbered (sent s app t) ≡ numbered s ++ app ∷ [] }
 {}
 
-/// A step answers Idle only where no frame is unread or the line is down.
+/// Law call (docs/ARCHITECTURE.md): a step returns Idle only where no frame is unread or the line is down.
 pub fn idle_at_the_end()
     ensures { (r : Reader) (s : State) (t : ℕ) → AtEnd r (step r s t).0 (step r s t).1 }
 {}
 
-/// A step or a tick answers App(n) exactly where the ready list grew by item n of the era.
+/// Law call (docs/ARCHITECTURE.md): a step or a tick returns App(n) exactly where the ready list grew by item n of the
+/// era.
 pub fn ready_grows()
     ensures step { (r : Reader) (s : State) (t : ℕ) → Grows (era_of s.past) s.ready (step r s t).0.ready (step r s t).1 }
     ensures tick { (s : State) (t : ℕ) → Grows (era_of s.past) s.ready (tick s t).0.ready (tick s t).1 }
 {}
 
-/// A step that did something leaves fewer bytes unread.
+/// Law call (docs/ARCHITECTURE.md): a step that did something leaves fewer bytes unread.
 pub fn steps_shorten()
     ensures { (r : Reader) (s : State) (t : ℕ) → Shortens (step r s t).1 (length s.unread) (length (step r s t).0.unread) }
 {}
 
-/// Over every list of calls, what was heard since the last resume are the first so many of the frames of all bytes that were
-/// pushed since then.
+/// Law call (docs/ARCHITECTURE.md): over every list of calls, what was heard since the last resume are the first of the
+/// frames of all bytes pushed since then.
 pub fn first_frames_heard()
     ensures heard { (r : Reader) (ids : CompIds) (events : List Event) → frames_since [] (run r events (begin ids)).heard ≡ map (frame_in r ids) (run r events (begin ids)).bodies }
     ensures first { (r : Reader) (ids : CompIds) (events : List Event) → AreFirst (run r events (begin ids)).bodies (run r events (begin ids)).stream }
@@ -88,7 +91,8 @@ pub fn first_frames_heard()
     stream_laws();
 }
 
-/// There is a reader, so that what holds for every reader holds of one; and all readers read alike.
+/// Law call (docs/ARCHITECTURE.md): there is a reader, so that what holds for every reader holds of one; and all
+/// readers agree.
 pub fn one_reader()
     ensures some { Reader }
     ensures front { (r other : Reader) (s : List ℕ) → r.front s ≡ other.front s }

@@ -3,13 +3,15 @@
 ghost use Rattle.std.specs.Prelude.{◌≡◌, ◌↔◌, ◌≤◌, ◌+◌, ◌∷◌, [], ◌++◌, max, length, IsOk, IfOk, OnOk, OnErr, IfErr, IfSome, IfNone, Some, OnSome, Err, slice_get, true, if◌then◌else◌};
 ghost use Rattle.fix_session.specs.Machine as machine;
 ghost use Rattle.fix_dictionary.specs.Values.{IsSequenceNumber};
-ghost use Rattle.fix_session.specs.Reader.{Reader};
+ghost use Rattle.fix_session.specs.Reader.{Reader, IsSettled};
 ghost use Rattle.fix_session.specs.Sent.{framed, app_message};
-ghost use Rattle.fix_session.specs.State.{fresh, resumed, broken};
+ghost use Rattle.fix_session.specs.State.{fresh, resumed, broken, era_of};
 ghost use Rattle.fix_session.specs.Table.{are_numbers_spent};
 
 use crate::comp_ids::CompIds;
+use crate::frame::{Content, Fault, FaultyKind};
 use crate::plan::{AdminReply, Step, Why};
+use crate::reading::read_frame;
 use crate::session_state::{SessionState, TimerAction};
 use crate::table::MAX_SEQ_NUM;
 use crate::unread::{forget, next_body, no_bytes, settle};
@@ -30,7 +32,7 @@ pub enum SendFault {
     /// 1: the numbers up to 999,999,999 are spent.
     #[error("the numbers are spent")]
     Full,
-    /// A growth was refused.
+    /// An allocation failed.
     #[error("out of memory")]
     NoMemory,
 }
@@ -53,7 +55,7 @@ pub struct Session {
     wire: Wire,
 }
 
-// Written out, so that a proof sees one call where it is dropped, and not the drop of each part.
+// Written-out drop (docs/ARCHITECTURE.md).
 impl Drop for Session {
     fn drop(self) {
         let Session {
@@ -85,8 +87,8 @@ impl Model for Session {
 }
 
 impl Session {
-    /// A session of ours with a peer, on a line that is down, with both numbers at 1, and with nothing ready and nothing queued. It
-    /// takes no memory, and so it is never refused.
+    /// A session of ours with a peer, on a line that is down, with both numbers at 1, and with nothing ready and
+    /// nothing queued. It does not allocate, so it never fails.
     pub fn new(alloc: Global, own: &Identifier, peer: &Identifier) -> Result<Session, AllocError>
         ensures ok { IsOk result }
         ensures state { IfOk result (λ session. session.state ≡ fresh (record { own = own.now; peer = peer.now })) }
@@ -105,7 +107,7 @@ impl Session {
         })
     }
 
-    /// The line is up, with no Logon yet; what was not read and what was queued is gone.
+    /// Raises the line, with no Logon yet; unread bytes and queued frames are dropped.
     pub fn resume(&mut self, t: Moment)
         ensures { self.new.state ≡ resumed self.old.state (max self.old.state.line.moment t) }
     {
@@ -115,7 +117,7 @@ impl Session {
         self.line = self.line.raised(t);
     }
 
-    /// The line is down; what was not read and what was queued is gone.
+    /// Lowers the line; unread bytes and queued frames are dropped.
     pub fn break_line(&mut self)
         ensures { self.new.state ≡ broken self.old.state }
     {
@@ -124,7 +126,7 @@ impl Session {
         self.line = self.line.broken();
     }
 
-    /// Bytes come, behind those not read yet. On a line that is down they are not heard.
+    /// Appends bytes to those not read yet. On a line that is down they are ignored.
     pub fn push_bytes(&mut self, piece: &[u8]) -> Result<(), AllocError>
         ensures ok { (r : Reader) → OnOk result (self.new.state ≡ machine.pushed r self.old.state piece.now) }
         ensures err { OnErr result (self.new.state ≡ self.old.state) }
@@ -144,7 +146,28 @@ impl Session {
         self.line.up
     }
 
-    /// How many items are ready.
+    /// A copy of the line's state: Logon, next incoming number, heartbeat interval, outstanding request.
+    pub fn line_state(&self) -> SessionState
+        ensures { result ≡ self.now.state.line }
+    {
+        self.line
+    }
+
+    /// The number of the next outbound message.
+    pub fn next_outgoing(&self) -> u32
+        ensures { result ≡ length self.now.state.entries + 1 }
+    {
+        self.store.next_number()
+    }
+
+    /// The current era, from 1 to 1,000.
+    pub fn era(&self) -> u32
+        ensures { result ≡ era_of self.now.state.past }
+    {
+        self.store.era()
+    }
+
+    /// The number of ready items.
     pub fn ready_len(&self) -> usize
         ensures { result ≡ length self.now.state.ready }
     {
@@ -169,7 +192,7 @@ impl Session {
         self.ready.pop_front()
     }
 
-    /// Puts an item back in front, which a pop has left room for.
+    /// Returns an item to the front, in the capacity that a pop has left.
     pub fn unpop_ready(&mut self, item: Item)
         requires { 1 ≤ self.old.spare }
         ensures { self.new.state ≡ record self.old.state { ready = item ∷ self.old.state.ready } }
@@ -177,7 +200,7 @@ impl Session {
         self.ready.push_front_reserved(item);
     }
 
-    /// The queued frames, once.
+    /// Takes the queued frames, each once.
     pub fn take_wire(&mut self) -> Vec<u8>
         ensures taken { result.items ≡ self.old.state.wire }
         ensures left { self.new.state ≡ record self.old.state { wire = [] } }
@@ -185,22 +208,22 @@ impl Session {
         self.wire.take(self.alloc)
     }
 
-    /// The queued frames, lent.
+    /// The queued frames, borrowed.
     pub fn wire(&self) -> &[u8]
         ensures { result.now ≡ self.now.state.wire }
     {
         self.wire.all()
     }
 
-    /// The queued frames are gone, and their memory is used again.
+    /// Drops the queued frames, and keeps their memory.
     pub fn clear_wire(&mut self)
         ensures { self.new.state ≡ record self.old.state { wire = [] } }
     {
         self.wire.clear();
     }
 
-    /// Does what the next unread frame asks. A step that is refused leaves the frame unread; one that finds no frame on an up line
-    /// is not refused.
+    /// Handles the next unread frame. A step that fails leaves the frame unread; one that finds no frame on an up line
+    /// does not fail.
     pub fn step(&mut self, t: Moment) -> Result<Step, AllocError>
         ensures state { (r : Reader) → OnOk result (self.new.state ≡ (machine.step r self.old.state t).0) }
         ensures answer { (r : Reader) → IfOk result (λ answer. answer ≡ (machine.step r self.old.state t).1) }
@@ -239,7 +262,16 @@ impl Session {
         Ok(plan.answer)
     }
 
-    /// Sends a heartbeat or a test where one is due, or drops a silent line. A tick that sends nothing is not refused.
+    /// The fault of the next unread frame, where that is a Logon with a fault. The frame stays unread.
+    pub fn next_logon_fault(&mut self) -> Result<Option<Fault>, AllocError>
+        ensures fault { (r : Reader) → IfOk result (λ fault. fault ≡ machine.next_logon_fault r self.old.state) }
+        ensures same { self.new.state ≡ self.old.state }
+    {
+        front_logon_fault(self.alloc, &self.ids, &mut self.cutter)
+    }
+
+    /// Sends a Heartbeat or a TestRequest where one is due, or drops a silent line. A tick that sends nothing does not
+    /// fail.
     pub fn tick(&mut self, t: Moment) -> Result<Step, AllocError>
         ensures state { OnOk result (self.new.state ≡ (machine.tick self.old.state t).0) }
         ensures answer { IfOk result (λ answer. answer ≡ (machine.tick self.old.state t).1) }
@@ -316,7 +348,7 @@ impl Session {
         }
     }
 
-    /// The same of a message that is handed over in its own memory, where it is kept to be sent again. One that is not sent comes back.
+    /// The same of a message on the heap, which is kept for resends. A message that is not sent is returned.
     pub fn send_boxed(&mut self, app: BoxedApp, t: Moment) -> Result<(), Unsent>
         ensures sent { OnOk result (self.new.state ≡ machine.sent self.old.state app (max self.old.state.line.moment t)) }
         ensures full { (result ≡ Err (record { app = app; fault = SendFault.Full })) ↔ (are_numbers_spent self.old.state ≡ true) }
@@ -352,14 +384,49 @@ impl Session {
     }
 }
 
-// The same message, in memory of its own.
+// The fault of a Logon.
+fn logon_fault(content: &Content) -> Option<Fault>
+    ensures { result ≡ machine.logon_fault content.now }
+{
+    match content {
+        Content::Faulty {
+            kind: FaultyKind::Logon,
+            fault,
+        } => Some(*fault),
+        _ => None,
+    }
+}
+
+// The fault of the frame in front, where that is a Logon with a fault. The bytes stay unread.
+fn front_logon_fault(
+    alloc: Global,
+    ids: &CompIds,
+    cutter: &mut Cutter,
+) -> Result<Option<Fault>, AllocError>
+    requires { IsSettled cutter.old.unread }
+    ensures fault { (r : Reader) → IfOk result (λ fault. fault ≡ machine.logon_fault_in r ids.now (r.front cutter.old.unread).found) }
+    ensures same { cutter.new.unread ≡ cutter.old.unread }
+{
+    let Some(body) = next_body(cutter) else {
+        return Ok(None);
+    };
+    let frame = read_frame(alloc, ids, &cutter.taken()[body.start..body.end]);
+    cutter.back();
+    let Ok(frame) = frame else {
+        return Err(AllocError);
+    };
+    Ok(logon_fault(&frame.content))
+}
+
+// A copy of the message on the heap.
 fn copy_of(alloc: Global, app: &App) -> Result<BoxedApp, AllocError>
     ensures { IfOk result (λ copy. copy ≡ app.now) }
 {
     BoxedApp::new(alloc, app.copy(alloc)?)
 }
 
-// Makes room for an application message among the entries, and queues its frame where it is to be written; or changes nothing.
+// Reserves capacity for an application message among the entries, and queues its frame if it is to be written; or
+// changes nothing.
 fn ready_app(
     ids: &CompIds,
     is_written: bool,

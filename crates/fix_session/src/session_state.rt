@@ -1,4 +1,4 @@
-//! Where a session stands with its counterparty, and what a tick finds.
+//! The state of a session with its counterparty, and its timers.
 
 ghost use Rattle.std.specs.Prelude.{◌≡◌, ◌+◌, nat_le};
 ghost use Rattle.fix_session.specs.State as state;
@@ -9,27 +9,28 @@ use crate::plan::{Plan, Step};
 use fix_dictionary::{HeartbeatInterval, NewSequenceNumber, SequenceNumber};
 use sef_moment::Moment;
 
-/// Where a session stands with its counterparty.
+/// The state of a session with its counterparty.
 #[derive(Clone, Copy)]
 pub struct SessionState {
     pub up: bool,
     /// The Logon of this connection was heard.
     pub logged_on: bool,
-    /// The last moment.
+    /// The moment of the last call.
     pub moment: Moment,
-    /// The number expected next.
+    /// The next expected sequence number.
     pub next_incoming: NewSequenceNumber,
-    /// What the Logon said (108).
+    /// The heartbeat interval of the Logon (108).
     pub heartbeat: HeartbeatInterval,
-    /// The number whose frame raised the last request, which stands while the number due is not above it.
+    /// The number of the frame that raised the last ResendRequest, which is outstanding while the expected number is
+    /// not above it.
     pub outstanding_request: Option<SequenceNumber>,
     pub last_received_at: Moment,
     pub last_sent_at: Moment,
-    /// When the test that is not answered yet was sent.
+    /// When the TestRequest that is not answered yet was sent.
     pub test_request_sent_at: Option<Moment>,
 }
 
-/// What a tick asks.
+/// What a tick has to do.
 #[derive(Clone, Copy)]
 pub enum TimerAction {
     Nothing,
@@ -38,7 +39,7 @@ pub enum TimerAction {
     Silent,
 }
 
-// So many milliseconds have passed since then.
+// Whether `wait` milliseconds have passed.
 fn has_passed(since: Moment, wait: u64, t: Moment) -> bool
     ensures { result ≡ nat_le (since + wait) t }
 {
@@ -60,7 +61,7 @@ fn stays_up(answer: Step) -> bool
 }
 
 impl SessionState {
-    // The line of a session that was never up.
+    // The state of a session that was never connected.
     pub(crate) fn new() -> SessionState
         ensures { result ≡ state.new_line }
     {
@@ -95,7 +96,7 @@ impl SessionState {
         }
     }
 
-    // A line that is down, with no request standing.
+    // A line that is down, with no request outstanding.
     pub(crate) fn broken(&self) -> SessionState
         ensures { result ≡ state.line_down self.now }
     {
@@ -118,7 +119,7 @@ impl SessionState {
         }
     }
 
-    // What a tick at this moment asks.
+    // What a tick at this moment has to do.
     pub(crate) fn timer_action(&self, t: Moment) -> TimerAction
         ensures { result ≡ ticks.timer_action self.now t }
     {
@@ -144,7 +145,7 @@ impl SessionState {
         }
     }
 
-    // The line after a plan at this moment, by what was written.
+    // The state after a plan at this moment, by what was written.
     pub(crate) fn after(&self, t: Moment, plan: &Plan, written: &[u8]) -> SessionState
         ensures { result ≡ machine.line_after self.now t plan.now written.now }
     {

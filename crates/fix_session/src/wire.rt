@@ -1,4 +1,4 @@
-//! The frames that are queued for the counterparty.
+//! The frames queued for the counterparty.
 
 ghost use Rattle.std.specs.Prelude.{◌≡◌, ◌≤◌, ◌+◌, [], ◌++◌, OnOk, OnErr, length, drop, take};
 ghost use Rattle.fix_fields.specs.Fields.{Appends};
@@ -21,7 +21,7 @@ use std::alloc::{AllocError, Global};
 use std::marker::Model;
 use std::mem;
 
-/// The queued frames, seen as their bytes, and the text of the last one, whose memory the next one uses again.
+/// The queued frames, seen as their bytes, and the text of the last one, whose memory the next one reuses.
 #[derive(Drop)]
 pub(crate) struct Wire {
     frames: Vec<u8>,
@@ -52,7 +52,7 @@ impl Wire {
         self.frames.len()
     }
 
-    /// What was queued behind the first so many bytes.
+    /// The bytes queued after the first `len`.
     pub(crate) fn since(&self, len: usize) -> &[u8]
         requires { len ≤ length self.now }
         ensures { result.now ≡ drop len self.now }
@@ -60,7 +60,6 @@ impl Wire {
         &self.frames[len..]
     }
 
-    /// Drops all but the first so many bytes.
     pub(crate) fn truncate(&mut self, len: usize)
         ensures { self.new ≡ take len self.old }
     {
@@ -73,14 +72,13 @@ impl Wire {
         self.frames.clear();
     }
 
-    /// The queued frames, lent.
     pub(crate) fn all(&self) -> &[u8]
         ensures { result.now ≡ self.now }
     {
         &self.frames
     }
 
-    /// The queued frames, once.
+    /// Takes the queued frames, each once.
     pub(crate) fn take(&mut self, alloc: Global) -> Vec<u8>
         ensures taken { result.items ≡ self.old }
         ensures left { self.new ≡ [] }
@@ -103,7 +101,7 @@ impl Wire {
     }
 }
 
-/// Who writes, at which moment, and what is answered: the type that a frame states, and its content.
+/// The writer, the moment, and what is answered: the type that a frame states, and its content.
 #[derive(Clone, Copy)]
 pub(crate) struct Occasion<'i, 'k, 'c> {
     pub ids: &'i CompIds,
@@ -112,7 +110,7 @@ pub(crate) struct Occasion<'i, 'k, 'c> {
     pub content: &'c Content,
 }
 
-// Appends the frame of a notice, as first sent.
+// Appends the frame of a reply, as first sent.
 #[tactic(auto, unfolding(crate::specs::Sent::admin_reply_frame))]
 fn append_admin_reply(
     alloc: Global,
@@ -129,8 +127,8 @@ fn append_admin_reply(
     wire.append(&header, BodyRef::Admin(&admin))
 }
 
-// Appends the frame of a message that is sent again: a repeat under its old number, with the moment at which it was first
-// sent, or a gap fill.
+// Appends the frame of a resent message: a repeat under its old number, with the moment at which it was first sent, or
+// a gap fill.
 #[tactic(auto, unfolding(crate::specs::Sent::again_frame))]
 fn append_resend(
     ids: &CompIds,
@@ -156,7 +154,7 @@ fn append_resend(
     }
 }
 
-// Appends what is sent for a request.
+// Appends the resends of a request.
 fn append_again(
     ids: &CompIds,
     t: Moment,
@@ -198,8 +196,8 @@ fn append_admin_replies(
     }
 }
 
-// Appends what a plan writes: in a new era its messages from number 1 on; else what is asked for again, then the new messages
-// under the next numbers.
+// Appends what a plan writes: in a new era its messages from number 1 on; else the requested resends, then the new
+// messages under the next numbers.
 #[tactic(auto, unfolding(crate::specs::Sent::written))]
 fn append_plan(
     alloc: Global,
@@ -218,7 +216,7 @@ fn append_plan(
     append_admin_replies(alloc, on, store.next_number(), plan.admin_replies, wire)
 }
 
-// What was done, where what a refused call queued behind the first bytes is taken back.
+// The result of a call; where it failed, what it queued after the first `len` bytes is truncated.
 fn taken_back(wire: &mut Wire, len: usize, done: Result<(), AllocError>) -> Result<(), AllocError>
     ensures result { result ≡ done }
     ensures ok { OnOk done (wire.new ≡ wire.old) }
@@ -247,7 +245,7 @@ pub(crate) fn write_plan(
     taken_back(wire, len, done)
 }
 
-// Appends the frame of a notice, as first sent, that answers no frame.
+// Appends the frame of a session message, as first sent, that answers no frame.
 fn append_alone(
     alloc: Global,
     ids: &CompIds,
@@ -269,7 +267,7 @@ fn append_alone(
     append_admin_reply(alloc, &on, number, admin_reply, wire)
 }
 
-/// Queues the frame of a notice, as first sent, that answers no frame; or nothing.
+/// Queues the frame of a session message, as first sent, that answers no frame; or nothing.
 pub(crate) fn write_admin_reply(
     alloc: Global,
     ids: &CompIds,

@@ -5,7 +5,7 @@ use Rattle.fix_session.specs.Sent as sent
 use Rattle.fix_session.specs.declared.comp_ids.CompIds.{CompIds}
 use Rattle.fix_session.proofs.wire.append_again.Goals as goal
 
--- one frame more: it, then those of the rest, are those that were left
+-- another frame, then those of the rest, are the remaining frames
 one_more : (ids : CompIds) (t : ℕ) (wire new all : List ℕ) (r : Resent) (left rest : List Resent) → left ≡ r ∷ rest → new ≡ wire ++ sent.again_frame ids t r → wire ++ sent.again_frames ids t left ≡ all → new ++ sent.again_frames ids t rest ≡ all
 one_more ids t wire new all r left rest steps is before =
     ap (λ w. w ++ sent.again_frames ids t rest) is ∙ append_assoc wire (sent.again_frame ids t r) (sent.again_frames ids t rest) ∙ ap (λ l. wire ++ sent.again_frames ids t l) (sym steps) ∙ before
