@@ -1,4 +1,4 @@
--- Where a line told no fault, it took all that it was offered.
+-- A line that reported no fault took all that it was offered.
 use Rattle.std.proofs.Common.{◌≡◌, ℕ, ◌+◌, List, [], ◌∷◌, ◌++◌, Bool, true, false, refl, ap, ◌∙◌, arith}
 use Rattle.std.specs.Prelude.{max, if◌then◌else◌}
 use Rattle.fix_dictionary.specs.declared.messages.Item.{Item}
@@ -13,7 +13,7 @@ use Rattle.gateway.specs.Faults.{TookAll}
 use Rattle.gateway.specs.Thread.{ThreadState, Event, Accepts, Collects, Writes, Breaks_off, Reads, Keeps, Repeats, Steps, Hands, Ticks, moves, runs, hands}
 use Rattle.gateway.proofs.Memory.{faults_in-more}
 
--- the faults that the line tells in an event
+-- the faults that the line reports in an event
 abbrev emitted : Event → ℕ
 emitted (Accepts accept.Fault t) = 1
 emitted (Reads gave.Fault) = 1

@@ -17,7 +17,7 @@ abbrev pub AreWhole : List TurnRecord → Type 0
 AreWhole [] = Unit {0}
 AreWhole (turn_record ∷ turn_records) = HasWork turn_record.turn.work × AreWhole turn_records
 
--- one answer more
+-- one further answer
 pub logged : {A : Type 0} (x y z more whole : List A) (answer : A) → z ≡ y ++ answer ∷ [] → y ≡ x ++ more → whole ≡ more ++ answer ∷ [] → z ≡ x ++ whole
 logged x y z more whole answer first second third =
     first ∙ ap (λ ys. ys ++ answer ∷ []) second ∙ append_assoc x more (answer ∷ []) ∙ ap (λ ys. x ++ ys) (sym third)

@@ -77,7 +77,7 @@ drop-front : (xs ys : List ℕ) → drop (length xs) (xs ++ ys) ≡ ys
 drop-front [] ys = refl
 drop-front (x ∷ xs) ys = drop-front xs ys
 
--- All of a list and one more
+-- all of a list and one further
 all-more : (xs : List Connection) (x : Connection) → AllFirstParts xs → IsFirstPart x → AllFirstParts (xs ++ x ∷ [])
 all-more [] x all this = (this, tt)
 all-more (y ∷ xs) x all this = (all.0, all-more xs x all.1 this)

@@ -1,4 +1,4 @@
--- What stands once both boards are closed.
+-- The state once both boards are closed.
 use Rattle.std.proofs.Common.{◌≡◌, ℕ, List, [], ◌∷◌, ◌++◌, map, Bool, true, false, refl, ap, sym, ◌∙◌, append_assoc, append-nil}
 use Rattle.std.specs.Prelude.{Option, Some, slice_get}
 use Rattle.std.specs.Option.{option_map}
@@ -22,7 +22,7 @@ without_cuts-outgoing : (apps : List App) → without_cuts (outgoing apps) ≡ a
 without_cuts-outgoing [] = refl
 without_cuts-outgoing (x ∷ apps) = ap (λ (xs : List App). x ∷ xs) (without_cuts-outgoing apps)
 
--- what was given is what was taken and then what is left, so what was numbered and what is left make up what was given
+-- what was given is what was taken, then what is left; so what was numbered and what is left make up what was given
 whole : (numbered : List App) (given taken left waiting : List Outgoing) → numbered ≡ without_cuts taken → given ≡ taken ++ left → numbered ++ without_cuts (left ++ waiting) ≡ without_cuts (given ++ waiting)
 whole numbered given taken left waiting is split =
     ap (λ (xs : List App). xs ++ without_cuts (left ++ waiting)) is

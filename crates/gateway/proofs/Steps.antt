@@ -1,5 +1,5 @@
--- What the answer of a step tells.
-use Rattle.std.proofs.Common.{◌≡◌, ℕ, zero, suc, ◌∙◌, ap, ◌<◌, List, length, Bool, true, false, refl, sym, subst}
+-- Consequences of the answer of a step.
+use Rattle.std.proofs.Common.{◌≡◌, ℕ, zero, suc, ◌+◌, ◌∙◌, ap, ◌<◌, List, length, Bool, true, false, refl, sym, subst, arith}
 use Rattle.std.specs.Prelude.{max, if◌then◌else◌, Option, Some, None, IfSome, IfNone}
 use Rattle.fix_session.specs.declared.plan.Step.{Step}
 use Rattle.fix_session.specs.declared.plan.Step.TheVariants.{Idle, Did, App, Dropped}
@@ -10,8 +10,11 @@ use Rattle.fix_session.specs.Reader.{Reader}
 use Rattle.fix_session.specs.Shorter.{Shortens}
 use Rattle.gateway.specs.declared.stepping.StepsEnd.{StepsEnd}
 use Rattle.gateway.specs.declared.stepping.StepsEnd.TheVariants as ends
-use Rattle.gateway.specs.Steps.{StepEmits, Settled, count_of, end_of, stepped}
-use Rattle.gateway.specs.Thread.{ThreadState, Thread, runs, standing, steps_at}
+use Rattle.fix_session.specs.declared.frame.Fault.{Fault}
+use Rattle.gateway.specs.declared.turn.TickOutcome.{TickOutcome}
+use Rattle.gateway.specs.declared.turn.TickOutcome.TheVariants as ticked
+use Rattle.gateway.specs.Steps.{StepEmits, Settled, GoOn, HasEnded, IsAnswer, AnswersAt, count_of, end_in, end_of, fault_in, stepped}
+use Rattle.gateway.specs.Thread.{ThreadState, Thread, AnswersTick, after_tick, outcome_of, runs, standing, steps_at, tick_events, tick_in}
 
 emits_of : (r : Reader) (s new : State) (answer : Step) → AtEnd r new answer → new.line.up ≡ session.stays_up answer → Shortens answer (length s.unread) (length new.unread) → StepEmits r s new answer
 emits_of r s new Idle end up fewer = end
@@ -45,7 +48,7 @@ pub stepped-more : (r : Reader) (n t : ℕ) (s : State) → stepped r (suc n) t 
 stepped-more r zero t s = refl
 stepped-more r (suc n) t s = stepped-more r n t (session.step r s t).0
 
--- one step more
+-- one further step
 pub one_more : (r : Reader) (a b c : State) (n t : ℕ) → b ≡ stepped r n t a → c ≡ (session.step r b t).0 → c ≡ stepped r (suc n) t a
 one_more r a b c n t first second = second ∙ ap (λ (s : State). (session.step r s t).0) first ∙ sym (stepped-more r n t a)
 
@@ -57,20 +60,35 @@ steps_run r (suc n) t s = steps_run r n t (record s { session = (session.step r 
 pub steps_lead : (r : Reader) (n t : ℕ) (s : ThreadState) (new : State) → new ≡ stepped r n t s.session → record s { session = new } ≡ runs r (steps_at n t) s
 steps_lead r n t s new is = ap (λ (x : State). record s { session = x }) is ∙ sym (steps_run r n t s)
 
--- what a step tells, by what the session's laws say of steps
+-- the meaning of a step, by the session's laws of steps
 pub emitted : (r : Reader) → ((s : State) (t : ℕ) → IsAtEnd r s (session.step r s t)) → ((s : State) (t : ℕ) → Shorter s (session.step r s t)) →
     (s new : State) (t : ℕ) (answer : Step) → new ≡ (session.step r s t).0 → answer ≡ (session.step r s t).1 → StepEmits r s new answer
 emitted r law shorter s new t answer new_is answer_is =
     subst (λ (x : Step). StepEmits r s new x) (sym answer_is)
     (subst (λ (n : State). StepEmits r s n (session.step r s t).1) (sym new_is) (step_emits r law shorter s t))
 
--- a step more, or a refused one
-pub one_step_more : (end : Option StepsEnd) (a b c : State) (n t : ℕ) → ((r : Reader) → b ≡ stepped r n t a) → ((r : Reader) → c ≡ stepped r (count_of end) t b) →
-    (steps : ℕ) × ((r : Reader) → c ≡ stepped r steps t a)
-one_step_more (Some ends.Refused) a b c n t first second = (n, λ (r : Reader). second r ∙ first r)
-one_step_more (Some ends.Idle) a b c n t first second = (suc n, λ (r : Reader). one_more r a b c n t (first r) (second r))
-one_step_more (Some ends.Dropped) a b c n t first second = (suc n, λ (r : Reader). one_more r a b c n t (first r) (second r))
-one_step_more None a b c n t first second = (suc n, λ (r : Reader). one_more r a b c n t (first r) (second r))
+-- a step that goes on, behind others that do
+pub goes_on : (a b c : State) (n t : ℕ) → ((r : Reader) → (b ≡ stepped r n t a) × GoOn r n t a) → ((r : Reader) → c ≡ stepped r 1 t b) → ((r : Reader) → end_in r t b ≡ None) →
+    (steps : ℕ) × ((r : Reader) → (c ≡ stepped r steps t a) × GoOn r steps t a)
+goes_on a b c n t first second answer = (
+  suc n,
+  λ (r : Reader). (one_more r a b c n t (first r).0 (second r), ((first r).1, subst (λ (x : State). end_in r t x ≡ None) (first r).0 (answer r))),
+)
+
+-- steps that go on, and then one that ends so
+ended : (r : Reader) (steps n t : ℕ) (a b : State) (end : StepsEnd) → steps ≡ n + count_of (Some end) → b ≡ stepped r n t a → GoOn r n t a → AnswersAt r t b end → HasEnded r steps t a end
+ended r steps n t a b end count is goes answer = (n, count, goes, subst (λ (x : State). AnswersAt r t x end) is answer)
+
+pub ends_with : (end : StepsEnd) (a b c : State) (n t : ℕ) → ((r : Reader) → (b ≡ stepped r n t a) × GoOn r n t a) → ((r : Reader) → c ≡ stepped r (count_of (Some end)) t b) → ((r : Reader) → AnswersAt r t b end) →
+    (steps : ℕ) × ((r : Reader) → (c ≡ stepped r steps t a) × HasEnded r steps t a end)
+ends_with ends.Refused a b c n t first second answer =
+    (n, λ (r : Reader). (second r ∙ (first r).0, ended r n n t a b ends.Refused (let e : n ≡ n + 0 = omega arith in e) (first r).0 (first r).1 (answer r)))
+ends_with ends.Idle a b c n t first second answer =
+    (suc n, λ (r : Reader). (one_more r a b c n t (first r).0 (second r), ended r (suc n) n t a b ends.Idle (let e : suc n ≡ n + 1 = omega arith in e) (first r).0 (first r).1 (answer r)))
+ends_with (ends.Dropped why on fault) a b c n t first second answer = (
+  suc n,
+  λ (r : Reader). (one_more r a b c n t (first r).0 (second r), ended r (suc n) n t a b (ends.Dropped why on fault) (let e : suc n ≡ n + 1 = omega arith in e) (first r).0 (first r).1 (answer r)),
+)
 
 -- the same of a thread whose parts these are
 pub steps_lead_from : (r : Reader) (n t : ℕ) (now inside : Thread) (new : State) → inside ≡ now → new ≡ stepped r n t inside.session →
@@ -79,21 +97,62 @@ steps_lead_from r n t now inside new view is =
     subst (λ (thread : Thread). record (standing inside) { session = new } ≡ runs r (steps_at n t) (standing thread)) view
     (steps_lead r n t (standing inside) new is)
 
+-- a tick of a thread whose parts these are
+pub tick_leads_from : (r : Reader) (t : ℕ) (x : TickOutcome) (now inside : Thread) (new : State) → inside ≡ now → new ≡ after_tick t inside.session x →
+    record (standing inside) { session = new } ≡ runs r (tick_events t x) (standing now)
+tick_leads_from r t ticked.Refused now inside new view is =
+    subst (λ (thread : Thread). record (standing inside) { session = new } ≡ standing thread) view (ap (λ (s : State). record (standing inside) { session = s }) is)
+tick_leads_from r t ticked.Done now inside new view is =
+    subst (λ (thread : Thread). record (standing inside) { session = new } ≡ runs r (tick_events t ticked.Done) (standing thread)) view
+    (ap (λ (s : State). record (standing inside) { session = s }) is)
+tick_leads_from r t (ticked.Dropped why on) now inside new view is =
+    subst (λ (thread : Thread). record (standing inside) { session = new } ≡ runs r (tick_events t (ticked.Dropped why on)) (standing thread)) view
+    (ap (λ (s : State). record (standing inside) { session = s }) is)
+
+-- a tick that gave this answer
+pub ticked_to : (t : ℕ) (s new : State) (on : Bool) (answer : Step) (x : TickOutcome) → x ≡ outcome_of on answer → new ≡ (session.tick s t).0 → new ≡ after_tick t s x
+ticked_to t s new on Idle x is new_is = rw is new_is
+ticked_to t s new on (Dropped why) x is new_is = rw is new_is
+ticked_to t s new on Did x is new_is = rw is new_is
+ticked_to t s new on (App n) x is new_is = rw is new_is
+
+answers_tick : (t : ℕ) (s : State) (x : TickOutcome) → x ≡ tick_in t s → AnswersTick t s x
+answers_tick t s ticked.Refused is = tt
+answers_tick t s ticked.Done is = sym is
+answers_tick t s (ticked.Dropped why on) is = sym is
+
+pub tick_answers : (t : ℕ) (s : State) (on : Bool) (answer : Step) (x : TickOutcome) → x ≡ outcome_of on answer → answer ≡ (session.tick s t).1 → on ≡ s.line.logged_on → AnswersTick t s x
+tick_answers t s on answer x is answer_is on_is =
+    answers_tick t s x (is ∙ ap (λ (b : Bool). outcome_of b answer) on_is ∙ ap (λ (a : Step). outcome_of s.line.logged_on a) answer_is)
+
 -- a step that was not refused is one
-pub counts_once : (answer : Step) (end : Option StepsEnd) → end ≡ end_of answer → count_of end ≡ 1
-counts_once Idle end is = rw is refl
-counts_once (Dropped why) end is = rw is refl
-counts_once Did end is = rw is refl
-counts_once (App n) end is = rw is refl
+pub counts_once : (on : Bool) (fault : Option Fault) (answer : Step) (end : Option StepsEnd) → end ≡ end_of on fault answer → count_of end ≡ 1
+counts_once on fault Idle end is = rw is refl
+counts_once on fault (Dropped why) end is = rw is refl
+counts_once on fault Did end is = rw is refl
+counts_once on fault (App n) end is = rw is refl
 
-pub settles : (r : Reader) (s new : State) (answer : Step) (end : Option StepsEnd) → end ≡ end_of answer → StepEmits r s new answer → IfSome end (λ (e : StepsEnd). Settled r e new)
-settles r s new Idle end is emits = rw is emits
-settles r s new (Dropped why) end is emits = rw is emits
-settles r s new Did end is emits = rw is tt
-settles r s new (App n) end is emits = rw is tt
+pub settles : (r : Reader) (s new : State) (on : Bool) (fault : Option Fault) (answer : Step) (end : Option StepsEnd) → end ≡ end_of on fault answer → StepEmits r s new answer → IfSome end (λ (e : StepsEnd). Settled r e new)
+settles r s new on fault Idle end is emits = rw is emits
+settles r s new on fault (Dropped why) end is emits = rw is emits
+settles r s new on fault Did end is emits = rw is tt
+settles r s new on fault (App n) end is emits = rw is tt
 
-pub shortens : (r : Reader) (s new : State) (answer : Step) (end : Option StepsEnd) → end ≡ end_of answer → StepEmits r s new answer → IfNone end (length new.unread < length s.unread)
-shortens r s new Idle end is emits = rw is tt
-shortens r s new (Dropped why) end is emits = rw is tt
-shortens r s new Did end is emits = rw is emits
-shortens r s new (App n) end is emits = rw is emits
+pub shortens : (r : Reader) (s new : State) (on : Bool) (fault : Option Fault) (answer : Step) (end : Option StepsEnd) → end ≡ end_of on fault answer → StepEmits r s new answer → IfNone end (length new.unread < length s.unread)
+shortens r s new on fault Idle end is emits = rw is tt
+shortens r s new on fault (Dropped why) end is emits = rw is tt
+shortens r s new on fault Did end is emits = rw is emits
+shortens r s new on fault (App n) end is emits = rw is emits
+
+-- the end of the steps with a step is what the state machine answered
+is_answer : (r : Reader) (t : ℕ) (s : State) (end : Option StepsEnd) → end ≡ end_in r t s → IsAnswer r t s end
+is_answer r t s None is = sym is
+is_answer r t s (Some ends.Idle) is = sym is
+is_answer r t s (Some (ends.Dropped why on fault)) is = sym is
+is_answer r t s (Some ends.Refused) is = tt
+
+pub answers : (r : Reader) (t : ℕ) (s : State) (on : Bool) (fault : Option Fault) (answer : Step) (end : Option StepsEnd) → end ≡ end_of on fault answer → answer ≡ (session.step r s t).1 → on ≡ s.line.logged_on → fault ≡ fault_in r s → IsAnswer r t s end
+answers r t s on fault answer end is answer_is on_is fault_is =
+    is_answer r t s end
+    (is ∙ ap (λ (b : Bool). end_of b fault answer) on_is ∙ ap (λ (f : Option Fault). end_of s.line.logged_on f answer) fault_is
+    ∙ ap (λ (a : Step). end_of s.line.logged_on (fault_in r s) a) answer_is)

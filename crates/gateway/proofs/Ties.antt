@@ -17,7 +17,7 @@ use Rattle.outbound_queue.specs.declared.outgoing.Outgoing.TheVariants.{Message,
 use Rattle.gateway.specs.Thread.{ThreadState, Event, Accepts, Collects, Writes, Breaks_off, Reads, Keeps, Repeats, Steps, Hands, Ticks, moves, runs, hands}
 use Rattle.gateway.specs.Calls.{calls, calls_of, heard_of, without_cuts}
 
--- what the session's laws say with a reader
+-- the session's laws with a reader
 abbrev pub TakenThenReady : Reader → Type 0
 TakenThenReady r = (ids : CompIds) (calls : List session.Event) →
     (session.run r calls (session.begin ids)).taken ++ (session.run r calls (session.begin ids)).session.ready ≡ accepted (session.run r calls (session.begin ids)).heard
@@ -77,7 +77,7 @@ run_ties r s h [] tied = tied
 run_ties r s h (e ∷ events) tied =
     rw (run-append r (calls e) (calls_of events) h) (run_ties r (moves r s e) (session.run r (calls e) h) events (event_ties r s h e tied))
 
--- from the session's law, the thread's: what was given, and then what is ready, is what the heard frames spell
+-- from the session's law, the thread's: the messages given, then those ready, are what the heard frames spell
 pub given_then_ready : (r : Reader) → TakenThenReady r →
     (events : List Event) (s : ThreadState) → s.session ≡ fresh s.session.ids → s.given ≡ [] → (runs r events s).given ++ (runs r events s).session.ready ≡ accepted (heard_of r s.session.ids events)
 given_then_ready r law events s new none =
@@ -140,7 +140,8 @@ run_replies r s h (e ∷ events) tied =
     ∙ append_assoc (without_cuts s.collected) (session.replies r h (calls e)) (session.replies r (session.run r (calls e) h) (calls_of events))
     ∙ ap (λ (replies : List App). without_cuts s.collected ++ replies) (sym (replies-append r (calls e) (calls_of events) h))
 
--- from the session's law, the thread's: what is numbered for the counterparty is what was collected, in order, the mark aside
+-- from the session's law, the thread's: the replies numbered for the counterparty are those collected, in order, the
+-- sentinel aside
 pub numbered_is_collected : (r : Reader) → RepliesInOrder r →
     (events : List Event) (s : ThreadState) → s.session ≡ fresh s.session.ids → s.given ≡ [] → s.collected ≡ [] →
     numbered (runs r events s).session ≡ without_cuts (runs r events s).collected

@@ -1,4 +1,4 @@
--- What a whole run of a session's thread spells.
+-- Frames spelled in a whole run of a session's thread.
 use Rattle.std.proofs.Common.{◌≡◌, ℕ, List, [], ◌++◌, ◌∙◌, ap, sym, subst, None}
 use Rattle.fix_session.specs.Chain.{accepted}
 use Rattle.fix_session.specs.Reader.{Reader}

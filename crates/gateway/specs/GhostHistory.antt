@@ -1,4 +1,4 @@
--- The entries of a past, the first one first.
+-- The entries of a ghost history, the first one first.
 use Rattle.std.specs.Prelude.{List, [], ◌∷◌, ◌++◌}
 use Rattle.gateway.specs.declared.ghost_history.GhostHistory.{GhostHistory}
 use Rattle.gateway.specs.declared.ghost_history.GhostHistory.TheBlock.{Nothing, Then'}

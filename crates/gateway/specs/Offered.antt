@@ -1,4 +1,4 @@
--- What a session queued on each connection, and what of it the line was offered.
+-- The bytes that a session queued on each connection, and those of them that the line was offered.
 use Rattle.std.specs.Prelude.{◌≡◌, ℕ, List, [], ◌∷◌, ◌++◌, drop, length}
 use Rattle.fix_session.specs.Reader.{Reader}
 use Rattle.gateway.specs.declared.line.Accept.TheVariants as accept
@@ -6,7 +6,8 @@ use Rattle.gateway.specs.declared.piece.Given.TheVariants as gave
 use Rattle.outbound_queue.specs.declared.outgoing.Outgoing.TheVariants.{Message, Cut}
 use Rattle.gateway.specs.Thread.{ThreadState, Event, Accepts, Collects, Writes, Breaks_off, Reads, Keeps, Repeats, Steps, Hands, Ticks, moves}
 
--- what was queued on a connection, and what the line was offered: all of it was taken, but for a last part of what it broke off in
+-- the bytes queued on a connection, and those offered to the line: all were taken, but for a last part of the write
+-- that it broke off
 pub record Connection : Type 0 where
   pub queued : List ℕ
   pub offered : List ℕ
@@ -25,7 +26,7 @@ closed c = record { over = c.over ++ c.now ∷ []; now = no_bytes }
 abbrev pub offers : Connections → List ℕ → Connections
 offers c bytes = record c { now = record { queued = c.now.queued; offered = c.now.offered ++ bytes } }
 
--- what stands behind these first bytes was queued
+-- what follows these first bytes was queued
 abbrev pub queues : Connections → List ℕ → List ℕ → Connections
 queues c before after = record c { now = record { queued = c.now.queued ++ drop (length before) after; offered = c.now.offered } }
 
@@ -65,7 +66,8 @@ abbrev pub AllFirstParts : List Connection → Type 0
 AllFirstParts [] = Unit {0}
 AllFirstParts (c ∷ connections) = IsFirstPart c × AllFirstParts connections
 
--- on each connection the line was offered a first part of what was queued there; on the last one, all but what still waits
+-- on each connection the line was offered a first part of what was queued there; on the last one, all but what still
+-- waits
 pub record AreFirstParts (connections : Connections) (wire : List ℕ) : Type 0 where
   pub over : AllFirstParts connections.over
   pub now : connections.now.queued ≡ connections.now.offered ++ wire

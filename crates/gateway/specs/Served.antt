@@ -1,4 +1,4 @@
--- What contracts see of a session with all that its thread has, and what its thread makes of it.
+-- The model of a session with all that its thread has, and the result of its thread.
 use Rattle.std.specs.Prelude.{◌≡◌, ℕ, List, [], ◌∷◌, length, slice_get, Bool, None, Some}
 use Rattle.atomic_table.specs.Seated.{TableId}
 use Rattle.intake_seats.specs.Ends.{IsSameHander}
@@ -10,7 +10,7 @@ use Rattle.gateway.specs.Said.{Said}
 use Rattle.gateway.specs.Thread.{Thread, at_start}
 use Rattle.gateway.specs.Whole.{HasLed}
 
--- the session with its line and its seats, what its gate and its clock answered, and the seat of the mark that it hands as it ends
+-- the session with its line and its seats, what its gate and its clock answered, and the seat of its end token
 pub record Served : Type 0 where
   pub thread : Thread
   pub passed : List Bool
@@ -24,7 +24,7 @@ served session said emitted passed hand take end = record { thread = at_start se
 abbrev pub IsReady : TableId → TableId → TableId → Served → Type 0
 IsReady intake replies ends s = (s.thread.hand.board ≡ intake) × (s.thread.take.board ≡ replies) × (s.end.board ≡ ends) × (s.thread.take.in_hand ≡ None)
 
--- so many turns lead from start to end, nothing is in hand, and the mark was handed, once
+-- `turns` turns lead from start to end, nothing is in hand, and the end token was handed, once
 pub record HasServed (turns : ℕ) (start end : Served) : Type 0 where
   pub led : HasLed turns start.thread end.thread start.passed end.passed start.emitted end.emitted
   pub free : end.thread.take.in_hand ≡ None
@@ -36,6 +36,6 @@ pub record AreServed (turns : ℕ) (starts ends : List Served) : Type 0 where
   pub count : length ends ≡ length starts
   pub each : (k : ℕ) (start end : Served) → slice_get starts k ≡ Some start → slice_get ends k ≡ Some end → HasServed turns start end
 
--- what a thread begins with: so many turns, and what stands before them
+-- the start of a thread: its turns, and the state before them
 abbrev pub begun : ℕ → Served → ℕ × Served
 begun turns start = (turns, start)

@@ -1,4 +1,4 @@
--- A session's thread as a machine over its events, and the events of one turn.
+-- A session's thread as a state machine over its events, and the events of one turn.
 use Rattle.std.specs.Prelude.{ℕ, ◌+◌, ◌%◌, zero, suc, ◌≡◌, ◌≢◌, List, [], ◌∷◌, ◌++◌, length, max, Bool, true, false, if◌then◌else◌, Option, Some, None, MatchOption, not, is_some, ◌&&◌, ◌≤◌, ◌<◌, take}
 use Rattle.fix_dictionary.specs.declared.messages.Item.{Item}
 use Rattle.fix_session.specs.Reader.{Reader}
@@ -21,8 +21,10 @@ use Rattle.gateway.specs.declared.turn.RepushOutcome.{RepushOutcome}
 use Rattle.gateway.specs.declared.turn.RepushOutcome.TheVariants as repeat
 use Rattle.gateway.specs.declared.turn.Reading.{Reading}
 use Rattle.gateway.specs.declared.turn.Reading.TheVariants as reading
-use Rattle.gateway.specs.declared.stepping.StepsEnd.TheVariants as ends
-use Rattle.gateway.specs.Steps.{Settled}
+use Rattle.fix_session.specs.declared.plan.Step.{Step}
+use Rattle.fix_session.specs.declared.plan.Step.TheVariants.{Idle, Did, App, Dropped}
+use Rattle.gateway.specs.Notices.{report_of}
+use Rattle.gateway.specs.Steps.{Settled, HasEnded, is_dropped}
 use Rattle.gateway.specs.declared.turn.Stepped.{Stepped}
 use Rattle.gateway.specs.declared.turn.TickStep.{TickStep}
 use Rattle.gateway.specs.declared.turn.Work.{Work}
@@ -33,15 +35,15 @@ use Rattle.gateway.specs.declared.turn.TickOutcome.{TickOutcome}
 use Rattle.gateway.specs.declared.turn.TickOutcome.TheVariants as ticked
 use Rattle.gateway.specs.Said.{Said, Accepted, Gave, Took, Broke_off}
 
--- what contracts see of a thread
+-- the model of a thread
 pub record Thread : Type 0 where
   pub session : State
-  pub kept : Option (List ℕ)  -- a piece that was refused for memory
+  pub kept : Option (List ℕ)  -- a piece kept after an allocation failure
   pub hand : HandEnd Item
   pub take : TakeEnd Outgoing
   pub said : List Said  -- what the line answered and took
 
--- so many bytes at the front of a buffer are kept, or none
+-- the bytes kept at the front of a buffer, or none
 abbrev pub kept_in : Option ℕ → List ℕ → Option (List ℕ)
 kept_in None buffer = None
 kept_in (Some count) buffer = Some (take count buffer)
@@ -66,7 +68,7 @@ standing a =
 pub data Event : Type 0 where
   -- the line was asked for a connection; one that is up is a Resume, a fault a Break
   Accepts : (answer : Accept) → (t : ℕ) → Event
-  -- a reply is sent, or the mark drops the line, and the seat is empty
+  -- a reply is sent, or the sentinel drops the line, and the seat is empty
   Collects : (owed : Outgoing) → (t : ℕ) → Event
   -- the line takes what is queued
   Writes : Event
@@ -74,12 +76,12 @@ pub data Event : Type 0 where
   Breaks_off : Event
   -- the line was read; its end or a fault is a Break
   Reads : (given : Given) → Event
-  -- the line was read, and the piece is kept, since it was refused for memory
+  -- the line was read, and the piece is kept, since an allocation failed
   Keeps : (piece : List ℕ) → Event
   -- the piece that was kept
   Repeats : (piece : List ℕ) → Event
   Steps : (t : ℕ) → Event
-  -- the first ready message is given
+  -- the first ready message is handed over
   Hands : Event
   Ticks : (t : ℕ) → Event
 
@@ -164,9 +166,38 @@ hand_events handed.Refused = []
 abbrev pub tick_events : ℕ → TickOutcome → List Event
 tick_events t ticked.Refused = []
 tick_events t ticked.Done = Ticks t ∷ []
-tick_events t ticked.Dropped = Ticks t ∷ []
+tick_events t (ticked.Dropped why on) = Ticks t ∷ []
 
--- so many steps
+-- the tick dropped the line
+abbrev pub is_silenced : TickOutcome → Bool
+is_silenced ticked.Refused = false
+is_silenced ticked.Done = false
+is_silenced (ticked.Dropped why on) = true
+
+-- what became of a tick that gave this answer on such a line
+abbrev pub outcome_of : Bool → Step → TickOutcome
+outcome_of on Idle = ticked.Done
+outcome_of on Did = ticked.Done
+outcome_of on (App n) = ticked.Done
+outcome_of on (Dropped why) = ticked.Dropped why on
+
+-- what the state machine makes of a tick here
+abbrev pub tick_in : ℕ → State → TickOutcome
+tick_in t s = outcome_of s.line.logged_on (session.tick s t).1
+
+-- what became of a tick is what the state machine answers here, unless an allocation failed
+abbrev pub AnswersTick : ℕ → State → TickOutcome → Type 0
+AnswersTick t s ticked.Refused = Unit {0}
+AnswersTick t s ticked.Done = tick_in t s ≡ ticked.Done
+AnswersTick t s (ticked.Dropped why on) = tick_in t s ≡ ticked.Dropped why on
+
+-- a session after a tick of this outcome
+abbrev pub after_tick : ℕ → State → TickOutcome → State
+after_tick t s ticked.Refused = s
+after_tick t s ticked.Done = (session.tick s t).0
+after_tick t s (ticked.Dropped why on) = (session.tick s t).0
+
+-- n steps
 abbrev pub steps_at : ℕ → ℕ → List Event
 steps_at zero t = []
 steps_at (suc n) t = Steps t ∷ steps_at n t
@@ -177,7 +208,15 @@ step_events steps t stepped = steps_at steps t ++ write_events stepped.wrote
 abbrev pub beat_events : ℕ → TickStep → List Event
 beat_events t beat = tick_events t beat.ticked ++ write_events beat.wrote
 
--- What else the phases tell
+-- the steps of a turn, and what is written where they end in a drop; how they ended is what the state machine answered,
+-- step by step
+pub record StepsOut (r : Reader) (steps t : ℕ) (stepped : Stepped) (before after : Thread) : Type 0 where
+  pub moved : standing after ≡ runs r (step_events steps t stepped) (standing before)
+  pub settled : Settled r stepped.end (runs r (steps_at steps t) (standing before)).session
+  pub ended : HasEnded r steps t before.session stepped.end
+  pub reported : stepped.after ≡ report_of (runs r (steps_at steps t) (standing before)).session
+
+-- Further facts of the phases
 
 -- the last look at the reply seat found it full, exactly where something was collected or refused
 abbrev pub Found : CollectOutcome → ℕ → Type 0
@@ -195,7 +234,7 @@ abbrev pub IsFree : RepushOutcome → Option (List ℕ) → Type 0
 IsFree repeat.Refused kept = Unit {0}
 IsFree pushed kept = kept ≡ None
 
--- a message that is ready is a look at the intake seat
+-- a ready message means a look at the intake seat
 abbrev pub looks_of : HandOutcome → ℕ
 looks_of handed.Nothing = 0
 looks_of handed = 1
@@ -223,6 +262,10 @@ is_unhindered wrote repeat = true
 abbrev pub before_read : Work → List Event
 before_read work = write_events work.wrote ++ repeat_events work.repeat
 
+-- the same up to the first step
+abbrev pub before_steps : Work → List Event
+before_steps work = before_read work ++ reading_events work.reading
+
 -- the same up to the end of the steps
 abbrev pub before_hand : ℕ → ℕ → Work → List Event
 before_hand steps t work = before_read work ++ (reading_events work.reading ++ step_events steps t work.stepped)
@@ -230,7 +273,7 @@ before_hand steps t work = before_read work ++ (reading_events work.reading ++ s
 abbrev pub work_events : ℕ → ℕ → Work → List Event
 work_events steps t work = before_hand steps t work ++ (hand_events work.handed ++ beat_events t work.beat)
 
--- what a turn did from its first write on
+-- the work of a turn, from its first write on
 pub record Works (r : Reader) (t : ℕ) (may_read : Bool) (steps : ℕ) (work : Work) (before after : Thread) : Type 0 where
   -- the thread moved by these events alone
   pub moved : standing after ≡ runs r (work_events steps t work) (standing before)
@@ -238,19 +281,26 @@ pub record Works (r : Reader) (t : ℕ) (may_read : Bool) (steps : ℕ) (work : 
   pub asked : is_some work.reading ≡ (may_read && is_unhindered work.wrote work.repeat)
   -- a piece that was kept was pushed again or refused again, and no other was
   pub kept : WasKept work.repeat (runs r (write_events work.wrote) (standing before)).kept
-  -- it was spared only where so many messages were ready
+  -- the read was left out only where `MAX_READY` messages were ready
   pub plenty : work.reading ≡ Some reading.Plenty → 1024 ≤ length (runs r (before_read work) (standing before)).session.ready
   -- it was read only where there were fewer
   pub few : is_read work.reading ≡ true → length (runs r (before_read work) (standing before)).session.ready < 1024
   -- all that was queued before the reading was offered to the line
   pub out : (runs r (before_read work) (standing before)).session.wire ≡ []
-  -- the steps ended where no frame was unread or the line was down, or memory was refused
+  -- the steps ended where no frame was unread or the line was down, or an allocation failed
   pub settled : Settled r work.stepped.end (runs r (before_read work ++ (reading_events work.reading ++ steps_at steps t)) (standing before)).session
   -- no message was tried only where none was ready
   pub idle : work.handed ≡ handed.Nothing → (runs r (before_hand steps t work) (standing before)).session.ready ≡ []
   -- after a drop all that was queued was offered at once
-  pub stepped_out : work.stepped.end ≡ ends.Dropped → (runs r (before_hand steps t work) (standing before)).session.wire ≡ []
-  pub ticked_out : work.beat.ticked ≡ ticked.Dropped → after.session.wire ≡ []
+  pub stepped_out : is_dropped work.stepped.end ≡ true → (runs r (before_hand steps t work) (standing before)).session.wire ≡ []
+  -- how the steps ended is what the state machine answered there, step by step: a drop with its cause
+  pub ended : HasEnded r steps t (runs r (before_steps work) (standing before)).session work.stepped.end
+  -- the session is reported as it was before the steps and after them
+  pub reported_before : work.stepped.before ≡ report_of (runs r (before_steps work) (standing before)).session
+  pub reported_after : work.stepped.after ≡ report_of (runs r (before_steps work ++ steps_at steps t) (standing before)).session
+  -- and what became of the tick is what the state machine answered there
+  pub ticks : AnswersTick t (runs r (before_hand steps t work ++ hand_events work.handed) (standing before)).session work.beat.ticked
+  pub ticked_out : is_silenced work.beat.ticked ≡ true → after.session.wire ≡ []
 
 abbrev pub collected_events : ℕ → Option CollectOutcome → List Event
 collected_events t None = []
@@ -264,7 +314,7 @@ worked_events steps t (Some work) = work_events steps t work
 abbrev pub before_work : Turn → List Event
 before_work turn = accept_events turn.moment turn.accepted ++ collected_events turn.moment turn.collected
 
--- a turn, and how many steps it made
+-- a turn, and the count of its steps
 pub record TurnRecord : Type 0 where
   pub turn : Turn
   pub steps : ℕ
@@ -277,18 +327,18 @@ abbrev pub is_over : Option Accept → Bool
 is_over (Some accept.Over) = true
 is_over answer = false
 
--- the mark was collected
+-- the sentinel was collected
 abbrev pub is_cut_token : CollectOutcome → Bool
 is_cut_token collect.Cut = true
 is_cut_token collected = false
 
--- a turn leaves its work out where the mark was collected, and nowhere else
+-- a turn leaves its work out where the sentinel was collected, and nowhere else
 abbrev pub LeavesWork : Bool → Option Work → Type 0
 LeavesWork true None = Unit {0}
 LeavesWork false (Some work) = Unit {0}
 LeavesWork turn_record work = ⊥
 
--- what a turn leaves out: all where the line is over, the work where the mark was collected, and else nothing
+-- what a turn leaves out: all where the line is over, the work where the sentinel was collected, and else nothing
 abbrev pub EndsBy : Bool → Option CollectOutcome → Option Work → Type 0
 EndsBy true None None = Unit {0}
 EndsBy false (Some collected) work = LeavesWork (is_cut_token collected) work
@@ -307,13 +357,13 @@ abbrev pub tries : Option Work → ℕ
 tries None = 0
 tries (Some work) = looks_of work.handed
 
--- what the work of a turn did, if there was any
+-- the work of a turn, if there was any
 abbrev pub WorksIf : Reader → TurnRecord → Thread → Thread → Option Work → Type 0
 WorksIf r turn_record middle after None = after ≡ middle
 WorksIf r turn_record middle after (Some work) =
     Works r turn_record.turn.moment (turn_record.turn.passed && not (is_some turn_record.turn.accepted)) turn_record.steps work middle after
 
--- what one turn did
+-- one turn
 pub record IsTurn (r : Reader) (turn_record : TurnRecord) (before after : Thread) : Type 0 where
   pub ends_by : EndsBy (is_over turn_record.turn.accepted) turn_record.turn.collected turn_record.turn.work
   -- the line was asked for a connection where there was none, and nowhere else
@@ -321,9 +371,10 @@ pub record IsTurn (r : Reader) (turn_record : TurnRecord) (before after : Thread
   -- up to the first write, the thread moved by the turn's events alone
   pub middle : Thread
   pub moved : standing middle ≡ runs r (before_work turn_record.turn) (standing before)
-  -- and so it did from there on
+  -- and by the work's events alone from there on
   pub worked : WorksIf r turn_record middle after turn_record.turn.work
-  -- the ends of the seats are the same; a look at the reply seat was made, and one at the intake seat where a message was ready
+  -- the ends of the seats are the same; a look at the reply seat was made, and one at the intake seat where a message
+  -- was ready
   pub take : IsSameTaker before.take after.take
   pub hand : IsSameHander before.hand after.hand
   pub take_looked : before.take.looks + one_if (is_some turn_record.turn.collected) ≤ after.take.looks
@@ -333,7 +384,7 @@ pub record IsTurn (r : Reader) (turn_record : TurnRecord) (before after : Thread
 
 -- Turns one after another
 
--- what the last look at the reply seat in these turns led to, or else this
+-- the outcome of the last look at the reply seat in these turns, or else this
 abbrev pub or_else : Option CollectOutcome → Option CollectOutcome → Option CollectOutcome
 or_else None found = found
 or_else (Some collected) found = Some collected
@@ -350,7 +401,7 @@ abbrev pub events_of : List TurnRecord → List Event
 events_of [] = []
 events_of (turn_record ∷ turn_records) = turn_events turn_record ++ events_of turn_records
 
--- so many turns, fewer only after one that leaves out its work
+-- `turns` turns, fewer only after one that leaves out its work
 abbrev pub IsCount : ℕ → List TurnRecord → Type 0
 IsCount zero [] = Unit {0}
 IsCount zero (turn_record ∷ turn_records) = ⊥
@@ -375,7 +426,7 @@ abbrev pub tried : List TurnRecord → ℕ
 tried [] = 0
 tried (turn_record ∷ turn_records) = tries turn_record.turn.work + tried turn_records
 
--- the whole of a session's thread: so many turns lead from what stood before to what stands after
+-- the whole of a session's thread: these turns lead from the state before to the state after
 pub record Loops (r : Reader) (turns : ℕ) (turn_records : List TurnRecord) (before after : Thread) : Type 0 where
   pub follow : Follow r turn_records before after
   pub count : IsCount turns turn_records
@@ -384,5 +435,5 @@ pub record Loops (r : Reader) (turns : ℕ) (turn_records : List TurnRecord) (be
   pub hand : IsSameHander before.hand after.hand
   pub take_looked : before.take.looks + looked turn_records ≤ after.take.looks
   pub hand_looked : before.hand.looks + tried turn_records ≤ after.hand.looks
-  -- where these turns looked at the reply seat, the last look found it full, exactly where it led to something
+  -- where these turns looked at the reply seat, the last look found it full, exactly where it had an outcome
   pub found : LookedAt (last_look None turn_records) after.take.last

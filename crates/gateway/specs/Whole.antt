@@ -1,4 +1,4 @@
--- What a whole run of a session's thread is.
+-- The whole run of a session's thread.
 use Rattle.std.specs.Prelude.{ℕ, ◌≡◌, List, [], ◌++◌, Bool, Option}
 use Rattle.fix_session.specs.Reader.{Reader}
 use Rattle.fix_session.specs.Chain.{accepted}
@@ -16,18 +16,19 @@ pub record IsNew (start : Thread) : Type 0 where
   pub given : start.hand.given ≡ []
   pub collected : start.take.taken ≡ []
 
--- what stands after these turns of a new session: what was given and then what is ready is what its heard frames spell,
--- and what is numbered for its counterparty is what was collected, the mark aside
+-- the state after these turns of a new session: the messages given, then those ready, are what its heard frames spell,
+-- and the replies numbered for its counterparty are those collected, the sentinel aside
 pub record Spells (r : Reader) (start : Thread) (turn_records : List TurnRecord) (end : Thread) : Type 0 where
   pub accepted : end.hand.given ++ end.session.ready ≡ accepted (heard_of r start.session.ids (events_of turn_records))
   pub numbered : numbered end.session ≡ without_cuts end.take.taken
 
--- so many turns lead from start to end, but for the piece that was kept last; the gate and the clock answered once in each
+-- `turns` turns lead from start to end, but for the piece that was kept last; the gate and the clock answered once in
+-- each
 pub record HasLed (turns : ℕ) (start end : Thread) (passed passed' : List Bool) (emitted emitted' : List ℕ) : Type 0 where
   pub turn_records : List TurnRecord
   pub kept : Option (List ℕ)
   pub loops : (r : Reader) → Loops r turns turn_records start (record end { kept = kept })
-  -- where the line told no fault, it took all that it was offered
+  -- where the line reported no fault, it took all that it was offered
   pub took : faults_in end.said ≡ faults_in start.said → TookAll (events_of turn_records)
   -- on each connection the line was offered a first part of what was queued there
   pub offered : (r : Reader) → start.session.wire ≡ [] → AreFirstParts (connections r (events_of turn_records) (standing start)) end.session.wire

@@ -1,4 +1,4 @@
-//! The end: what the sessions leave, and both boards closed over it.
+//! The closing of a venue: what the sessions leave, and both boards.
 ghost use Rattle.std.specs.Prelude.{◌≡◌, ℕ, Bool, List, [], map, length, slice_get, Option, Some, IfOk, IfSome};
 ghost use Rattle.std.specs.Option.{option_to_list};
 ghost use Rattle.fix_dictionary.specs.declared.messages.App.{App};
@@ -18,7 +18,7 @@ use std::alloc::{AllocError, Global};
 use venue_core::Venue;
 use venue_worker::{Outgoing, Parts, Queue};
 
-/// A venue that is closed: its sessions and lines, what is left in the seats, the queues, the venue and the keeper of its rows.
+/// A closed venue: its sessions and lines, what is left in the seats, the queues, the venue and the keeper of its rows.
 #[derive(Drop)]
 pub struct Closed<L, K: Drop> {
     pub sessions: Vec<Session>,
@@ -70,8 +70,8 @@ fn take_apart<L: Drop>(alloc: Global, ended: Vec<Ended<L>>) -> Result<Apart<L>, 
     })
 }
 
-/// Closes a venue whose threads have ended: the ends of both boards are united, and what is in their seats is taken out.
-/// `AllocError`: there was no memory for a list, and all is given up.
+/// Closes a venue whose threads have ended: the ends of both boards are united, and what is in their seats is taken
+/// out. `AllocError`: an allocation for a list failed, and all is dropped.
 pub fn close_venue<L: Line + Drop, K: Drop>(
     alloc: Global,
     parts: Parts<K>,

@@ -1,11 +1,11 @@
-//! What happened so far, for contracts alone: only the last of it is kept.
+//! History for contracts alone: only its last entry is stored.
 ghost use Rattle.std.specs.Prelude.{◌≡◌, [], ◌∷◌, ◌++◌};
 ghost use Rattle.gateway.specs.GhostHistory.{entries};
 
 use std::mem;
 use std::snapshot::Snapshot;
 
-/// A list that contracts see whole, and of which the last entry alone takes room.
+/// A list that contracts see whole, and of which the last entry alone takes memory.
 #[derive(Drop)]
 pub enum GhostHistory<T> {
     Nothing,

@@ -11,10 +11,11 @@ use crate::turn::SessionThread;
 use fix_dictionary::Item;
 use fix_session::{Session, laws};
 use intake_seats::{Board, HandSeat, TakeSeat};
+use sef_moment::Moment;
 use std::sync::Wait;
 use venue_worker::{Clock, Outgoing};
 
-// Makes so many turns, or fewer where the line is over or the mark was collected.
+// Makes `turns` turns, or fewer where the line is over or the sentinel was collected.
 fn run_turns<R: Wait, L: Line, C: Clock, G: Gate>(
     rt: &R,
     thread: &mut SessionThread<L>,
@@ -23,21 +24,24 @@ fn run_turns<R: Wait, L: Line, C: Clock, G: Gate>(
     intake: &Board<Item>,
     replies: &Board<Outgoing>,
     turns: u64,
-)
+) -> Moment
     requires intake { thread.old.hand.board ≡ intake.now }
     requires replies { thread.old.take.board ≡ replies.now }
     ensures loops { (turn_records : List TurnRecord) × ((r : Reader) → Loops r turns turn_records thread.old thread.new) × (G.passed gate.new ≡ G.passed gate.old ++ gates turn_records) × (C.answered clock.new ≡ C.answered clock.old ++ moments turn_records) }
 {
+    let mut at = Moment::of_ms(0).unwrap();
     for number in 0..turns {
         let turn = thread.turn(rt, clock, gate, intake, replies, number);
+        at = turn.moment;
         match turn.work {
-            None => return,
+            None => return at,
             Some(_) => {}
         }
     }
+    at
 }
 
-// Hands the mark of a session that ends: where none was handed at its seat, it is, once.
+// Hands the end token of a session, once: only where none was handed at its seat.
 fn hand_end_token<G: Gate>(end: &mut HandSeat<()>, ends: &Board<()>, gate: &mut G)
     requires own { end.old.board ≡ ends.now }
     ensures seat { IsSameHander end.old end.new }
@@ -58,8 +62,8 @@ pub struct Ended<L> {
     pub take: TakeSeat<Outgoing>,
 }
 
-/// A session between its line and its seats, for so many turns; it may wait where the line, the gate or the clock does. As it
-/// ends it hands a mark, once.
+/// Runs a session between its line and its seats, for `turns` turns; it may wait where the line, the gate or the clock
+/// does. As it ends it hands an end token, once, and ends its line.
 pub fn session_loop<R: Wait, L: Line, C: Clock, G: Gate>(
     rt: &R,
     session: Session,
@@ -87,7 +91,8 @@ pub fn session_loop<R: Wait, L: Line, C: Clock, G: Gate>(
     laws::replies_in_order();
     laws::one_reader();
     let mut thread = SessionThread::new(session, line, hand, take);
-    run_turns(rt, &mut thread, clock, gate, intake, replies, turns);
+    let at = run_turns(rt, &mut thread, clock, gate, intake, replies, turns);
     hand_end_token(end, ends, gate);
+    thread.leave(gate, at);
     thread.into_parts()
 }

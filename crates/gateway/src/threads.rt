@@ -1,4 +1,4 @@
-//! Each session in a thread of its own, whose join hands on what the loop ensures.
+//! Sessions in threads of their own, whose joins hand on what the loop ensures.
 ghost use Rattle.std.specs.Prelude.{◌≡◌, ℕ, All, length, map, slice_get, Some, IfOk, IfSome};
 ghost use Rattle.gateway.specs.Served.{AreServed, HasServed, IsReady, begun};
 
@@ -15,7 +15,7 @@ use std::thread;
 use std::thread::{Promise, PromisedHandle, Scope, Threads};
 use venue_worker::{Clock, Outgoing};
 
-/// What the thread of a session begins with: all that `session_loop` takes but the boards.
+/// The start of a session's thread: all that `session_loop` takes but the boards.
 #[derive(Drop)]
 pub struct Start<L: Line, C: Clock, G: Gate> {
     pub session: Session,
@@ -24,7 +24,7 @@ pub struct Start<L: Line, C: Clock, G: Gate> {
     pub gate: G,
     pub hand: HandSeat<Item>,
     pub take: TakeSeat<Outgoing>,
-    /// The seat of the mark that it hands as it ends.
+    /// The seat of its end token.
     pub end: HandSeat<()>,
 }
 
@@ -36,7 +36,7 @@ impl<L: Line, C: Clock, G: Gate> Model for Start<L, C, G> {
     ghost view = { λ s. served s.session (L.said s.line) (C.answered s.clock) (G.passed s.gate) s.hand s.take s.end };
 }
 
-/// What the thread of a session gives back: all that it began with.
+/// What a session's thread gives back: all that it began with.
 #[derive(Drop)]
 pub struct Finish<L: Line, C: Clock, G: Gate> {
     pub ended: Ended<L>,
@@ -53,7 +53,7 @@ impl<L: Line, C: Clock, G: Gate> Model for Finish<L, C, G> {
     ghost view = { λ f. served f.ended.session (L.said f.ended.line) (C.answered f.clock) (G.passed f.gate) f.ended.hand f.ended.take f.end };
 }
 
-/// The promise that so many turns lead from a start to what the thread gives back.
+/// The promise that `turns` turns lead from a start to what the thread gives back.
 #[derive(Drop)]
 pub struct SessionPromise<L: Line, C: Clock, G: Gate> {
     turns: u64,
@@ -72,7 +72,7 @@ pub type SessionHandle<L, C, G> = PromisedHandle<Finish<L, C, G>, SessionPromise
 /// Why a venue does not run, or does not end well.
 #[derive(Clone, Copy, Debug, PartialEq, Eq)]
 pub enum RunFault {
-    /// 1: there was no memory.
+    /// 1: an allocation failed.
     NoMemory,
     /// 2: no thread could be made.
     NoThread,
@@ -80,7 +80,7 @@ pub enum RunFault {
     TrailRefused,
 }
 
-// All that a session's thread does.
+// The whole of a session's thread.
 fn serve_session<R: Wait, L: Line + Drop, C: Clock + Drop, G: Gate + Drop>(
     rt: &R,
     start: Start<L, C, G>,
@@ -144,7 +144,7 @@ pub fn start_session<
         .ok()
 }
 
-/// Starts the threads of all sessions, in their order. Where one can't be started, the scope joins those that were.
+/// Starts the threads of all sessions, in order. Where one can't be started, the scope joins those that were.
 pub fn start_all<
     's,
     E,
@@ -182,8 +182,8 @@ pub fn start_all<
     Ok(handles)
 }
 
-/// Joins the threads of all sessions, in their order, each join handing on what the session's turns led to. Where there is no
-/// memory for the list the handles come back.
+/// Joins the threads of all sessions, in order; each join hands on what the session's turns led to. Where memory for
+/// the list runs out, the handles come back.
 pub fn join_all<R: Threads, L: Line + Drop, C: Clock + Drop, G: Gate + Drop>(
     rt: &R,
     handles: Vec<SessionHandle<L, C, G>>,
@@ -197,7 +197,7 @@ pub fn join_all<R: Threads, L: Line + Drop, C: Clock + Drop, G: Gate + Drop>(
     }
 }
 
-/// Runs the threads of all sessions, does this work beside them, and joins them in their order.
+/// Runs the threads of all sessions and this work in parallel, then joins them in order.
 pub fn run_in_parallel<
     'e,
     R: Threads + Wait + Sync,

@@ -3,16 +3,20 @@ ghost use Rattle.std.specs.Prelude.{◌≡◌, ℕ, ◌<◌, ◌≤◌, ◌+◌,
 ghost use Rattle.fix_session.specs.Machine.{pushed};
 ghost use Rattle.fix_session.specs.Reader.{Reader};
 ghost use Rattle.intake_seats.specs.Ends.{IsSameHander, IsSameTaker};
-ghost use Rattle.gateway.specs.Steps.{Settled};
+ghost use Rattle.gateway.specs.Notices.{report_of};
+ghost use Rattle.gateway.specs.Steps as steps;
+ghost use Rattle.gateway.specs.Steps.{HasEnded, Settled};
 ghost use Rattle.gateway.specs.Thread as thread;
 ghost use Rattle.gateway.specs.Thread.{standing, runs};
 
 use crate::line::{Accept, Gate, Line, LineFault, Read};
 use crate::looping::Ended;
+use crate::notice::SessionReport;
 use crate::piece::{Given, Piece, READ_SIZE};
+use crate::reporting::{of_end, report};
 use crate::stepping::{StepsEnd, step_to_the_end};
 use fix_dictionary::{BoxedApp, Item};
-use fix_session::{Session, Step, laws};
+use fix_session::{Session, Step, Why, laws};
 use intake_seats::{Board, HandSeat, TakeSeat};
 use sef_moment::Moment;
 use std::marker::Model;
@@ -20,20 +24,20 @@ use std::snapshot::Snapshot;
 use std::sync::Wait;
 use venue_worker::{Clock, Outgoing};
 
-/// What a look at the reply seat led to.
+/// The outcome of a look at the reply seat.
 #[derive(Drop)]
 pub enum CollectOutcome {
     /// The seat was not full.
     Nothing,
-    /// A reply was sent; which one, contracts alone see.
+    /// A reply was sent; contracts alone see which.
     Sent { app: Snapshot<BoxedApp> },
-    /// The mark dropped the line.
+    /// The sentinel dropped the line.
     Cut,
     /// The send was refused, and the reply is in its seat.
     Refused,
 }
 
-/// What became of the queued bytes.
+/// The outcome for the queued bytes.
 #[derive(Clone, Copy)]
 pub enum WriteOutcome {
     /// There were none.
@@ -42,7 +46,7 @@ pub enum WriteOutcome {
     Fault,
 }
 
-/// What became of a piece that was kept.
+/// The outcome for a piece that was kept.
 #[derive(Drop)]
 pub enum RepushOutcome {
     Nothing,
@@ -50,24 +54,26 @@ pub enum RepushOutcome {
     Refused,
 }
 
-/// What reading led to.
+/// The outcome of reading.
 #[derive(Drop)]
 pub enum Reading {
-    /// The line was not read, since so many messages are ready.
+    /// The line was not read, since `MAX_READY` messages are ready.
     Plenty,
     Answered { given: Given },
-    /// The piece was refused for memory.
+    /// The piece was kept, since an allocation failed.
     Kept { piece: Piece },
 }
 
-/// The steps of a turn, and what became of the queued bytes where they ended in a drop.
+/// The steps of a turn, and the outcome for the queued bytes where they ended in a drop.
 #[derive(Clone, Copy)]
 pub struct Stepped {
+    pub before: SessionReport,
     pub end: StepsEnd,
+    pub after: SessionReport,
     pub wrote: WriteOutcome,
 }
 
-/// What became of the first ready message.
+/// The outcome for the first ready message.
 #[derive(Clone, Copy)]
 pub enum HandOutcome {
     /// There was none.
@@ -77,23 +83,23 @@ pub enum HandOutcome {
     Refused,
 }
 
-/// What became of a tick.
+/// The outcome of a tick.
 #[derive(Clone, Copy)]
 pub enum TickOutcome {
     Done,
-    Dropped,
-    /// Refused for memory.
+    Dropped { why: Why, was_logged_on: bool },
+    /// An allocation failed.
     Refused,
 }
 
-/// The tick of a turn, and what became of the queued bytes where it dropped the line.
+/// The tick of a turn, and the outcome for the queued bytes where it dropped the line.
 #[derive(Clone, Copy)]
 pub struct TickStep {
     pub ticked: TickOutcome,
     pub wrote: WriteOutcome,
 }
 
-/// What a turn did with the gate open or shut, from the first write on.
+/// The work of a turn with the gate open or shut, from the first write on.
 #[derive(Drop)]
 pub struct Work {
     pub wrote: WriteOutcome,
@@ -105,7 +111,7 @@ pub struct Work {
     pub beat: TickStep,
 }
 
-/// What was done in one turn.
+/// One turn, as it happened.
 #[derive(Drop)]
 pub struct Turn {
     /// The gate's answer.
@@ -116,18 +122,18 @@ pub struct Turn {
     pub accepted: Option<Accept>,
     /// None where the line is over.
     pub collected: Option<CollectOutcome>,
-    /// None where the line is over, or the mark was collected.
+    /// None where the line is over, or the sentinel was collected.
     pub work: Option<Work>,
 }
 
-/// A session reads no more while so many messages are ready.
+/// A session with this many ready messages reads no more.
 pub const MAX_READY: usize = 1024;
 
 /// A session between its line and its two seats.
 pub struct SessionThread<L: Line> {
     pub(crate) session: Session,
     pub(crate) buffer: [u8; READ_SIZE],
-    /// So many bytes at the front of the buffer came and were refused for memory.
+    /// The count of bytes at the front of the buffer that came and await another try, after an allocation failure.
     pub(crate) kept: Option<usize>,
     pub(crate) line: L,
     pub(crate) hand: HandSeat<Item>,
@@ -163,6 +169,15 @@ impl<L: Line> SessionThread<L> {
             hand,
             take,
         }
+    }
+
+    // Ends the line, and notifies the gate of it.
+    pub(crate) fn leave<G: Gate>(&mut self, gate: &mut G, at: Moment)
+        ensures same { self.new ≡ self.old }
+        ensures gate { G.passed gate.new ≡ G.passed gate.old }
+    {
+        self.line.leave();
+        gate.notify(of_end(&self.report()), at);
     }
 
     pub(crate) fn into_parts(self) -> Ended<L>
@@ -214,7 +229,7 @@ impl<L: Line> SessionThread<L> {
         self.session.break_line();
     }
 
-    // Sends the reply that is in the seat, or drops the line where it is the mark.
+    // Sends the reply in the seat, or drops the line where it is the sentinel.
     fn collect(&mut self, replies: &Board<Outgoing>, t: Moment) -> CollectOutcome
         requires board { self.old.take.board ≡ replies.now }
         ensures moves { (r : Reader) → standing self.new ≡ runs r (thread.collect_events t result) (standing self.old) }
@@ -242,7 +257,7 @@ impl<L: Line> SessionThread<L> {
         }
     }
 
-    // Hands what is queued to the line.
+    // Writes what is queued to the line.
     fn write_out<R: Wait>(&mut self, rt: &R) -> WriteOutcome
         ensures moves { (r : Reader) → standing self.new ≡ runs r (thread.write_events result) (standing self.old) }
         ensures seats { (self.new.hand ≡ self.old.hand) × (self.new.take ≡ self.old.take) }
@@ -326,7 +341,7 @@ impl<L: Line> SessionThread<L> {
         }
     }
 
-    // Gives the first ready message to the venue.
+    // Hands the first ready message to the venue.
     fn hand_on(&mut self, intake: &Board<Item>) -> HandOutcome
         requires board { self.old.hand.board ≡ intake.now }
         ensures moves { (r : Reader) → standing self.new ≡ runs r (thread.hand_events result) (standing self.old) }
@@ -350,17 +365,34 @@ impl<L: Line> SessionThread<L> {
     fn tick(&mut self, t: Moment) -> TickOutcome
         ensures moves { (r : Reader) → standing self.new ≡ runs r (thread.tick_events t result) (standing self.old) }
         ensures seats { (self.new.hand ≡ self.old.hand) × (self.new.take ≡ self.old.take) }
+        ensures answer { thread.AnswersTick t self.old.session result }
     {
-        match self.session.tick(t) {
-            Err(_) => TickOutcome::Refused,
-            Ok(Step::Dropped(_)) => TickOutcome::Dropped,
-            Ok(_) => TickOutcome::Done,
+        tick_session(&mut self.session, t)
+    }
+
+    // The parts of the session that notices report.
+    fn report(&self) -> SessionReport
+        ensures { result ≡ report_of self.now.session }
+    {
+        SessionReport::of(&self.session)
+    }
+
+    // Hands what is queued to the line, where this is needed.
+    fn write_if<R: Wait>(&mut self, rt: &R, is_needed: bool) -> WriteOutcome
+        ensures moves { (r : Reader) → standing self.new ≡ runs r (thread.write_events result) (standing self.old) }
+        ensures seats { (self.new.hand ≡ self.old.hand) × (self.new.take ≡ self.old.take) }
+        ensures out { is_needed ≡ true → self.new.session.wire ≡ [] }
+    {
+        if is_needed {
+            self.write_out(rt)
+        } else {
+            WriteOutcome::Nothing
         }
     }
 
-    // Steps until nothing is unread, the line drops or memory is refused.
+    // Steps until nothing is unread, the line drops or an allocation fails.
     fn step_all(&mut self, t: Moment) -> StepsEnd
-        ensures moves { (steps : ℕ) × ((r : Reader) → standing self.new ≡ runs r (thread.steps_at steps t) (standing self.old)) }
+        ensures moves { (steps : ℕ) × ((r : Reader) → (standing self.new ≡ runs r (thread.steps_at steps t) (standing self.old)) × HasEnded r steps t self.old.session result) }
         ensures seats { (self.new.hand ≡ self.old.hand) × (self.new.take ≡ self.old.take) }
         ensures settled { (r : Reader) → Settled r result self.new.session }
     {
@@ -369,29 +401,33 @@ impl<L: Line> SessionThread<L> {
 
     // Steps; where the line drops, what is queued is written at once.
     fn step_out<R: Wait>(&mut self, rt: &R, t: Moment) -> Stepped
-        ensures moves { (steps : ℕ) × ((r : Reader) → (standing self.new ≡ runs r (thread.step_events steps t result) (standing self.old)) × Settled r result.end (runs r (thread.steps_at steps t) (standing self.old)).session) }
+        ensures moves { (steps : ℕ) × ((r : Reader) → thread.StepsOut r steps t result self.old self.new) }
+        ensures before { result.before ≡ report_of self.old.session }
         ensures seats { (self.new.hand ≡ self.old.hand) × (self.new.take ≡ self.old.take) }
-        ensures out { result.end ≡ StepsEnd.Dropped → self.new.session.wire ≡ [] }
+        ensures out { steps.is_dropped result.end ≡ true → self.new.session.wire ≡ [] }
     {
+        let before = self.report();
         let end = self.step_all(t);
-        let wrote = match end {
-            StepsEnd::Dropped => self.write_out(rt),
-            StepsEnd::Idle | StepsEnd::Refused => WriteOutcome::Nothing,
-        };
-        Stepped { end, wrote }
+        let after = self.report();
+        let is_over = is_dropped(&end);
+        let wrote = self.write_if(rt, is_over);
+        Stepped {
+            before,
+            end,
+            after,
+            wrote,
+        }
     }
 
     // Ticks; where the line drops, what is queued is written at once.
     fn beat<R: Wait>(&mut self, rt: &R, t: Moment) -> TickStep
         ensures moves { (r : Reader) → standing self.new ≡ runs r (thread.beat_events t result) (standing self.old) }
         ensures seats { (self.new.hand ≡ self.old.hand) × (self.new.take ≡ self.old.take) }
-        ensures out { result.ticked ≡ TickOutcome.Dropped → self.new.session.wire ≡ [] }
+        ensures answer { thread.AnswersTick t self.old.session result.ticked }
+        ensures out { thread.is_silenced result.ticked ≡ true → self.new.session.wire ≡ [] }
     {
         let ticked = self.tick(t);
-        let wrote = match ticked {
-            TickOutcome::Dropped => self.write_out(rt),
-            TickOutcome::Done | TickOutcome::Refused => WriteOutcome::Nothing,
-        };
+        let wrote = self.write_if(rt, is_silenced(ticked));
         TickStep { ticked, wrote }
     }
 
@@ -503,11 +539,56 @@ impl<L: Line> SessionThread<L> {
         if has_progressed(&turn) {
             gate.progressed();
         }
+        report(gate, &turn);
         turn
     }
 }
 
-// A seat was emptied or filled.
+// Ticks a session.
+fn tick_session(session: &mut Session, t: Moment) -> TickOutcome
+    ensures moves { session.new.state ≡ thread.after_tick t session.old.state result }
+    ensures answer { thread.AnswersTick t session.old.state result }
+{
+    let line = session.line_state();
+    match session.tick(t) {
+        Err(_) => TickOutcome::Refused,
+        Ok(answer) => outcome_of(line.logged_on, answer),
+    }
+}
+
+// The outcome of a tick that gave this answer on such a line.
+fn outcome_of(was_logged_on: bool, answer: Step) -> TickOutcome
+    ensures { result ≡ thread.outcome_of was_logged_on answer }
+{
+    match answer {
+        Step::Dropped(why) => TickOutcome::Dropped { why, was_logged_on },
+        Step::Idle => TickOutcome::Done,
+        Step::Did => TickOutcome::Done,
+        Step::App(_) => TickOutcome::Done,
+    }
+}
+
+fn is_dropped(end: &StepsEnd) -> bool
+    ensures { result ≡ steps.is_dropped end.now }
+{
+    match end {
+        StepsEnd::Dropped { .. } => true,
+        StepsEnd::Idle => false,
+        StepsEnd::Refused => false,
+    }
+}
+
+fn is_silenced(ticked: TickOutcome) -> bool
+    ensures { result ≡ thread.is_silenced ticked }
+{
+    match ticked {
+        TickOutcome::Dropped { .. } => true,
+        TickOutcome::Done => false,
+        TickOutcome::Refused => false,
+    }
+}
+
+// Whether a seat was emptied or filled.
 fn has_progressed(turn: &Turn) -> bool {
     let collected = matches!(
         turn.collected,
@@ -520,7 +601,7 @@ fn has_progressed(turn: &Turn) -> bool {
     collected || given
 }
 
-// Has a session hear the first so many bytes of a buffer; none where memory was refused.
+// Pushes the first `count` bytes of a buffer into a session; none where an allocation failed.
 fn push(session: &mut Session, buffer: &[u8; READ_SIZE], count: usize) -> Option<Piece>
     requires within { count ≤ 4096 }
     ensures pushed { (r : Reader) → IfSome result (λ _. session.new.state ≡ pushed r session.old.state (take count buffer.now)) }
@@ -533,28 +614,28 @@ fn push(session: &mut Session, buffer: &[u8; READ_SIZE], count: usize) -> Option
     }
 }
 
-// A line that was asked for a connection is not read in that turn.
+// Whether a turn may read: not where the line was asked for a connection in it.
 fn may_read(passed: bool, accepted: Option<Accept>) -> bool
     ensures { result ≡ (passed && not (is_some accepted)) }
 {
     passed && accepted.is_none()
 }
 
-// There will be no more connections.
+// Whether there will be no more connections.
 fn is_over(accepted: Option<Accept>) -> bool
     ensures { result ≡ thread.is_over accepted }
 {
     matches!(accepted, Some(Accept::Over))
 }
 
-// The mark was collected.
+// Whether the sentinel was collected.
 fn is_cut_token(collected: &CollectOutcome) -> bool
     ensures { result ≡ thread.is_cut_token collected.now }
 {
     matches!(collected, CollectOutcome::Cut)
 }
 
-// The line may be read, and neither had a write failed nor was a kept piece refused again.
+// Whether the line may be read, neither a write failed nor was a kept piece refused again.
 fn is_to_be_read(may_read: bool, wrote: WriteOutcome, repeat: &RepushOutcome) -> bool
     ensures { result ≡ (may_read && thread.is_unhindered wrote repeat.now) }
 {

@@ -1,4 +1,4 @@
--- What stands once a venue ran and was closed.
+-- The state of a venue that ran and was closed.
 use Rattle.std.proofs.Common.{◌≡◌, ℕ, ◌+◌, ◌<◌, List, [], ◌∷◌, ◌++◌, map, length, Bool, true, false, refl, ap, sym, ◌∙◌, subst, arith}
 use Rattle.std.specs.Prelude.{Option, Some, None, Ok, Err, IfOk, is_err, slice_get}
 use Rattle.std.specs.Option.{option_to_list}
@@ -71,7 +71,7 @@ begun file count sessions lines hands takes end_tokens starts news idle_hands id
     let take = idle_takes k s.thread.take (ap (λ (zs : List (TakeEnd Outgoing)). slice_get zs k) (sym are.takes_are) ∙ slice_map (λ (s : Served). s.thread.take) starts k s found.1) in
     (s, found.1, record { new = new_thread (ids_at file k) s.thread state hand.0 take.0; names = ap (λ (st : State). st.ids) state; bare = are.kept k s found.1; line_is = found.2 })
 
--- what the closing says of what was taken, and of what was reached
+-- what the closing says of the messages taken, and of the replies that reached each session
 abbrev pub ClosesTaken : {E : Type 0} → (E → Thread) → List E → List (TakeEnd Item) → List (Option Item) → Type 0
 ClosesTaken {E} thread ended takes left = (turns k : ℕ) (start : Thread) (passed passed' : List Bool) (emitted emitted' : List ℕ) (e : E) (t : TakeEnd Item) (x : Option Item)
     → slice_get ended k ≡ Some e → slice_get takes k ≡ Some t → slice_get left k ≡ Some x
@@ -83,7 +83,7 @@ ClosesReached {E} thread ended hands queues left = (turns k : ℕ) (start : Thre
     → HasLed turns start (thread e) passed passed' emitted emitted' → IsNew start → IsOwed owed h.given q.waiting.items q.is_cut
     → Reached owed (numbered (thread e).session) (option_to_list x) q.waiting.items q.is_cut
 
--- one participant's side
+-- one participant's part
 served_at : {E : Type 0} (turns k : ℕ) (ids : CompIds) (line : SessionIo) (items : List Item) (owed : List App) (side : Side) (s f : Served) (e : E) (thread : E → Thread) (t : TakeEnd Item) (h : HandEnd Outgoing)
     (ended : List E) (takes : List (TakeEnd Item)) (hands : List (HandEnd Outgoing)) (queues : List Queue) (left : List (Option Item)) (replies_left : List (Option Outgoing)) →
     IsBegun ids line s → HasLed turns s.thread f.thread s.passed f.passed s.emitted f.emitted → f.thread ≡ thread e →
@@ -128,7 +128,7 @@ cut_much P m before w w' goes j q h law market empty below at_q at_h is_cut =
     subst (λ (n : Market). 64000 < length (owed_to n before goes.more j)) market
     (beyond 64000 (length was.given) (length (owed_to w.ledger.market before goes.more j)) much)
 
--- the facts of all parts, as they come
+-- the facts of all parts, in order
 pub record Facts (E : Type 0) (turns : ℕ) (m : Market) (kept : List TrailRow) (lines : List SessionIo) (emitted emitted' : List ℕ) (ran : Result Unit EventFault) (c : Closing)
     (intake replies ends : TableId) (takes : List (TakeEnd Item)) (hands : List (HandEnd Outgoing)) (end_tokens : List (TakeEnd Unit)) (starts finished : List Served) (ended : List E) (thread : E → Thread)
     (opened : VenueFacts) (refused refused' : ℕ) (venue : VenueState) (worker_takes : List (TakeEnd Item)) (worker_hands : List (HandEnd Outgoing)) : Type 0 where
@@ -230,7 +230,7 @@ pub none_refused : (turns : ℕ) (emitted emitted' : List ℕ) (ran : Result Uni
 none_refused turns emitted emitted' ran m opened kept refused intake takes replies hands venue written is_clean refused' queues takes' hands' well has =
     has.worked.parts.refusals ∙ as_before ran has.worker.ledger.refused has.worked.after.ledger.refused well has.worked.run.stop ∙ has.begins.refusals
 
--- what holds of a run that ended well, of one that did
+-- a property of a run that ended well, where it did
 pub where_ok : {X : Type 0} (ran : Result Unit EventFault) → is_err ran ≡ false → IfOk ran (λ u. X) → X
 where_ok (Ok u) well x = x
 where_ok (Err f) well x = absurd (cc)

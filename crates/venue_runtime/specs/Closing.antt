@@ -1,4 +1,4 @@
--- What stands once a venue ran and was closed.
+-- The state of a venue that ran and was closed.
 use Rattle.std.specs.Prelude.{◌≡◌, ℕ, ◌<◌, true, Bool, List, ◌++◌, length, slice_get, Option, Some, None}
 use Rattle.std.specs.Option.{option_to_list}
 use Rattle.fix_dictionary.specs.declared.messages.App.{App}
@@ -26,7 +26,7 @@ use Rattle.outbound_queue.specs.declared.outgoing.Outgoing.{Outgoing}
 use Rattle.outbound_queue.specs.declared.queue.Queue.{Queue}
 use Rattle.venue_runtime.specs.Starting.{SessionIo, ids_at}
 
--- what is closed of one participant: its session, what its line said, what is left in both its seats, and its queue
+-- one participant's part of the closing: its session, its line's account, what is left in both its seats, and its queue
 pub record Side : Type 0 where
   pub session : State
   pub said : List Said
@@ -34,9 +34,10 @@ pub record Side : Type 0 where
   pub reply_left : Option Outgoing
   pub queue : Queue
 
--- The turns of one participant's thread, from a new session on this line; what was taken of it, then what is left in its seat, then what
--- is ready, is what its heard frames spell; and what is numbered for it, then what is left in its seat, then its queue, is what it
--- is owed, or, where it was cut, a first part of that, which is more than 64,000 replies.
+-- The turns of one participant's thread, from a new session on this line; the messages taken of it, then the one left
+-- in its seat, then those ready, are what its heard frames spell; and the replies numbered for it, then the one left in
+-- its seat, then its queue, are what it is owed, or, where it was cut, a first part of that, which is more than 64,000
+-- replies.
 pub record IsServed (turns : ℕ) (ids : CompIds) (line : SessionIo) (taken : List Item) (owed : List App) (side : Side) : Type 0 where
   pub start : Thread
   pub finish : Thread
@@ -53,8 +54,8 @@ pub record IsServed (turns : ℕ) (ids : CompIds) (line : SessionIo) (taken : Li
   pub reached : Reached owed (numbered side.session) (option_to_list side.reply_left) side.queue.waiting.items side.queue.is_cut
   pub cut : side.queue.is_cut ≡ true → 64000 < length owed
 
--- what is closed: of each participant in order its session, what its line said, what is left in its seats and its queue; what the venue
--- stands for, and the keeper's rows and whether its store is clean
+-- a closing: of each participant in order its session, its line's account, what is left in its seats and its queue; the
+-- venue's state, and the keeper's rows and whether its store is clean
 pub record Closing : Type 0 where
   pub sessions : List State
   pub said : List (List Said)
@@ -77,7 +78,7 @@ closing sessions said left replies_left queues stands rows is_clean = record {
   is_clean = is_clean;
 }
 
--- this is what is closed of the k-th participant
+-- the k-th participant's part of the closing
 pub record IsSide (c : Closing) (k : ℕ) (side : Side) : Type 0 where
   pub session : slice_get c.sessions k ≡ Some side.session
   pub said : slice_get c.said k ≡ Some side.said
@@ -93,13 +94,13 @@ pub record AreCounted (count : ℕ) (c : Closing) : Type 0 where
   pub replies_left : length c.replies_left ≡ count
   pub queues : length c.queues ≡ count
 
--- A venue that ran from these rows on these lines, by a worker's clock, and was closed: there are the inputs of the rows, and those
--- that the worker added, in order.
+-- A venue that ran from these rows on these lines, by a worker's clock, and was closed: there are the inputs of the
+-- rows, and those that the worker added, in order.
 pub record HasClosed (turns : ℕ) (m : Market) (kept : List TrailRow) (lines : List SessionIo) (emitted emitted' : List ℕ) (c : Closing) : Type 0 where
   pub before : List Input
   pub since : List Input
   pub began : kept ≡ rows before
-  -- the rows are theirs, where the store is clean, and the venue stands where they lead
+  -- the rows are theirs, where the store is clean, and the venue is where they lead
   pub recorded : c.is_clean ≡ true → c.rows ≡ rows (before ++ since)
   pub stands : IsStanding c.stands (run m (before ++ since)).history
   -- each tick that was added found a side due, and no message did; each message is from a participant

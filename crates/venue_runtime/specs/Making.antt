@@ -1,4 +1,4 @@
--- The boards of a venue and what its threads begin with, as they are made.
+-- The boards of a venue and the starts of its threads, as they are made.
 use Rattle.std.specs.Prelude.{◌≡◌, List, length}
 use Rattle.atomic_table.specs.Seated.{TableId}
 use Rattle.fix_dictionary.specs.declared.messages.Item.{Item}
@@ -11,7 +11,8 @@ use Rattle.venue_worker.specs.Turns.{AreTokensUntaken}
 use Rattle.outbound_queue.specs.declared.outgoing.Outgoing.{Outgoing}
 use Rattle.venue_runtime.specs.Starting.{AreNewSessions, AreStarts, SessionIo}
 
--- Three boards with a seat for each line, no end of which was used; a new session with each participant; and each thread begins with its session, its line and its ends.
+-- Three boards with a seat for each line, no end of which was used; a new session with each participant; and each
+-- thread starts with its session, its line and its ends.
 pub record AreMade (file : ParticipantFile) (lines : List SessionIo) (intake : TableId) (takes : List (TakeEnd Item)) (replies : TableId) (hands : List (HandEnd Outgoing)) (ends : TableId) (end_tokens : List (TakeEnd Unit)) (starts : List Served) : Type 0 where
   pub sessions : List Seen
   pub session_hands : List (HandEnd Item)

@@ -1,4 +1,4 @@
--- What the threads of a venue's sessions begin with.
+-- The starts of the threads of a venue's sessions.
 use Rattle.std.specs.Prelude.{◌≡◌, ℕ, ◌<◌, List, map, length, slice_get, Bool, None, Some}
 use Rattle.fix_dictionary.specs.declared.messages.Item.{Item}
 use Rattle.fix_session.specs.State.{State, Seen, fresh}
@@ -10,16 +10,16 @@ use Rattle.participants.specs.ParticipantFile.{ParticipantFile}
 use Rattle.participants.specs.Relations.{name_of}
 use Rattle.outbound_queue.specs.declared.outgoing.Outgoing.{Outgoing}
 
--- the names on what the venue and the k-th participant write to each other
+-- the CompIDs on what the venue and the k-th participant write to each other
 abbrev pub ids_at : ParticipantFile → ℕ → CompIds
 ids_at file k = record { own = file.venue; peer = name_of file k }
 
--- a new session with each of so many participants
+-- a new session with each of `count` participants
 pub record AreNewSessions (file : ParticipantFile) (count : ℕ) (sessions : List Seen) : Type 0 where
   pub long : length sessions ≡ count
   pub each : (k : ℕ) (s : Seen) → slice_get sessions k ≡ Some s → s.state ≡ fresh (ids_at file k)
 
--- what a session's thread has of the outside: what its line said, its clock told and its gate answered
+-- the outside of a session's thread: the accounts of its line, its clock and its gate
 pub record SessionIo : Type 0 where
   pub said : List Said
   pub emitted : List ℕ
@@ -28,7 +28,7 @@ pub record SessionIo : Type 0 where
 abbrev pub outside : List Said → List ℕ → List Bool → SessionIo
 outside said emitted passed = record { said = said; emitted = emitted; passed = passed }
 
--- each session has what stands at its place of the outside and of the ends of the boards, and keeps no piece
+-- each session has the outside and the ends of the boards at its place, and keeps no piece
 pub record AreStarts (sessions : List Seen) (lines : List SessionIo) (hands : List (HandEnd Item)) (takes : List (TakeEnd Outgoing)) (ends : List (HandEnd Unit)) (starts : List Served) : Type 0 where
   pub states : map (λ (s : Served). s.thread.session) starts ≡ map (λ (s : Seen). s.state) sessions
   pub outsides : map (λ (s : Served). outside s.thread.said s.emitted s.passed) starts ≡ lines

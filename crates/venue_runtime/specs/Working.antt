@@ -1,4 +1,4 @@
--- What the worker leaves that had its turns.
+-- The parts of a worker after its turns.
 use Rattle.std.specs.Prelude.{◌≡◌, ℕ, List, [], Bool, length}
 use Rattle.std.specs.declared.result.Result.{Result}
 use Rattle.atomic_table.specs.Seated.{TableId}
@@ -17,7 +17,8 @@ use Rattle.venue_worker.specs.Queued.{AreEmptyQueues}
 use Rattle.venue_worker.specs.Turns.{HasRun}
 use Rattle.venue_worker.specs.Work.{Work}
 
--- a venue, its keeper's rows, whether the store is clean and how often it refused, the queues and the ends are what a worker had
+-- a venue, its keeper's rows, whether the store is clean and how often it refused, the queues and the ends are the
+-- parts of a worker
 pub record AreParts (venue : State) (written : List TrailRow) (is_clean : Bool) (refused : ℕ) (queues : List Queue) (takes : List (TakeEnd Item)) (hands : List (HandEnd Outgoing)) (w : Work) : Type 0 where
   pub market : venue.market ≡ w.ledger.market
   pub stands : standing venue.day ≡ w.ledger.stands
@@ -28,7 +29,7 @@ pub record AreParts (venue : State) (written : List TrailRow) (is_clean : Bool) 
   pub takes_are : takes ≡ w.takes
   pub hands_are : hands ≡ w.hands
 
--- so many turns led a worker to where these parts are what it had
+-- `turns` turns led a worker to one with these parts
 pub record HasWorked (turns : ℕ) (emitted emitted' : List ℕ) (ran : Result Unit EventFault) (before : Work) (venue : State) (written : List TrailRow) (is_clean : Bool) (refused : ℕ) (queues : List Queue) (takes : List (TakeEnd Item)) (hands : List (HandEnd Outgoing)) : Type 0 where
   pub after : Work
   pub end_tokens : List (TakeEnd Unit)
@@ -36,7 +37,8 @@ pub record HasWorked (turns : ℕ) (emitted emitted' : List ℕ) (ran : Result U
   pub kept : IsKept after
   pub parts : AreParts venue written is_clean refused queues takes hands after
 
--- a new worker, for this market and what stands there, over these rows, these boards and these ends, with an empty queue for each participant
+-- a new worker, for this market and its state, over these rows, these boards and these ends, with an empty queue for
+-- each participant
 pub record IsNewWorker (m : Market) (stands : VenueFacts) (kept : List TrailRow) (refused : ℕ) (intake : TableId) (takes : List (TakeEnd Item)) (replies : TableId) (hands : List (HandEnd Outgoing)) (w : Work) : Type 0 where
   pub market : w.ledger.market ≡ m
   pub stands_is : w.ledger.stands ≡ stands
@@ -53,7 +55,7 @@ pub record IsNewWorker (m : Market) (stands : VenueFacts) (kept : List TrailRow)
   pub kept_is : kept ≡ rows before
   pub account : IsAccount before [] w
 
--- what a new worker left after so many turns
+-- the parts of a new worker after `turns` turns
 pub record HasWorkedAnew (turns : ℕ) (emitted emitted' : List ℕ) (ran : Result Unit EventFault) (m : Market) (stands : VenueFacts) (kept : List TrailRow) (refused : ℕ) (intake : TableId) (takes : List (TakeEnd Item)) (replies : TableId) (hands : List (HandEnd Outgoing))
     (venue : State) (written : List TrailRow) (is_clean : Bool) (refused' : ℕ) (queues : List Queue) (takes' : List (TakeEnd Item)) (hands' : List (HandEnd Outgoing)) : Type 0 where
   pub worker : Work

@@ -1,4 +1,4 @@
-//! The boards of a venue, and what its threads begin with.
+//! The boards of a venue, and the starts of its threads.
 
 ghost use Rattle.std.specs.Prelude.{◌≡◌, IfOk, length, map};
 ghost use Rattle.venue_runtime.specs.Making.{AreMade};
@@ -13,7 +13,7 @@ use participants::Participants;
 use std::alloc::{AllocError, Global};
 use venue_worker::{Clock, Outgoing};
 
-/// The three boards, the ends that the worker has, and what each thread begins with.
+/// The three boards, the ends that the worker has, and the start of each thread.
 #[derive(Drop)]
 pub(crate) struct Made<L: Line, C: Clock, G: Gate> {
     pub(crate) intake: Board<Item>,
@@ -25,7 +25,7 @@ pub(crate) struct Made<L: Line, C: Clock, G: Gate> {
     pub(crate) starts: Vec<Start<L, C, G>>,
 }
 
-/// Makes the boards, a new session with each participant, and what each thread begins with.
+/// Makes the boards, a new session with each participant, and the start of each thread.
 pub(crate) fn make<L: Line + Drop, C: Clock + Drop, G: Gate + Drop>(
     alloc: Global,
     participants: &Participants,

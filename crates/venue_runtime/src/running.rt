@@ -1,4 +1,4 @@
-//! The whole of a running venue.
+//! The run of a venue, from its start to its closing.
 
 ghost use Rattle.std.specs.Prelude.{◌≡◌, ◌≤◌, ◌^◌, All, IfOk, List, length, map, true};
 ghost use Rattle.gateway.specs.Served.{AreServed, IsReady};
@@ -29,7 +29,7 @@ use venue_core::Venue;
 use venue_rules::{Keep, every_run_is_lawful};
 use venue_worker::{Clock, Outgoing, Worker, behind_is_owed_much};
 
-// The turns of all threads, and those of the worker beside them, which give its clock back.
+// Runs the turns of all threads and those of the worker in parallel, and gives the worker's clock back.
 fn run_threads<
     R: Threads + Wait + Sync,
     L: Line + Send + Drop,
@@ -70,17 +70,18 @@ fn run_threads<
     Ok((finished, worked, clock_after))
 }
 
-/// Runs a venue and closes it. Each participant has a session in a thread of its own, with the line, the clock and the gate at its
-/// place in `lines`; the worker runs on the caller's thread, at the moments that `clock` answers, which is given back. Each thread and the worker
-/// take `turns` turns; a session ends before where its line is over or it collected the mark, and the worker where all sessions
-/// ended and nothing is left to do.
+/// Runs a venue and closes it. Each participant has a session in a thread of its own, with the line, the clock and the
+/// gate at its place in `lines`; the worker runs on the caller's thread, at the moments that `clock` answers, which is
+/// given back. Each thread and the worker take `turns` turns; a session ends earlier where its line is over or it
+/// collected the sentinel, and the worker where all sessions ended and nothing is left to do.
 ///
-/// The conditions: a line for each participant; the venue stands where the run of the keeper's rows leads, their moments do not
+/// Conditions: a line for each participant; the venue is where the run of the keeper's rows leads, their moments do not
 /// fall, and the store is clean.
 ///
-/// `NoMemory`: memory was refused for a board, a session, a list or the worker. `NoThread`: the system made no thread; those that
-/// were started are joined first. `TrailRefused`: the keeper refused a row; the worker was then to give the sessions what they were owed and
-/// to cut them (`Worker::shut_down`), and those that it did not reach had their turns. After any of them all that was given is given up.
+/// `NoMemory`: an allocation failed for a board, a session, a list or the worker. `NoThread`: the system made no
+/// thread; those that were started are joined first. `TrailRefused`: the keeper refused a row; the worker then ran
+/// `Worker::shut_down`, to give the sessions what they were owed and to cut them, and those that it did not reach had
+/// their turns. After each of these, all that was given is dropped.
 pub fn run_venue<
     R: Threads + Wait + Sync,
     L: Line + Send + Drop,
@@ -108,7 +109,7 @@ pub fn run_venue<
     laws::one_reader();
     every_run_is_lawful();
     behind_is_owed_much();
-    // (Here and below a venue is given up by a call: a proof tells all that its drop does at each place where it is dropped otherwise.)
+    // (Here and below a call drops a venue: otherwise a proof sees the drop of each part at each place.)
     let Ok(made) = make(alloc, venue.participants(), lines) else {
         drop(venue);
         return Err(RunFault::NoMemory);

@@ -1,4 +1,4 @@
-//! What the threads of the sessions begin with.
+//! The starts of the sessions' threads.
 
 ghost use Rattle.std.specs.Prelude.{◌≡◌, ◌<◌, length, map, IfOk};
 ghost use Rattle.fix_session.specs.State.{fresh};
@@ -14,7 +14,6 @@ use std::alloc::{AllocError, Global};
 use venue_rules::{Who, name_identifier};
 use venue_worker::{Clock, Outgoing};
 
-// A session of the venue with a participant.
 fn session_with(alloc: Global, participants: &Participants, who: Who) -> Result<Session, AllocError>
     requires within { who < length participants.now.names }
     ensures { IfOk result (λ s. s.state ≡ fresh (ids_at participants.now who)) }
@@ -24,7 +23,7 @@ fn session_with(alloc: Global, participants: &Participants, who: Who) -> Result<
     Session::new(alloc, &own, &peer)
 }
 
-/// A session of the venue with each participant, in their order.
+/// A session of the venue with each participant, in order.
 pub(crate) fn sessions_of(
     alloc: Global,
     participants: &Participants,
@@ -40,7 +39,7 @@ pub(crate) fn sessions_of(
     Ok(sessions)
 }
 
-/// Each session with what it has of the outside and with its ends of the three boards, in their order.
+/// Each session with its outside (line, clock and gate) and its ends of the three boards, in order.
 pub(crate) fn starts_of<L: Line + Drop, C: Clock + Drop, G: Gate + Drop>(
     alloc: Global,
     sessions: Vec<Session>,

@@ -1,4 +1,4 @@
-//! What the worker does beside the threads of the sessions.
+//! The worker's part, in parallel to the sessions' threads.
 
 ghost use Rattle.std.specs.Prelude.{IfErr, IfOk};
 ghost use Rattle.intake_seats.specs.Ends.{AreTakes};
@@ -10,15 +10,16 @@ use intake_seats::{Board, TakeSeat};
 use venue_rules::{EventFault, Keep};
 use venue_worker::{Clock, Parts, Worker};
 
-/// How a worker's turns ended, and all that it had.
+/// The end of a worker's turns, and all its parts.
 #[derive(Drop)]
 pub(crate) struct Worked<K: Keep + Drop> {
     pub(crate) ran: Result<(), EventFault>,
     pub(crate) parts: Parts<K>,
 }
 
-/// Gives a worker its turns, and takes it apart. Where the trail stopped it, the sessions end first.
-pub(crate) fn work_out<W: Clock, K: Keep + Drop>(
+// Runs a worker for its turns, and takes it apart. Where the trail stopped it, the clock is called and the sessions end
+// first.
+fn run_out<W: Clock, K: Keep + Drop>(
     worker: Worker<'_, K>,
     clock: &mut W,
     ends: &Board<()>,
@@ -37,6 +38,7 @@ pub(crate) fn work_out<W: Clock, K: Keep + Drop>(
             parts: worker.into_parts(),
         },
         Err(fault) => {
+            clock.refused();
             worker.shut_down(clock, turns);
             Worked {
                 ran: Err(fault),
@@ -44,6 +46,24 @@ pub(crate) fn work_out<W: Clock, K: Keep + Drop>(
             }
         }
     }
+}
+
+/// Runs a worker for its turns, calls its clock as it ends, and takes it apart. Where the trail stopped it, the
+/// sessions end first.
+pub(crate) fn work_out<W: Clock, K: Keep + Drop>(
+    worker: Worker<'_, K>,
+    clock: &mut W,
+    ends: &Board<()>,
+    end_tokens: Vec<TakeSeat<()>>,
+    turns: u64,
+) -> Worked<K>
+    requires end_tokens { AreTakes ends.now end_tokens.items × AreTokensUntaken end_tokens.items }
+    ensures worked { IfOk result.ran (λ _. HasWorked turns (W.answered clock.old) (W.answered clock.new) result.ran worker.entry result.parts.venue (K.rows result.parts.keeper) (K.is_clean result.parts.keeper) (K.refused result.parts.keeper) result.parts.queues.items result.parts.takes.items result.parts.hands.items) }
+    ensures stopped { IfErr result.ran (λ _. IsRisen worker.entry.ledger.refused (K.refused result.parts.keeper)) }
+{
+    let worked = run_out(worker, clock, ends, end_tokens, turns);
+    clock.ended();
+    worked
 }
 
 /// The same with a clock that is given, and given back.

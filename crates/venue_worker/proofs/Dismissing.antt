@@ -1,4 +1,4 @@
--- Participants are seen off, one after another.
+-- Participants drained, one after another.
 use Rattle.std.proofs.Common.{◌≡◌, ◌≢◌, ◌⊎◌, inl, inr, ℕ, zero, suc, ◌+◌, ◌≤◌, ◌<◌, Bool, true, false, List, [], ◌∷◌, ◌++◌, length, set, get_or, refl, sym, ap, ◌∙◌, subst, arith, append_assoc, append-nil, length-set}
 use Rattle.std.specs.Prelude.{slice_get, Some}
 use Rattle.std.proofs.lemmas.Bool.{false≢true}
@@ -13,7 +13,7 @@ use Rattle.venue_worker.proofs.Lists.{at_set, at_below, below_at}
 use Rattle.venue_worker.proofs.Moving.{some_at}
 use Rattle.venue_worker.proofs.Turning.{looks_grow, served_by}
 
--- marks
+-- sentinels
 
 no_cut_token : (b : Bool) → cut_token b b ≡ []
 no_cut_token true = refl
@@ -128,7 +128,7 @@ all_seen_then a b c e s t j q q'' h h'' q_at q''_at h_at h''_at =
     let hand_at = at_below b.hands j h (subst (λ n. j < n) (sym e.2) (below_at a.hands j h h_at)) in
     seen_then q mid q'' h hand h'' (s j q mid h hand q_at mid_at h_at hand_at) (t j mid q'' hand h'' mid_at q''_at hand_at h''_at)
 
--- what stands at a participant's place once one was seen off
+-- the element at a participant's place once one was drained
 queue_seen : (j : ℕ) (old new : Work) (s : SeesOff j old new) (k : ℕ) (q' : Queue) → slice_get new.ledger.queues k ≡ Some q' → ((k ≡ j) × (q' ≡ s.is)) ⊎ ((k ≢ j) × (slice_get old.ledger.queues k ≡ Some q'))
 queue_seen j old new s k q' at = at_set old.ledger.queues j k s.is q' (ap (λ (w : Work). slice_get w.ledger.queues k) (sym s.other) ∙ at)
 

@@ -1,4 +1,4 @@
--- What holds of a worker between any two calls.
+-- The invariant of a worker between any two calls.
 use Rattle.std.specs.Prelude.{◌≡◌, ℕ, ◌≤◌, true, List, ◌++◌, length, slice_get, Some}
 use Rattle.fix_dictionary.specs.declared.messages.App.{App}
 use Rattle.fix_dictionary.specs.declared.messages.Item.{Item}
@@ -20,10 +20,11 @@ use Rattle.venue_worker.specs.Work.{Work}
 abbrev pub owed_to : Market → List Input → List Input → ℕ → List App
 owed_to m before since who = said_to who (run_from m (run m before).history since).replies
 
--- A worker's account: the inputs of the keeper's rows at the start, and those that it added. The rows are theirs, where the store is clean; the venue
--- stands where they lead; each tick that was added found a side due, and no message did; their moments do
--- not fall, and the last is none before it; the messages that were added interleave what was taken from the
--- seats, each whole and in order; and what was given to a session, and then its queue, is what it is owed for what was added.
+-- A worker's account: the inputs of the keeper's rows at the start, and those that it added. The rows are theirs, where
+-- the store is clean; the venue is where they lead; each tick that was added found a side due, and no message did;
+-- their moments do not fall, and the last is none before it; the messages that were added interleave those taken from
+-- the seats, each whole and in order; and what was given to a session, and then its queue, is what it is owed for what
+-- was added.
 pub record IsAccount (before since : List Input) (w : Work) : Type 0 where
   pub begun : length before ≡ w.ledger.begun
   pub rows : w.ledger.is_clean ≡ true → w.ledger.rows ≡ rows (before ++ since)

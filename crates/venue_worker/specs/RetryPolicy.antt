@@ -1,4 +1,4 @@
--- What a run does after a refusal.
+-- The reaction of a run to a refusal.
 use Rattle.venue_rules.specs.declared.trail.EventFault.{EventFault}
 use Rattle.venue_rules.specs.declared.trail.EventFault.TheVariants.{Behind, TrailRefused, Down, Due, NoMemory}
 use Rattle.venue_worker.specs.declared.retry_policy.RetryPolicy.{RetryPolicy}

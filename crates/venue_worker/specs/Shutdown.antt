@@ -1,4 +1,4 @@
--- How participants are seen off.
+-- The end of participants' queues in a shutdown.
 use Rattle.std.specs.Prelude.{◌≡◌, ◌≢◌, ℕ, ◌<◌, ◌≤◌, Bool, true, false, List, [], ◌∷◌, ◌++◌, slice_get, Some}
 use Rattle.intake_seats.specs.Given.{HandEnd}
 use Rattle.outbound_queue.specs.declared.outgoing.Outgoing.{Outgoing}
@@ -8,13 +8,14 @@ use Rattle.venue_worker.specs.Work.{Work}
 use Rattle.venue_worker.specs.Calls.{with_queue, with_session}
 use Rattle.venue_worker.specs.Turns.{IsServed}
 
--- the mark, where a queue was cut
+-- the sentinel, where a queue was cut
 abbrev pub cut_token : Bool → Bool → List Outgoing
 cut_token true is_cut = []
 cut_token false false = []
 cut_token false true = Cut ∷ []
 
--- What a participant was given stays. What waited for it, with the mark behind it if it was cut, was given next or waits; one that was cut before stays so.
+-- What a participant was given stays. What waited for it, and then the sentinel if it was cut, was given next or waits;
+-- one that was cut before stays so.
 pub record IsSeenOff (q q' : Queue) (h h' : HandEnd Outgoing) : Type 0 where
   pub next : List Outgoing
   pub given : h'.given ≡ h.given ++ next
@@ -24,11 +25,11 @@ pub record IsSeenOff (q q' : Queue) (h h' : HandEnd Outgoing) : Type 0 where
 abbrev pub AreDrained : Work → Work → Type 0
 AreDrained old new = (j : ℕ) (q q' : Queue) (h h' : HandEnd Outgoing) → slice_get old.ledger.queues j ≡ Some q → slice_get new.ledger.queues j ≡ Some q' → slice_get old.hands j ≡ Some h → slice_get new.hands j ≡ Some h' → IsSeenOff q q' h h'
 
--- a participant's queue is as it was, or it was cut, with the mark behind what waited
+-- a participant's queue is as it was, or it was cut, with the sentinel after what waited
 abbrev pub CutsServed : Work → Work → ℕ → Type 0
 CutsServed old new j = (q q' : Queue) × (slice_get old.ledger.queues j ≡ Some q) × (new ≡ with_queue old j q') × (q'.waiting.items ≡ q.waiting.items ++ cut_token q.is_cut q'.is_cut) × (q.is_cut ≡ true → q'.is_cut ≡ true)
 
--- one participant is seen off, and its seat is looked at where something waits after it
+-- one participant is drained, and its seat is looked at where something waits after it
 pub record SeesOff (j : ℕ) (old new : Work) : Type 0 where
   pub was : Queue
   pub had : HandEnd Outgoing

@@ -1,4 +1,4 @@
-//! The marks that sessions hand as they end.
+//! The end tokens that sessions hand as they end.
 
 ghost use Rattle.std.specs.Prelude.{◌≡◌, ℕ, ◌+◌, ◌≤◌, true, None, length, if◌then◌else◌};
 ghost use Rattle.intake_seats.specs.Ends.{AreTakes, IsSameTaker};
@@ -6,7 +6,7 @@ ghost use Rattle.venue_worker.specs.Phases.{AreTokensTaken};
 
 use intake_seats::{Board, TakeSeat};
 
-// A session's mark counts as taken; `false` where a look in this call found none.
+// Takes and counts a session's end token; `false` where this call found none.
 fn take_end_token(take: &mut TakeSeat<()>, board: &Board<()>) -> bool
     requires own { take.old.board ≡ board.now }
     requires free { take.old.in_hand ≡ None }
@@ -20,7 +20,7 @@ fn take_end_token(take: &mut TakeSeat<()>, board: &Board<()>) -> bool
     true
 }
 
-// The marks of the sessions that ended next, in order. How many have ended.
+// Takes the end tokens of the sessions that ended next, in order, and gives the count of sessions that have ended.
 pub(crate) fn take_end_tokens(
     takes: &mut Vec<TakeSeat<()>>,
     board: &Board<()>,

@@ -1,11 +1,11 @@
-//! What is done after a refusal in a run.
+//! The reaction of a run to a refusal.
 
 ghost use Rattle.std.specs.Prelude.{◌≡◌};
 ghost use Rattle.venue_worker.specs.RetryPolicy.{retry_policy_of};
 
 use venue_rules::EventFault;
 
-/// What is done after a refusal: a participant is cut, the next turn tries again, or the run ends.
+/// The reaction to a refusal: cut a participant, try again in the next turn, or end the run.
 pub(crate) enum RetryPolicy {
     Cut(usize),
     Wait,

@@ -1,4 +1,4 @@
-//! How the sessions end where the trail takes no more rows.
+//! The end of the sessions where the trail takes no more rows.
 
 ghost use Rattle.std.specs.Prelude.{◌≡◌, ◌<◌, true, length, ℕ, slice_get, Some, []};
 ghost use Rattle.outbound_queue.specs.declared.queue.Queue.{Queue};
@@ -10,16 +10,18 @@ use crate::clock::{Clock, notify};
 use crate::worker::Worker;
 use venue_rules::Keep;
 
-/// A participant is cut once no session took anything for so many milliseconds, in which each wrote what it had taken before.
+/// Time without progress, in milliseconds, after which a participant is cut: in it each session wrote what it had taken
+/// before.
 const QUIET_MS: u64 = 500;
 
-/// Once no session took anything for so many milliseconds, no more rounds are made.
+/// Time without progress, in milliseconds, after which the rounds end.
 const MAX_DRAIN_MS: u64 = 30_000;
 
 impl<'a, K: Keep + Drop> Worker<'a, K> {
-    /// Has the sessions end where the trail takes no more rows: each participant is given what it is owed, and is cut a while after. So
-    /// many rounds are made at most, each behind an answer of the clock; fewer where each mark is in its seat, or where no session takes
-    /// anything for half a minute. What a participant has not taken by then still waits for it.
+    /// Ends the sessions where the trail takes no more rows: each participant is given what it is owed, and is then cut
+    /// after a while. Makes at most `rounds` rounds, each after an answer of the clock; fewer where each sentinel is in
+    /// its seat, or where no session takes anything for half a minute. What a participant has not taken by then still
+    /// waits for it.
     pub fn shut_down<C: Clock>(&mut self, clock: &mut C, rounds: u64)
         ensures only { IsSameElse self.old self.new }
         ensures seen_off { AreDrained self.old self.new }
@@ -38,7 +40,7 @@ impl<'a, K: Keep + Drop> Worker<'a, K> {
         }
     }
 
-    // Each participant was given its mark.
+    // Whether each participant was given its sentinel.
     fn are_shut_down(&self) -> bool {
         self.engine
             .queues
@@ -46,7 +48,8 @@ impl<'a, K: Keep + Drop> Worker<'a, K> {
             .all(|queue| queue.is_cut && queue.waiting.is_empty())
     }
 
-    // One delivery to each participant, who is first cut where it may be and nothing waits for it. Whether a message was handed over.
+    // Delivers once to each participant, after cutting it where `may_cut` allows and nothing waits for it; says whether
+    // a message was handed over.
     fn drain_all<C: Clock>(&mut self, clock: &mut C, may_cut: bool) -> bool
         ensures only { IsSameElse self.old self.new }
         ensures seen_off { AreDrained self.old self.new }
@@ -61,7 +64,7 @@ impl<'a, K: Keep + Drop> Worker<'a, K> {
         moved
     }
 
-    // A delivery to a participant, who is first cut where it may be and nothing waits for it.
+    // Delivers to a participant, after cutting it where `may_cut` allows and nothing waits for it.
     fn drain<C: Clock>(&mut self, clock: &mut C, j: usize, may_cut: bool) -> bool
         requires named { j < length self.old.hands }
         ensures sees { SeesOff j self.old self.new }
@@ -72,7 +75,7 @@ impl<'a, K: Keep + Drop> Worker<'a, K> {
         delivered
     }
 
-    // A participant for whom nothing waits is cut, where it may be.
+    // Cuts a participant for whom nothing waits, where `may_cut` allows.
     fn cut_served(&mut self, j: usize, may_cut: bool)
         requires named { j < length self.old.hands }
         ensures cuts { CutsServed self.old self.new j }
@@ -83,7 +86,7 @@ impl<'a, K: Keep + Drop> Worker<'a, K> {
         self.cut(j);
     }
 
-    // Nothing waits for a participant, who may be cut.
+    // Whether nothing waits for a participant that may be cut.
     fn is_served(&self, j: usize, may_cut: bool) -> bool
         requires named { j < length self.now.hands }
         ensures long { length self.now.ledger.queues ≡ length self.now.hands }
