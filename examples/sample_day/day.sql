@@ -1,5 +1,5 @@
 -- A day of the venue as its trail keeps it. The sqlite3 shell makes the file from it: sqlite3 day.trail <day.sql
--- Messages stand with | for SOH; moments are milliseconds since 1970, and 1741012200000 is 3 March 2025, 14:30 UTC.
+-- Messages have | for SOH; moments are milliseconds since 1970, and 1741012200000 is 3 March 2025, 14:30 UTC.
 PRAGMA journal_mode = WAL;
 BEGIN;
 CREATE TABLE head (id INTEGER PRIMARY KEY, version INTEGER NOT NULL, participants BLOB NOT NULL, instruments BLOB NOT NULL);
@@ -51,7 +51,7 @@ INSERT INTO item (n, who, number, moment, text) VALUES
 (9, 1, 6, 1741012220000, '35=s|548=c1|549=4|550=1|552=2|54=1|11=x1|38=10|54=2|11=x2|38=10|55=IRS5Y|40=2|44=2.4|'),
 (10, 0, 0, 1741012235000, ''),
 -- BETA's sell is linked to GAMMA's buy, since they are related: a second after it they trade, by the adjusted delay, and a
--- millisecond earlier they do not. BETA has its numbers begin anew before its last order, which is the first of its second era.
+-- millisecond earlier they do not. BETA resets its numbers before its last order, which is the first of its second era.
 (11, 3, 3, 1741012240000, '35=D|11=g2|55=BASIS1Y|54=1|38=5|40=2|44=-1|'),
 (12, 2, 3, 1741012240999, '35=D|11=b2|55=BASIS1Y|54=2|38=5|40=2|44=-1|'),
 (13, 2, 2, 1741012241000, '35=D|11=b3|55=BASIS1Y|54=2|38=5|40=2|44=-1|');

@@ -1,4 +1,4 @@
-"""Texts that are refused, those of the participants before those of the instruments, and how long a text may be; and trails."""
+"""Texts that are refused, those of participants before those of instruments; the longest text; trails."""
 import contextlib
 import os
 import shutil
@@ -34,7 +34,7 @@ INSTRUMENTS = {
 
 
 def ran(words, folder):
-    """What the program prints and says, and its status."""
+    """The program's output, standard error and status."""
     done = subprocess.run(words, cwd=folder, stdin=subprocess.DEVNULL, capture_output=True, timeout=LONGEST, check=False)
     return done.stdout.decode(), done.stderr.decode(), done.returncode
 
@@ -46,11 +46,11 @@ def write(folder, name, text):
 
 
 def checks(program, folder):
-    """`check` of each pair of texts that are refused, and of each of them beside a good one."""
+    """`check` of each pair of texts that are refused, and of each of them with a good one."""
 
-    def row(participants, instruments, said):
+    def row(participants, instruments, fault):
         words = [program, "check", "--participants", participants, "--instruments", instruments]
-        return f"check of {participants} and {instruments}", ran(words, folder), ("", f"venue_main: {said}\n", 3)
+        return f"check of {participants} and {instruments}", ran(words, folder), ("", f"venue_main: {fault}\n", 3)
 
     first = {number: write(folder, f"participants_{number}", text) for number, text in PARTICIPANTS.items()}
     later = {number: write(folder, f"instruments_{number}", text) for number, text in INSTRUMENTS.items()}
@@ -62,10 +62,10 @@ def checks(program, folder):
 
 def lengths(program, folder):
     """A text of as many bytes as it may have has no name; one that has one more is not read."""
-    for count, said, status in ((MOST_BYTES, "participants refused 2", 3), (MOST_BYTES + 1, "stopped: input", 1)):
+    for count, fault, status in ((MOST_BYTES, "participants refused 2", 3), (MOST_BYTES + 1, "stopped: input", 1)):
         long = write(folder, "long", count * "#")
         words = [program, "check", "--participants", long, "--instruments", "instruments.toml"]
-        yield f"check of a text of {count} bytes", ran(words, folder), ("", f"venue_main: {said}\n", status)
+        yield f"check of a text of {count} bytes", ran(words, folder), ("", f"venue_main: {fault}\n", status)
 
 
 def trails(program, folder, day):
@@ -84,7 +84,7 @@ def trails(program, folder, day):
 
 
 def rows(program, folder, day):
-    """Each row: its name, what was found, and what is wanted."""
+    """Each row: its name, what was found, and what is expected."""
     yield from checks(program, folder)
     yield from lengths(program, folder)
     yield from trails(program, folder, day)

@@ -1,5 +1,5 @@
-// Stops a program at one of its writes and syncs of files, for crashes.py: as the STOP_AT-th begins the process is killed; with FAILS set that
-// one and all behind it fail, as on a disk that is gone.
+// Stops a program at one of its writes and syncs of files, for tests/robustness/crashes.py: as the STOP_AT-th
+// begins the process is killed; with FAILS set that one and all after it fail, as on a disk that is gone.
 #define _GNU_SOURCE
 #include <dlfcn.h>
 #include <errno.h>
@@ -11,7 +11,7 @@
 
 static long calls;
 
-// Whether this call fails; it does not come back where the process is to be killed.
+// Whether this call fails; it does not return where the process is to be killed.
 static int is_stopped(int file) {
     struct stat found;
     const char *at = getenv("STOP_AT");
@@ -22,11 +22,11 @@ static int is_stopped(int file) {
     return 1;
 }
 
-#define STOPPED(NAME, ARGUMENTS, ...)                                                                                                       \
-    ARGUMENTS {                                                                                                                             \
-        static __typeof__(&NAME) real;                                                                                                      \
-        if (!real) real = dlsym(RTLD_NEXT, #NAME);                                                                                          \
-        return is_stopped(file) ? -1 : real(__VA_ARGS__);                                                                                   \
+#define STOPPED(NAME, ARGUMENTS, ...) \
+    ARGUMENTS { \
+        static __typeof__(&NAME) real; \
+        if (!real) real = dlsym(RTLD_NEXT, #NAME); \
+        return is_stopped(file) ? -1 : real(__VA_ARGS__); \
     }
 
 STOPPED(write, ssize_t write(int file, const void *bytes, size_t count), file, bytes, count)

@@ -1,35 +1,35 @@
-// Refuses the FAIL_AT-th growth of a program, for tests/faults/check and tests/robustness/alloc_failures.py; with COUNT set it tells how
-// many there were. The first growth comes before there are threads.
+// Has the FAIL_AT-th allocation of a program fail, for tests/faults/check and tests/robustness/alloc_failures.py;
+// with COUNT set it prints how many there were. The first comes before there are threads.
 #define _GNU_SOURCE
 #include <dlfcn.h>
 #include <stdio.h>
 #include <stdlib.h>
 
-static long growths, refused = -1;
+static long allocations, failing = -1;
 static void *(*real_malloc)(size_t);
 static void *(*real_realloc)(void *, size_t);
 
-static int is_refused(void) {
-    if (refused < 0) {
+static int fails(void) {
+    if (failing < 0) {
         const char *at = getenv("FAIL_AT");
-        refused = at ? atol(at) : 0;
+        failing = at ? atol(at) : 0;
         real_malloc = dlsym(RTLD_NEXT, "malloc");
         real_realloc = dlsym(RTLD_NEXT, "realloc");
     }
-    return __atomic_add_fetch(&growths, 1, __ATOMIC_SEQ_CST) == refused;
+    return __atomic_add_fetch(&allocations, 1, __ATOMIC_SEQ_CST) == failing;
 }
 
-void *malloc(size_t size) { return is_refused() ? NULL : real_malloc(size); }
+void *malloc(size_t size) { return fails() ? NULL : real_malloc(size); }
 
-void *realloc(void *old, size_t size) { return is_refused() ? NULL : real_realloc(old, size); }
+void *realloc(void *old, size_t size) { return fails() ? NULL : real_realloc(old, size); }
 
-__attribute__((destructor)) static void tell(void) {
-    if (getenv("COUNT")) fprintf(stderr, "%ld\n", growths);
+__attribute__((destructor)) static void print_count(void) {
+    if (getenv("COUNT")) fprintf(stderr, "%ld\n", allocations);
 }
 
 // A program with threads ends by this, and no destructor runs.
 __attribute__((noreturn)) void _exit(int status) {
-    tell();
+    print_count();
     ((void (*)(int))dlsym(RTLD_NEXT, "_exit"))(status);
     __builtin_unreachable();
 }

@@ -1,36 +1,42 @@
 #!/usr/bin/env python3
-"""A stop at each write and sync of a trail: of a venue that is served, and of a trail that is migrated.
+"""Crashes: a stop at each write and sync of a trail, of a venue that is served, and of a trail that is migrated.
 
-usage: crashes.py PORT VENUE_MAIN SEF_REPLAY STOP_AT
+usage: crashes.py PORT VENUE_MAIN SEF_REPLAY CRASH_AT
 
-The programs; STOP_AT is the library of stop_at.c beside this. PORT and the next 39 are taken. Each run is stopped at one write or sync of the
-trail's files, at the first, the second and so on until one is not stopped. A process is killed there; or that call fails and each behind it.
+The programs; CRASH_AT is the library of tests/faults/crash_at.c. PORT and the next 39 are used. Each run is stopped
+at one write or sync of the trail's files, at the first, the second and so on until one is not stopped. The process
+is killed there; or that call fails and each after it.
 
-1. A venue makes a trail and is sent seven items, one by one: a request to four, a quote off tick, two good ones, a pass, a hit that trades, and
-   one that comes too late. The file, opened again, has the first of them: all whose answers were heard, and one more at most. sef_replay prints
-   the trade where the sixth is among them, and nothing else. A venue begins from what was left, also where that is no trail yet, and closes
-   with so many messages taken.
-2. sef_replay migrates the sample day, as venues of versions 1 and 2 kept it. It is then of that version or of the new one, and read back whole.
+1. A venue makes a trail and is sent seven items, one by one: a request to four, a quote off tick, two good ones, a
+   pass, a hit that trades, and one that comes too late. The file, opened again, has a prefix of them: all whose
+   answers were received, and one more at most. sef_replay prints the trade where the sixth is among them, and
+   nothing else. A venue begins from what was left, also where that is no trail yet, and closes with that many
+   messages taken.
+2. sef_replay migrates the sample day, as venues of versions 1 and 2 kept it. It is then of that version or of the
+   new one, and read back whole.
 """
 
 import concurrent.futures
 import contextlib
 import os
-import shutil
 import sqlite3
 import subprocess
 import sys
 import tempfile
 import threading
 
-from alloc_failures import WORKERS, older_trail, spend_turns
-from clients import SOH, Desk, Market, Venue, is_database, wanted
+sys.path.insert(0, os.path.join(os.path.dirname(os.path.abspath(__file__)), "..", "lib"))
+from checked_client import market  # noqa: E402
+from fix import ENDLESS, Client, Venue, expect  # noqa: E402
+from trail import copied, is_database, older_trail, replayed, rows_of, tables_of  # noqa: E402
+
+WORKERS = min(os.cpu_count() or 2, 8)  # of five ports each
 
 TURNS = 10_000  # of a venue whose disk fails
-SILENCE = 2.0  # seconds without an answer, behind which none comes from a venue whose disk fails
+SILENCE = 2.0  # seconds without an answer, after which none comes from a venue whose disk fails
 LONGEST = 60  # seconds for a run
 PARTIES = "453=4|" + "".join(f"448={name}|447=D|452=35|" for name in ("BETA", "GAMMA", "DELTA", "EPSILON"))
-# Who sends an item, the item, and what its sender hears.
+# Who sends an item, the item, and a field of its answer.
 ITEMS = [
     ("ALPHA", "R", f"131=q1|146=1|55=IRS5Y|54=1|38=100|{PARTIES}", None),
     ("BETA", "S", "117=b1|131=R1|55=IRS5Y|133=2.501|", "58=Invalid price"),
@@ -50,32 +56,27 @@ def stopping(library, at, fails):
     return {**os.environ, **words}
 
 
-def hear(desk, wanted):
-    while wanted.encode("ascii") not in desk.next_message().split(SOH):
-        pass
-
-
-def heard_items(port, patience):
-    """How many of the items were answered before the venue answered no more for so many seconds."""
+def answered_items(port, patience):
+    """How many of the items were answered before the venue answered no more for this many seconds."""
     answered = 0
     try:
-        desks = {}
+        clients = {}
         for name, place in (("ALPHA", 0), ("BETA", 1), ("DELTA", 3)):
-            desks[name] = Desk(name, port + place)
-            desks[name].send("A", "98=0|108=0|1137=9|", quietly=True)
-            hear(desks[name], "35=A")
-            desks[name].line.settimeout(patience)
+            clients[name] = Client(name, port + place)
+            clients[name].send("A", "98=0|108=0|1137=9|", quietly=True)
+            clients[name].await_field("35=A", quietly=True)
+            clients[name].connection.settimeout(patience)
         for sender, kind, fields, answer in ITEMS:
-            desks[sender].send(kind, fields, quietly=True)
-            # (the requester hears nothing of a request that is taken: the recipients do)
-            hear(desks[sender if answer else "BETA"], answer or "35=R")
+            clients[sender].send(kind, fields, quietly=True)
+            # (a request that is taken is answered to its recipients alone)
+            clients[sender if answer else "BETA"].await_field(answer or "35=R", quietly=True)
             answered += 1
     except (OSError, SystemExit):
         pass
     return answered
 
 
-class Stops:
+class Crashes:
     def __init__(self, port, venue_main, sef_replay, library, folder):
         self.ports = [port + 5 * k for k in range(WORKERS)]
         self.lock = threading.Lock()
@@ -83,7 +84,7 @@ class Stops:
         self.sef_replay = sef_replay
         self.library = library
         self.folder = folder
-        self.market = Market(folder)
+        self.files = market(folder)
         self.days = {version: self.migrated(older_trail(folder, version)) for version in (1, 2)}
 
     @contextlib.contextmanager
@@ -98,42 +99,33 @@ class Stops:
 
     def stopped_day(self, trail, port, at, fails):
         """A venue over the trail that is stopped: how many items it answered, and whether it was stopped at all."""
-        turns = TURNS if fails else 1_000_000_000
-        venue = Venue(self.venue_main, self.market, port, "--trail", trail, turns=turns, env=stopping(self.library, at, fails))
-        try:
+        turns = TURNS if fails else ENDLESS
+        env = stopping(self.library, at, fails)
+        with Venue(self.venue_main, self.files, port, "--trail", trail, turns=turns, env=env) as venue:
             venue.await_start(or_end=True)
             is_begun = venue.is_up()
-            answered = heard_items(port, SILENCE if fails else LONGEST) if is_begun else 0
+            answered = answered_items(port, SILENCE if fails else LONGEST) if is_begun else 0
             if fails:
-                spend_turns(venue)
+                venue.spend_turns(LONGEST)
             elif answered < len(ITEMS):
-                # (the lines of a process that is killed end before it does)
+                # (the connections of a process that is killed end before it does)
                 venue.process.wait(LONGEST)
             if venue.is_up() or venue.process.returncode == 0:
-                wanted("items that a venue answered which was not stopped", answered, len(ITEMS))
+                expect("items that a venue answered which was not stopped", answered, len(ITEMS))
                 return answered, False
-            said = venue.has_said().splitlines()[-1:]
-            # (where no trail can be made of the file it may be told as one that is refused)
-            is_refused = not is_begun and (venue.process.returncode, said) == (3, ["venue_main: trail refused 1"])
+            fault = venue.log().splitlines()[-1:]
+            # (a file of which no trail can be made may be reported as a refused one)
+            is_refused = not is_begun and (venue.process.returncode, fault) == (3, ["venue_main: trail refused 1"])
             if fails and not is_refused:
-                wanted(f"serve, from call {at} on its disk fails", (venue.process.returncode, said), (1, ["venue_main: stopped: trail"]))
+                expect(f"serve, from call {at} on its disk fails", (venue.process.returncode, fault), (1, ["venue_main: stopped: trail"]))
             return answered, True
-        finally:
-            venue.end()
-
-    def replayed(self, trail):
-        told = subprocess.run([self.sef_replay, trail], capture_output=True, text=True)
-        return told.returncode, told.stdout, told.stderr
 
     def begun_again(self, trail, port):
         """How many messages a venue closes with that begins from the trail."""
-        venue = Venue(self.venue_main, self.market, port, "--trail", trail, turns=1)
-        try:
+        with Venue(self.venue_main, self.files, port, "--trail", trail, turns=1) as venue:
             venue.process.wait(LONGEST)
-            wanted("status of a venue that begins again", venue.process.returncode, 0)
+            expect("status of a venue that begins again", venue.process.returncode, 0)
             return venue.process.stdout.read()
-        finally:
-            venue.end()
 
     def serve(self, at, fails):
         """Whether the run was stopped; what it left is as it may be."""
@@ -141,23 +133,25 @@ class Stops:
         trail = os.path.join(self.folder, f"serve-{at}-{fails}")
         with self.port() as port:
             answered, is_stopped = self.stopped_day(trail, port, at, fails)
-            rows = rows_of(trail)
+            rows = texts_of(trail)
             expected = [f"35={kind}|{fields}" for _, kind, fields, _ in ITEMS]
             if rows is None:
-                wanted(f"{which}: answers without a trail", answered, 0)
+                expect(f"{which}: answers without a trail", answered, 0)
             else:
-                wanted(f"{which}: the rows", rows, expected[: len(rows)])
+                expect(f"{which}: the rows", rows, expected[: len(rows)])
                 if not answered <= len(rows) <= answered + 1:
                     raise SystemExit(f"{which}: {answered} items were answered, and {len(rows)} rows kept")
-                wanted(f"{which}: the trades", self.replayed(trail), (0, TRADE if len(rows) >= 6 else "", ""))
-            wanted(f"{which}: begun again", self.begun_again(trail, port), f"closed sessions 5 taken {len(rows or [])}\n")
+                trades = TRADE if len(rows) >= 6 else ""
+                expect(f"{which}: the trades", replayed(self.sef_replay, trail), (0, trades, ""))
+            closing = f"closed sessions 5 taken {len(rows or [])}\n"
+            expect(f"{which}: begun again", self.begun_again(trail, port), closing)
         return is_stopped, answered
 
     def migrated(self, trail):
-        """What a trail tells that is migrated."""
-        told = subprocess.run([self.sef_replay, "--migrate", trail], capture_output=True, text=True)
-        wanted("what sef_replay --migrate says", (told.returncode, told.stderr), (0, ""))
-        return told.stdout
+        """The day of a trail that is migrated."""
+        status, printed, fault = replayed(self.sef_replay, trail, "--migrate")
+        expect("status and fault of sef_replay --migrate", (status, fault), (0, ""))
+        return printed
 
     def migrate(self, version, at, fails):
         which = f"migrate of version {version}, {'failing from' if fails else 'killed at'} call {at}"
@@ -169,8 +163,8 @@ class Stops:
             if found not in (version, 3):
                 raise SystemExit(f"{which}: it is of version {found}")
             if ended.returncode == 0:
-                wanted(f"{which}: the version after Ok", found, 3)
-            wanted(f"{which}: read back", self.migrated(trail), self.days[version])
+                expect(f"{which}: the version after status 0", found, 3)
+            expect(f"{which}: read back", self.migrated(trail), self.days[version])
         return ended.returncode != 0, found
 
     def count_up(self, what, run):
@@ -187,24 +181,20 @@ class Stops:
         raise SystemExit(f"{what}: each run is stopped")
 
 
-def copied(trail, folder):
-    for end in ("", "-wal"):
-        if os.path.exists(trail + end):
-            shutil.copyfile(trail + end, os.path.join(folder, "copy" + end))
-    return os.path.join(folder, "copy")
-
-
-def rows_of(trail):
-    """The texts of a trail's rows; nothing where it has no tables."""
+def texts_of(trail):
+    """The texts of a trail's rows, once its tables were compared; nothing where it has none."""
     if not is_database(trail):
         return None
-    with tempfile.TemporaryDirectory() as folder, contextlib.closing(sqlite3.connect(copied(trail, folder))) as database:
-        tables = {name for (name,) in database.execute("SELECT name FROM sqlite_master WHERE type = 'table'")}
-        if not tables:
-            return None
-        wanted("the tables", tables, {"head", "item", "delay", "later_era"})
-        wanted("the rows of the head", database.execute("SELECT count(*), min(version) FROM head").fetchall(), [(1, 3)])
-        return [bytes(text).decode("ascii").replace("\x01", "|") for (text,) in database.execute("SELECT text FROM item ORDER BY n")]
+    with tempfile.TemporaryDirectory() as folder:
+        copy = copied(trail, folder)
+        with contextlib.closing(sqlite3.connect(copy)) as database:
+            tables = tables_of(database)
+            if not tables:
+                return None
+            expect("the tables", tables, {"head", "item", "delay", "later_era"})
+            head = database.execute("SELECT count(*), min(version) FROM head").fetchall()
+            expect("the rows of the head", head, [(1, 3)])
+        return [text.decode("ascii").replace("\x01", "|") for _, text in rows_of(copy)]
 
 
 def version_of(trail):
@@ -216,12 +206,12 @@ def main():
     if len(sys.argv) != 5:
         raise SystemExit(__doc__)
     with tempfile.TemporaryDirectory() as folder:
-        play = Stops(int(sys.argv[1]), *sys.argv[2:], folder)
+        test = Crashes(int(sys.argv[1]), *sys.argv[2:], folder)
         for fails in (False, True):
             how = "the disk fails from a call on" if fails else "killed at a call"
-            play.count_up(f"serve, {how}", lambda at, fails=fails: play.serve(at, fails))
+            test.count_up(f"serve, {how}", lambda at, fails=fails: test.serve(at, fails))
             for version in (1, 2):
-                play.count_up(f"migrate of version {version}, {how}", lambda at, fails=fails, version=version: play.migrate(version, at, fails))
+                test.count_up(f"migrate of version {version}, {how}", lambda at, fails=fails, version=version: test.migrate(version, at, fails))
     print("each stop left what it may")
 
 

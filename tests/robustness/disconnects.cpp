@@ -1,13 +1,15 @@
-// Two counterparties whose lines break all day. disconnects PORT MESSAGES BREAK SEED [CLOSES PATIENCE] has ALPHA, at 127.0.0.1:PORT, and DELTA, at
-// PORT + 3, send half of so many messages each, an order and its cancel by turns, ALPHA to buy and DELTA to sell the same, so that many trade.
-// A line is broken off each time BREAK new messages were sent on it, in the midst of what was to be written, and what came meanwhile is lost
-// too. A tenth of the lines break again while the messages that were lost are told again. Each side goes on with its numbers by a Logon, asks
-// for what it did not hear, and is asked for what was not heard.
+// Two counterparties whose connections break all day. disconnects PORT MESSAGES BREAK SEED [CLOSES PATIENCE] has
+// ALPHA, at 127.0.0.1:PORT, and DELTA, at PORT + 3, send half of MESSAGES each, an order and its cancel by turns,
+// ALPHA to buy and DELTA to sell the same, so that many trade. A connection is broken off each time BREAK new
+// messages were sent on it, in the midst of what was to be written, and what came by then is lost too. A tenth of
+// the connections break again while the lost messages are resent. Each side goes on with its numbers by a Logon,
+// asks for what it did not receive, and resends what it is asked for.
 //
-// Wanted: each message is answered once, in order; each report of the venue (17) is heard once by one of the two, and none is missing; each
-// trade (880) is heard once by both, for the same quantity; the book is empty in the end. Prints one line of words and numbers. The venue
-// may close a line so many times (CLOSES, 0). Where nobody listens any more, or nothing comes for so many seconds (PATIENCE, 10), the status is
-// 3; else, where anything is not as wanted, it is 1.
+// Expected: each message is answered once, in order; each report of the venue (17) is received once by one of the
+// two, and none is missing; each trade (880) is received once by both, for the same quantity; the book is empty in
+// the end. Prints one line of words and numbers. The venue may close a connection CLOSES (0) times. Where nobody
+// listens any more, or nothing comes for PATIENCE (10) seconds, the status is 3; else, where anything is not as
+// expected, it is 1.
 #include <algorithm>
 #include <arpa/inet.h>
 #include <charconv>
@@ -63,10 +65,10 @@ void frame(std::string &out, const std::string &body) {
 
 // The value of the first field with this tag, written as 37=, or nothing.
 std::string_view value(std::string_view message, const char *tag) {
-    std::string mark = std::string("\x01") + tag;
-    size_t at = message.find(mark);
+    std::string key = std::string("\x01") + tag;
+    size_t at = message.find(key);
     if (at == std::string_view::npos) return {};
-    at += mark.size();
+    at += key.size();
     return message.substr(at, message.find('\x01', at) - at);
 }
 
@@ -79,12 +81,12 @@ long number(std::string_view text, std::string_view message) {
 
 long number_of(std::string_view message, const char *tag) { return number(value(message, tag), message); }
 
-// What the venue did, as both are told.
-struct Told {
+// What the venue did, as both received it.
+struct Seen {
     std::vector<bool> reports;                 // by 17
-    std::map<long, std::vector<long>> trades; // by 880, the quantity that each was told
+    std::map<long, std::vector<long>> trades; // by 880, the quantity that each received
     int finished = 0;                          // who was answered all
-    long closes = 0;                           // how often the venue may still close a line
+    long closes = 0;                           // how often the venue may still close a connection
 };
 
 struct Client {
@@ -93,17 +95,17 @@ struct Client {
     char side;
     long messages, each; // to send, and between breaks
     std::mt19937_64 dice;
-    Told &told;
+    Seen &seen;
     int line = -1;
     bool on = false;               // the venue answered the Logon
     std::vector<std::string> sent{}; // by number from 1: an application message without its header, or nothing
     long due = 1;                  // the venue's next number
-    long asked = 0;                // the number that raised a request, until it is heard
+    long asked = 0;                // the number that raised a resend request, until it is received
     std::string out{}, unread{};
-    long fresh = 0, again = 0;     // messages sent for the first time on this line, and until it breaks while they are told again
-    size_t left = SIZE_MAX;        // bytes that are still written before the line breaks
+    long fresh = 0, again = 0;     // messages sent for the first time on this connection, and until it breaks while they are resent
+    size_t left = SIZE_MAX;        // bytes that are still written before the connection breaks
     long begun = 0, answered = 0;  // of the messages
-    bool pictured = false, over = false;
+    bool emptied = false, over = false; // the snapshot came; the session ended
     long lines = 0, broken_early = 0, resent = 0, repeats = 0, lost = 0;
 
     std::string id(long k) const { return name.substr(0, 1) + std::to_string(k); }
@@ -153,7 +155,7 @@ struct Client {
         write_session("A", "98=0|108=0|1137=9|");
     }
 
-    // The line breaks once a part of what waits to be written was.
+    // The connection breaks once a part of what waits to be written was.
     void break_soon() {
         if (left == SIZE_MAX) left = dice() % (out.size() + 1);
     }
@@ -168,7 +170,7 @@ struct Client {
         open();
     }
 
-    // What is missing is told again, from there on.
+    // What is missing is sent again, from there on.
     void resend(long from) {
         std::string repeated = std::string("43=Y|122=") + AT + "|";
         for (long n = from; n <= static_cast<long>(sent.size());) {
@@ -189,11 +191,11 @@ struct Client {
 
     void report(std::string_view message) {
         size_t report = number(value(message, "17=").substr(1), message);
-        if (told.reports.size() <= report) told.reports.resize(2 * report + 1);
-        if (told.reports[report]) fail(name, "a report twice", message);
-        told.reports[report] = true;
+        if (seen.reports.size() <= report) seen.reports.resize(2 * report + 1);
+        if (seen.reports[report]) fail(name, "a report twice", message);
+        seen.reports[report] = true;
         if (value(message, "150=") == "F") {
-            told.trades[number(value(message, "880=").substr(1), message)].push_back(number_of(message, "32="));
+            seen.trades[number(value(message, "880=").substr(1), message)].push_back(number_of(message, "32="));
             return;
         }
         answer(message, value(message, "150=") == (answered % 2 ? "4" : "0"));
@@ -201,17 +203,17 @@ struct Client {
 
     void answer(std::string_view message, bool fits) {
         if (!fits || value(message, "11=") != id(answered)) fail(name, "not the answer to " + id(answered), message);
-        if (++answered == messages) told.finished++;
+        if (++answered == messages) seen.finished++;
     }
 
     void take(std::string_view type, std::string_view message) {
         if (type == "8") return report(message);
         if (type == "9") return answer(message, answered % 2 && value(message, "102=") == "1");
-        if (type != "W" || answered != messages || value(message, "269=") != "J") fail(name, "not awaited", message);
-        pictured = true;
+        if (type != "W" || answered != messages || value(message, "269=") != "J") fail(name, "not expected", message);
+        emptied = true;
     }
 
-    void hear(std::string_view message) {
+    void receive(std::string_view message) {
         std::string_view type = value(message, "35=");
         long n = number_of(message, "34=");
         bool repeated = value(message, "43=") == "Y";
@@ -219,7 +221,7 @@ struct Client {
             over = true;
             return;
         }
-        if (type != "A" && type != "2" && type != "4" && type != "8" && type != "9" && type != "W") fail(name, "not awaited", message);
+        if (type != "A" && type != "2" && type != "4" && type != "8" && type != "9" && type != "W") fail(name, "not expected", message);
         if (type == "A") on = true;
         if (type == "2") resend(number_of(message, "7="));
         if (n < due) {
@@ -240,9 +242,9 @@ struct Client {
         if (type == "8" || type == "9" || type == "W") take(type, message);
     }
 
-    // The venue closed the line, which it may so many times.
+    // The venue closed the connection, which it may `closes` times.
     void closed() {
-        if (told.closes-- <= 0) fail(name, "the venue closed the line");
+        if (seen.closes-- <= 0) fail(name, "the venue closed the connection");
         close(line);
         open();
     }
@@ -258,7 +260,7 @@ struct Client {
             long body = number(std::string_view(unread).substr(length, ends - length), unread);
             size_t end = ends + 1 + body + 7;
             if (unread.size() < end) break;
-            hear(std::string_view(unread).substr(at, end - at));
+            receive(std::string_view(unread).substr(at, end - at));
             at = end;
         }
         unread.erase(0, at);
@@ -277,18 +279,18 @@ struct Client {
 
     // New messages, as many as may wait, once the Logon was answered.
     void go_on() {
-        while (on && left == SIZE_MAX && begun <= messages && begun - answered < WINDOW && (begun < messages || told.finished == 2)) {
+        while (on && left == SIZE_MAX && begun <= messages && begun - answered < WINDOW && (begun < messages || seen.finished == 2)) {
             sent.push_back(message(begun++));
             write_application(sent.size(), "");
             if (++fresh == each) break_soon();
         }
-        if (on && pictured && !asked && left == SIZE_MAX && begun == messages + 1) {
+        if (on && emptied && !asked && left == SIZE_MAX && begun == messages + 1) {
             begun++;
             write_session("5", "");
         }
     }
 
-    // What the line is waited for: nothing more is read on one that breaks soon.
+    // What the connection is polled for: nothing more is read on one that breaks soon.
     short events() const {
         if (left != SIZE_MAX) return POLLOUT;
         return out.empty() ? POLLIN : POLLIN | POLLOUT;
@@ -308,12 +310,12 @@ void wait(std::vector<Client> &clients, int patience) {
     }
 }
 
-void play(int port, long messages, long each, unsigned seed, long closes, int patience) {
-    Told told;
-    told.closes = closes;
+void run(int port, long messages, long each, unsigned seed, long closes, int patience) {
+    Seen seen;
+    seen.closes = closes;
     std::vector<Client> clients;
-    clients.push_back({"ALPHA", port, '1', messages / 2, each, std::mt19937_64(seed), told});
-    clients.push_back({"DELTA", port + 3, '2', messages / 2, each, std::mt19937_64(seed + 1), told});
+    clients.push_back({"ALPHA", port, '1', messages / 2, each, std::mt19937_64(seed), seen});
+    clients.push_back({"DELTA", port + 3, '2', messages / 2, each, std::mt19937_64(seed + 1), seen});
     auto start = std::chrono::steady_clock::now();
     for (Client &client : clients) client.open();
     while (!clients[0].over || !clients[1].over) {
@@ -323,14 +325,14 @@ void play(int port, long messages, long each, unsigned seed, long closes, int pa
         wait(clients, patience);
     }
     double seconds = std::chrono::duration<double>(std::chrono::steady_clock::now() - start).count();
-    long reports = std::count(told.reports.begin(), told.reports.end(), true);
+    long reports = std::count(seen.reports.begin(), seen.reports.end(), true);
     for (long report = 1; report <= reports; report++) {
-        if (!told.reports[report]) throw std::runtime_error("E" + std::to_string(report) + " was not heard");
+        if (!seen.reports[report]) throw std::runtime_error("E" + std::to_string(report) + " was not received");
     }
-    for (auto &[trade, quantities] : told.trades) {
-        if (quantities.size() != 2 || quantities[0] != quantities[1]) throw std::runtime_error("T" + std::to_string(trade) + " was not told to both");
+    for (auto &[trade, quantities] : seen.trades) {
+        if (quantities.size() != 2 || quantities[0] != quantities[1]) throw std::runtime_error("T" + std::to_string(trade) + " was not received by both");
     }
-    if (!told.trades.empty() && told.trades.rbegin()->first != static_cast<long>(told.trades.size())) {
+    if (!seen.trades.empty() && seen.trades.rbegin()->first != static_cast<long>(seen.trades.size())) {
         throw std::runtime_error("a trade is missing");
     }
     long lines = 0, early = 0, resent = 0, repeats = 0, lost = 0;
@@ -342,7 +344,7 @@ void play(int port, long messages, long each, unsigned seed, long closes, int pa
         lost += client.lost;
     }
     printf("messages %ld breaks %ld early %ld resent %ld repeated %ld reports %ld trades %zu lost %ld seconds %.1f\n", messages, lines - 2, early,
-           resent, repeats, reports, told.trades.size(), lost, seconds);
+           resent, repeats, reports, seen.trades.size(), lost, seconds);
 }
 
 } // namespace
@@ -353,7 +355,7 @@ int main(int count, char **words) {
         return 2;
     }
     try {
-        play(atoi(words[1]), atol(words[2]), atol(words[3]), atoi(words[4]), count == 7 ? atol(words[5]) : 0, count == 7 ? atoi(words[6]) : 10);
+        run(atoi(words[1]), atol(words[2]), atol(words[3]), atoi(words[4]), count == 7 ? atol(words[5]) : 0, count == 7 ? atoi(words[6]) : 10);
     } catch (const Gone &gone) {
         fprintf(stderr, "disconnects: %s\n", gone.what());
         return 3;

@@ -1,5 +1,5 @@
-//! Tests above what they call: of the seats, and of a venue that runs, played by counterparties. They stand apart, since a crate with tests
-//! is proved twice, and in one crate, since a check reads the libraries below anew for each.
+//! Integration tests: the seats between threads, and a venue that runs with its counterparties. One crate of its own,
+//! since a crate with tests is proved twice, and each check reads the libraries below again.
 #![tactic(auto)]
 
 #[cfg(test)]

@@ -11,7 +11,7 @@ const TRIES: u32 = 1_000_000;
 
 const MESSAGES: u32 = 1_000;
 
-// Closes a board, at the second try where the first was refused for memory.
+// Closes a board, at the second try where the first failed to allocate.
 fn close_all<M: Drop>(
     alloc: Global,
     board: Board<M>,
@@ -52,7 +52,8 @@ fn close_one(
     Ok(left.pop().unwrap())
 }
 
-// Hands 7 and 8 over, takes, puts back and clears: how many calls answered as they should before one did not, ten where all did.
+// Hands 7 and 8 over, takes, puts back and clears: how many calls answered as they should before one did not, ten where
+// all did.
 fn through_one_seat(board: &Board<u32>, hand: &mut HandSeat<u32>, take: &mut TakeSeat<u32>) -> u32
     requires hand { hand.old.board ≡ board.now }
     requires take { take.old.board ≡ board.now }
@@ -116,7 +117,7 @@ fn a_message_goes_through_one_seat(rt: HostRuntime) -> Result<(), Fail> {
     Ok(())
 }
 
-// Whether an end tells that nothing is in hand, then 7, then nothing.
+// Whether an end shows nothing in hand, then 7, then nothing.
 fn emits_what_is_in_hand(
     board: &Board<u32>,
     hand: &mut HandSeat<u32>,
@@ -231,7 +232,7 @@ fn two_threads_hand_and_take(rt: HostRuntime) -> Result<(), Fail> {
     Ok(())
 }
 
-// Opens the largest board, at the second try where the first was refused for memory.
+// Opens the largest board, at the second try where the first failed to allocate.
 fn open_all(
     alloc: Global,
 ) -> Result<(Board<usize>, Vec<HandSeat<usize>>, Vec<TakeSeat<usize>>), AllocError>
@@ -243,7 +244,7 @@ fn open_all(
     }
 }
 
-// Takes the message of a seat, and tells whether it is this one.
+// Takes the message of a seat; whether it is this one.
 fn finds(board: &Board<usize>, take: &mut TakeSeat<usize>, message: usize) -> bool
     requires { take.old.board ≡ board.now }
     ensures same { IsSameTaker take.old take.new }
@@ -255,7 +256,7 @@ fn finds(board: &Board<usize>, take: &mut TakeSeat<usize>, message: usize) -> bo
     }
 }
 
-// It passes with any one growth refused too.
+// It passes too where any one allocation fails.
 #[test]
 fn each_seat_has_its_own_message(rt: HostRuntime) -> Result<(), Fail> {
     let alloc = rt.alloc();

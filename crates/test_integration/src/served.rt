@@ -1,4 +1,4 @@
-//! A venue that runs, played by counterparties: over memory, and over TCP.
+//! A venue that runs with its counterparties: over memory, and over TCP.
 
 mod connect;
 mod cues;

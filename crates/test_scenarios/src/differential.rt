@@ -1,4 +1,4 @@
-//! What participants send, through the world and beside that through the sessions alone and the venue alone.
+//! Differential test: frames through the world, and through the sessions alone and the venue alone.
 
 mod apart;
 mod batch;

@@ -6,7 +6,7 @@ use fix_session::{Step, Why};
 use std::alloc::{AllocError, Global};
 use std::fmt::Display;
 
-/// Appends a line that is set in.
+/// Appends an indented line.
 pub fn emit_line(text: &str, emitted: &mut Vec<u8>) -> Result<(), AllocError> {
     emitted.extend_from_slice(b"  ")?;
     emitted.extend_from_slice(text.as_bytes())?;
@@ -39,7 +39,7 @@ pub fn end_line(bytes: &[u8], emitted: &mut Vec<u8>) -> Result<(), AllocError> {
     emitted.extend_from_slice(b"\n")
 }
 
-/// Appends bytes as a line that is set in, with `|` for SOH.
+/// Appends bytes as an indented line, with `|` for SOH.
 pub fn emit_bytes(bytes: &[u8], emitted: &mut Vec<u8>) -> Result<(), AllocError> {
     emitted.extend_from_slice(b"  ")?;
     end_line(bytes, emitted)
@@ -75,13 +75,13 @@ pub fn emit_step(alloc: Global, step: Step, emitted: &mut Vec<u8>) -> Result<(),
     }
 }
 
-/// An answer that can be told.
+/// An answer that has lines of a transcript.
 pub trait Answered {
-    /// Appends the lines that tell it, if there is something to tell.
+    /// Appends its lines, if it has any.
     fn emit(&self, alloc: Global, emitted: &mut Vec<u8>) -> Result<(), AllocError>;
 }
 
-/// Appends the lines that tell an answer, once more where a growth was refused.
+/// Appends the lines of an answer, again where an allocation failed.
 pub fn emit_again<A: Answered>(
     alloc: Global,
     answer: &A,
@@ -97,7 +97,8 @@ pub fn emit_again<A: Answered>(
     Ok(answer.emit(alloc, emitted)?)
 }
 
-/// Takes back the last answer, which begins at `last`, where the one before it is the same; `start` is where the first begins.
+/// Takes back the last answer, which begins at `last`, where the one before it is the same; `start` is where the first
+/// begins.
 pub fn emit_once(emitted: &mut Vec<u8>, start: usize, last: usize) {
     let answers = emitted.get(start..).unwrap_or(&[]);
     let (before, answer) = match answers.split_at_checked(last.saturating_sub(start)) {

@@ -1,15 +1,15 @@
-//! The lines of a part, played one after the other.
+//! The lines of a part, run one after the other.
 
 use crate::refusals::Refusals;
 use anyhow::Result;
 use std::alloc::Global;
 
-/// What the lines of a part are played on.
+/// The state that the lines of a part run on.
 pub trait Part: Sized {
-    /// What the first line is played on.
+    /// The state before the first line.
     fn begin(alloc: Global) -> Result<Self>;
 
-    /// Plays a line that tells no answer, and appends it with what is answered.
+    /// Runs a call, and appends its line and its answers.
     fn run_line(
         &mut self,
         alloc: Global,
@@ -19,7 +19,7 @@ pub trait Part: Sized {
     ) -> Result<()>;
 }
 
-// Plays the lines one after the other; one that tells an answer is passed over.
+// Answers among the lines are skipped.
 fn run_lines<P: Part>(
     alloc: Global,
     part: &mut P,
@@ -35,7 +35,7 @@ fn run_lines<P: Part>(
     Ok(())
 }
 
-/// Appends the lines of a part, with what is answered. It is begun once more where a growth was refused.
+/// Appends the calls of a part and their answers. Its state is made again where an allocation failed.
 pub fn run_part<P: Part + Drop>(
     alloc: Global,
     lines: &str,

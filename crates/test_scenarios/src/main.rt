@@ -1,18 +1,19 @@
-//! Plays a transcript of what is read, written, numbered and answered below the rules of the venue, and of what the venue and a world
-//! are sent and answer, and sees whether it comes out as it is written there.
+//! Scenario tests: runs the calls of a transcript, and compares their answers with those that it states.
 //!
-//! The transcript comes on standard input, in parts: a line `part NAME` begins one, of moments, frames and fields (`bytes`), of what the
-//! dictionary answers (`dictionary`), of what a session has numbered (`store`), of what a session answers (`session`), of files of
-//! participants and of instruments (`files`), of what both books answer (`book`), of what a venue answers (`venue`), of what a world of
-//! events answers (`world`), or of frames that go through a world and beside that through its sessions alone and a venue alone
-//! (`differential`); one without parts is of a world. A line that is set in tells an answer. What is told is played, and the transcript is
-//! written anew with what is answered. Where that is the transcript that came, nothing is written; else the new one is, and the status is
-//! 1. A call that is refused for want of memory ends the program or is told; with the argument `one_refused` one call may be, which is
-//! made once more.
+//! The transcript comes on standard input, in parts. A line `part NAME` begins one: `bytes` (timestamps, frames,
+//! fields), `dictionary`, `store` (what can be sent again), `session`, `files` (of participants and instruments),
+//! `book` (against a reference book), `venue`, `world`, `differential` (frames through a world, and through its
+//! sessions alone and a venue alone). A transcript without parts is one of a world. An indented line is an answer.
+//! Where an answer differs, the transcript is printed with the answers that came, and the status is 1; else nothing is
+//! printed.
 //!
-//! With the argument `feed` what comes is no transcript, but what a counterparty sends: a session hears it, and what was taken is told.
-//! With the argument `timed` it is what the part `differential` has, with its bytes as they are; what came of it is told, and how long it took.
-//! With the arguments of `bench/book` nothing comes: how long requests take in the book and in rooms is told.
+//! A call in which an allocation fails ends the program or is an answer of its own. With the argument `one_refused` one
+//! call may fail so, and is made again.
+//!
+//! With the argument `feed` a counterparty's bytes come instead: a session receives them, and what it took is printed.
+//! With the argument `timed` the lines of a part `differential` come, with their bytes as they are, and its times are
+//! printed too. With the arguments of `bench/book` nothing is read, and the times of requests in the book and in RFQ
+//! rooms are printed.
 #![tactic(auto)]
 
 mod book;
@@ -36,7 +37,7 @@ mod world;
 use anyhow::{Result, bail, ensure};
 use book::measuring::{Size, emit, emit_rooms};
 use differential::running::emitted_of;
-use parts::emitted_anew;
+use parts::emitted_transcript;
 use refusals::Refusals;
 use session::feeding::feed;
 use std::io::Write;
@@ -44,7 +45,7 @@ use std::{env, io};
 
 fn scenario(rt: &HostRuntime, refusals: &mut Refusals) -> Result<()> {
     let transcript = io::read_to_string(rt.alloc(), rt.stdin())?;
-    let emitted = emitted_anew(rt, transcript.as_str(), refusals)?;
+    let emitted = emitted_transcript(rt, transcript.as_str(), refusals)?;
     if emitted.as_slice() != transcript.as_bytes() {
         rt.stdout().write_all(&emitted)?;
     }
@@ -68,7 +69,7 @@ fn emit_timed(rt: &HostRuntime) -> Result<()> {
     Ok(())
 }
 
-// The numbers that stand behind the first word.
+// The numbers after the first word.
 fn numbers_behind(rt: &HostRuntime) -> Result<Vec<u64>> {
     let mut numbers = Vec::new(rt.alloc());
     for word in env::args(rt)?.skip(2) {

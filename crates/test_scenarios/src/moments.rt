@@ -13,12 +13,12 @@ pub fn start() -> Moment {
     }
 }
 
-/// The moment of so many milliseconds.
+/// The moment this many milliseconds after 1970.
 pub fn moment_in(text: &str) -> Option<Moment> {
     Moment::of_ms(text.parse::<u64>().ok()?)
 }
 
-/// The moment so many milliseconds after the start.
+/// The moment this many milliseconds after the start.
 pub fn moment_after(text: &str) -> Option<Moment> {
     let after = text.parse::<u64>().ok()?;
     Moment::of_ms(START.checked_add(after)?)

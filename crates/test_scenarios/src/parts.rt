@@ -12,10 +12,9 @@ use anyhow::{Result, bail};
 use fix_session::Session;
 use resend_store::Store;
 
-/// What a line begins with that begins a part; behind it stands what is played there.
+/// The first word of a line that begins a part; the part's name follows.
 const BEGINS: &str = "part ";
 
-// Plays the lines of a part.
 fn run_part(
     rt: &HostRuntime,
     name: &str,
@@ -33,7 +32,7 @@ fn run_part(
         "book" => book::line::run_part(rt, lines, emitted),
         "venue" => lines::run_part::<Scenario>(alloc, lines, emitted, refusals),
         "world" => lines::run_part::<Outcome>(alloc, lines, emitted, refusals),
-        "beside" => differential::running::run_part(rt, lines, emitted),
+        "differential" => differential::running::run_part(rt, lines, emitted),
         _ => bail!("no part: {name}"),
     }
 }
@@ -52,8 +51,8 @@ fn append_parts(
     Ok(())
 }
 
-/// The transcript with what is answered, part by part. One that does not begin with a part is one of a world.
-pub fn emitted_anew(
+/// The transcript with the answers that came, part by part. One that does not begin with a part is one of a world.
+pub fn emitted_transcript(
     rt: &HostRuntime,
     transcript: &str,
     refusals: &mut Refusals,

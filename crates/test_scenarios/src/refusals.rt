@@ -1,9 +1,10 @@
-//! The refusals for want of memory that a run may meet.
+//! The allocation failures that a run may meet.
 
 use anyhow::{Result, ensure};
 use std::alloc::AllocError;
 
-/// How many calls may still be refused for want of memory: as many as growths are, so that none is refused without that cause.
+/// How many more calls may fail to allocate: as many as allocations that were made to fail, so that no call fails
+/// without that cause.
 #[derive(Drop)]
 pub struct Refusals {
     left: u32,
@@ -14,26 +15,26 @@ impl Refusals {
         Refusals { left }
     }
 
-    /// Admits one more refused call. False where no growth can have been refused.
+    /// Admits one more failed call. False where no allocation can have failed.
     pub fn admit(&mut self) -> bool {
         let admitted = self.left > 0;
         self.left = self.left.saturating_sub(1);
         admitted
     }
 
-    /// One more call was refused. An error where no growth can have been.
+    /// One more call failed. An error where no allocation can have failed.
     pub fn one_more(&mut self) -> Result<()> {
-        ensure!(self.admit(), "a call was refused, and no growth");
+        ensure!(self.admit(), "a call failed, and no allocation did");
         Ok(())
     }
 }
 
-/// Why a call came to no answer.
+/// Why a call has no answer.
 #[derive(Clone, Copy, Drop)]
 pub enum Trouble {
-    /// A growth was refused, and the call changed nothing but the text and what is told.
+    /// An allocation failed, and the call changed nothing but the text and what was emitted.
     NoMemory,
-    /// A growth was refused, and what should have stayed did not.
+    /// An allocation failed, and the call changed what it was to leave.
     Changed,
 }
 

@@ -1,4 +1,4 @@
-//! What a session answers, and what it takes of what comes.
+//! Scenarios of a session.
 
 mod emitting;
 pub mod feeding;

@@ -1,4 +1,4 @@
-//! Texts that stand in more than one part of a transcript.
+//! Texts of several parts of a transcript.
 
 use crate::refusals::Refusals;
 use anyhow::{Result, bail};
@@ -60,7 +60,7 @@ fn write(words: &str, line: &str, emitted: &mut Vec<u8>) -> Result<(), AllocErro
     emitted.extend_from_slice(b"\n")
 }
 
-/// Appends words and a line, once more where a growth was refused.
+/// Appends words and a line, again where an allocation failed.
 pub fn write_again(
     words: &str,
     line: &str,
@@ -76,7 +76,7 @@ pub fn write_again(
     Ok(write(words, line, emitted)?)
 }
 
-/// The first word of a text, and what stands behind it.
+/// The first word of a text, and the rest.
 pub fn word_in(text: &str) -> (&str, &str) {
     text.split_once(' ').unwrap_or((text, ""))
 }

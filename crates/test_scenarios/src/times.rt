@@ -10,7 +10,8 @@ pub fn since(rt: &HostRuntime, start: Instant) -> Result<u64> {
     Ok(u64::try_from(spent.as_nanos()).unwrap_or(u64::MAX))
 }
 
-/// The middle time of a kind, so that what the machine does beside does not count. A turn is what each kind took, by its place.
+/// The median time of a kind, on which other work of the machine has little influence. A turn has the time of each
+/// kind, by its place.
 pub fn middle_of<const N: usize>(
     alloc: Global,
     turns: &[[u64; N]],

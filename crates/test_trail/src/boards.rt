@@ -7,7 +7,7 @@ use anyhow::{Result, anyhow, ensure};
 use intake_seats::{Board, HandSeat, TakeSeat, Unclosed};
 use std::mem::drop;
 
-/// So many seats.
+/// How many seats there are.
 const SEATS: usize = 5;
 
 /// A board of numbers, with all its ends.
@@ -20,7 +20,7 @@ struct OpenBoard {
     ghost own_takes: { AreTakes board takes.items },
 }
 
-// A new board, made once more where a growth was refused.
+// A new board, made again where an allocation failed.
 fn open_board(scenario: &mut Scenario) -> Result<OpenBoard> {
     if let Ok((board, hands, takes)) = Board::<u64>::new(scenario.alloc, SEATS) {
         return Ok(OpenBoard {
@@ -50,7 +50,7 @@ fn hand_over(board: &Board<u64>, hands: &mut Vec<HandSeat<u64>>, place: usize, n
 }
 
 // Closes the board that a refused call handed back. Its seats are as they were: what is full takes nothing.
-fn close_anew(scenario: &mut Scenario, unclosed: Unclosed<u64>) -> Result<Vec<Option<u64>>>
+fn close_again(scenario: &mut Scenario, unclosed: Unclosed<u64>) -> Result<Vec<Option<u64>>>
     requires { AreHands unclosed.board unclosed.hands.items × AreTakes unclosed.board unclosed.takes.items }
 {
     let Unclosed {
@@ -72,7 +72,7 @@ fn close_anew(scenario: &mut Scenario, unclosed: Unclosed<u64>) -> Result<Vec<Op
     }
 }
 
-// Closes a board, once more where a growth was refused.
+// Closes a board, again where an allocation failed.
 fn close(scenario: &mut Scenario, open: OpenBoard) -> Result<Vec<Option<u64>>> {
     let OpenBoard {
         board,
@@ -81,7 +81,7 @@ fn close(scenario: &mut Scenario, open: OpenBoard) -> Result<Vec<Option<u64>>> {
     } = open;
     match board.close(scenario.alloc, hands, takes) {
         Ok(left) => Ok(left),
-        Err(unclosed) => close_anew(scenario, unclosed),
+        Err(unclosed) => close_again(scenario, unclosed),
     }
 }
 

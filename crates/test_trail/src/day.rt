@@ -20,7 +20,7 @@ use venue_core::Venue;
 use venue_rules::Keep;
 use venue_worker::{Parts, Queue, Worker};
 
-/// So many replies each item owes each participant, in order.
+/// How many replies each item owes each participant, in order.
 const REPLIES: [[usize; COUNT]; 7] = [
     [0, 1, 1, 1, 1],
     [0, 1, 0, 0, 0],
@@ -34,27 +34,27 @@ const REPLIES: [[usize; COUNT]; 7] = [
 /// The trade is made by the item of this number, counted from 1.
 const TRADES: usize = 6;
 
-/// The line that tells it.
+/// The line of the trade.
 const LINE: &str =
     "T1 rfq IRS5Y 100 @ 2.5 buyer ALPHA seller DELTA room R1 asked BETA,GAMMA,DELTA,EPSILON first Q1 shown none\n";
 
-/// So many times the sessions collect what is in their seats: none is owed more replies in a day, and its mark behind
-/// them.
+/// How often the sessions collect what is in their seats: none is owed more replies in a day, and the sentinel of its
+/// cut after them.
 const COLLECTIONS: usize = 8;
 
-/// So many rounds a dismissal makes: a participant is cut once half a second has passed, and each answer of the clock
+/// How many rounds a shutdown makes: a participant is cut once half a second has passed, and each answer of the clock
 /// is a millisecond later.
 const ROUNDS: u64 = 600;
 
 /// What a day came to.
 #[derive(Clone, Copy)]
 pub struct Day {
-    /// So many items, and ticks behind the last, were in the trail as it began, if the rows were these and could be
+    /// How many items, and ticks after the last, were in the trail as it began, if the rows were these and could be
     /// read.
     pub found: Option<usize>,
-    /// Whether the trades of these were told as they should be.
+    /// Whether the trades of these were printed as they should be.
     pub is_emitted: bool,
-    /// So many items were answered at its end, with those that were found; none where an answer was not what it should
+    /// How many items were answered at its end, with those that were found; none where an answer was not what it should
     /// be.
     pub answered: Option<usize>,
 }
@@ -66,7 +66,7 @@ pub const NOT_BEGUN: Day = Day {
     answered: Some(0),
 };
 
-// So many replies the items between two places owe the participant at a place.
+// How many replies the items between two places owe the participant at a place.
 fn owed_to(participant: usize, first: usize, last: usize) -> usize {
     let mut count = 0usize;
     for (place, replies) in REPLIES.iter().enumerate() {
@@ -77,7 +77,8 @@ fn owed_to(participant: usize, first: usize, last: usize) -> usize {
     count
 }
 
-// Whether each session collected what it was owed for the items between two places, and behind that its mark where it was to end.
+// Whether each session collected what it was owed for the items between two places, and after that the sentinel where
+// it was to end.
 fn have_all(sessions: &Sessions<'_>, first: usize, last: usize, are_cut: bool) -> bool {
     let mut have = true;
     for place in 0..COUNT {
@@ -113,8 +114,8 @@ fn takes<K: Keep + Drop>(
     takes_a_turn(alloc, worker, sent.moment()).ok()
 }
 
-// Hands the items behind the first so many over, one by one, up to the first that the trail refuses: how many there are
-// before that. The sessions collect nothing meanwhile, so that what each is owed waits in its seat and its queue.
+// Hands over the items from place `first` on, one by one, up to the first that the trail refuses: how many there are
+// before that. The sessions collect nothing until then, so what each is owed waits in its seat and its queue.
 fn take_each<K: Keep + Drop>(
     alloc: Global,
     worker: &mut Worker<'_, K>,
@@ -151,8 +152,8 @@ fn give_all<K: Keep + Drop>(
     }
 }
 
-// The items behind the first so many are answered, up to the first that the trail refuses: how many are answered then,
-// if each session was given what it was owed for these, and, where the trail has refused a row, its mark.
+// The items from place `first` on are answered, up to the first that the trail refuses: how many are answered then, if
+// each session was given what it was owed for these, and, where the trail has refused a row, its sentinel.
 fn answer_each<K: Keep + Drop>(
     alloc: Global,
     worker: &mut Worker<'_, K>,
@@ -188,7 +189,7 @@ fn left_of<K: Keep + Drop>(worker: Worker<'_, K>, answered: Option<usize>) -> (K
     (keeper, if are_served { answered } else { None })
 }
 
-// Has a worker over these boards answer the items behind the first so many.
+// Has a worker over these boards answer the items from place `first` on.
 fn answer_over<S: Alter + Drop>(
     alloc: Global,
     journal: Journal<S>,
@@ -252,7 +253,7 @@ fn answer_rest<S: Alter + Drop>(
     answered
 }
 
-// Whether the trades of a venue are told as they should be after so many of the items.
+// Whether the trades of a venue are printed as they should be after this many of the items.
 fn is_emitted(alloc: Global, venue: &Venue, items: usize) -> bool {
     let mut lines = Vec::new(alloc);
     let wanted = if TRADES <= items { LINE } else { "" };

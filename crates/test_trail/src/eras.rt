@@ -18,7 +18,7 @@ fn sender_named(word: &str) -> Result<(u32, u32)> {
     Ok((who.parse::<u32>()?, era.parse::<u32>()?))
 }
 
-// Records the next item as of this sender, by the trait that a worker uses, and tells the fault, if there is one.
+// Records the next item as of this sender, by the trait that a worker uses, and prints the fault, if there is one.
 fn record_as<S: Alter>(scenario: &mut Scenario, trail: &mut Trail<S>, word: &str) -> Result<()> {
     let (who, era) = sender_named(word)?;
     let Some(n) = trail.len().checked_add(1) else {
@@ -46,7 +46,7 @@ fn record_each<S: Alter>(scenario: &mut Scenario, trail: &mut Trail<S>, words: &
     Ok(())
 }
 
-// Opens a trail, and tells it, or the fault.
+// Opens a trail, and prints it, or the fault.
 fn open_again<S: Alter + Drop>(
     scenario: &mut Scenario,
     conn: Connection<S>,
@@ -65,7 +65,7 @@ fn open_again<S: Alter + Drop>(
     }
 }
 
-/// The items are recorded as of these senders; what is seen is told, and again once the trail was opened anew.
+/// The items are recorded as of these senders; the trail is printed, and again once it was reopened.
 pub fn run_eras(scenario: &mut Scenario, words: &str) -> Result<()> {
     let files = files(scenario)?;
     let conn = empty(scenario)?;

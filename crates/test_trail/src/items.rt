@@ -20,7 +20,7 @@ pub struct Sent {
     pub era: u32,
     /// Its number (34).
     pub number: u32,
-    /// So many milliseconds after the start.
+    /// Milliseconds after the start.
     pub later: u64,
     pub text: &'static str,
 }
@@ -37,8 +37,8 @@ impl Sent {
     }
 }
 
-/// A request for quotes to four participants, three quotes of which the first is off tick, a response that is late, one that trades,
-/// and one too many.
+/// A request for quotes to four participants, three quotes of which the first is off tick, a response that is late, one
+/// that trades, and one too many.
 pub const ITEMS: [Sent; 7] = [
     Sent {
         who: 1,
@@ -132,7 +132,7 @@ pub fn row_of(alloc: Global, n: u64, sent: &Sent) -> Result<TrailRow, AllocError
     })
 }
 
-/// The row of an item, made once more where a growth was refused.
+/// The row of an item, made again where an allocation failed.
 pub fn new_row(scenario: &mut Scenario, n: u64, sent: &Sent) -> Result<TrailRow>
     ensures { IfOk result (λ row. row.n ≡ n) }
 {
@@ -193,7 +193,7 @@ pub fn message_of(alloc: Global, sent: &Sent) -> Result<Option<Item>, AllocError
     }))
 }
 
-// The same, made once more where a growth was refused.
+// The same, made again where an allocation failed.
 fn message_again(scenario: &mut Scenario, sent: &Sent) -> Result<Option<Item>> {
     if let Ok(message) = message_of(scenario.alloc, sent) {
         return Ok(message);
@@ -202,7 +202,7 @@ fn message_again(scenario: &mut Scenario, sent: &Sent) -> Result<Option<Item>> {
     Ok(message_of(scenario.alloc, sent)?)
 }
 
-/// The message as its session hands it over, made once more where a growth was refused.
+/// The message as its session hands it over, made again where an allocation failed.
 pub fn new_message(scenario: &mut Scenario, sent: &Sent) -> Result<Item> {
     match message_again(scenario, sent)? {
         Some(message) => Ok(message),

@@ -48,7 +48,7 @@ fn is_empty<S: Alter>(conn: &Connection<S>) -> bool {
 }
 
 // Makes a trail in the database that a refused call handed back.
-fn create_anew<S: Alter + Drop>(
+fn create_again<S: Alter + Drop>(
     scenario: &mut Scenario,
     fault: TrailFault,
     conn: Connection<S>,
@@ -68,7 +68,7 @@ fn create_anew<S: Alter + Drop>(
     }
 }
 
-/// Makes a trail, once more where a growth was refused: the database then lists nothing, as before.
+/// Makes a trail, again where an allocation failed: the database then lists nothing, as before.
 pub fn create<S: Alter + Drop>(
     scenario: &mut Scenario,
     conn: Connection<S>,
@@ -76,11 +76,11 @@ pub fn create<S: Alter + Drop>(
 ) -> Result<Trail<S>> {
     match Trail::create(scenario.alloc, conn, files) {
         Ok(trail) => Ok(trail),
-        Err((fault, conn)) => create_anew(scenario, fault, conn, files),
+        Err((fault, conn)) => create_again(scenario, fault, conn, files),
     }
 }
 
-// Records the next row, once more where a growth was refused: what is seen of the trail is then as before.
+// Records the next row, again where an allocation failed: what is seen of the trail is then as before.
 fn record<S: Alter>(scenario: &mut Scenario, trail: &mut Trail<S>, row: &TrailRow) -> Result<()>
     requires { IsTrue (is_readable S.Store trail.old) → row.now.n ≡ length (kept_rows S.Store trail.old) + 1 }
 {
@@ -112,7 +112,7 @@ pub fn record_item<S: Alter>(
     recorded
 }
 
-// The rows, read once more where a growth was refused: what is seen of the trail is then as before.
+// The rows, read again where an allocation failed: what is seen of the trail is then as before.
 fn rows<S: Alter>(scenario: &mut Scenario, trail: &mut Trail<S>) -> Result<Vec<TrailRow>> {
     let before = seen_of(trail);
     let fault = match trail.rows() {
@@ -127,7 +127,6 @@ fn rows<S: Alter>(scenario: &mut Scenario, trail: &mut Trail<S>) -> Result<Vec<T
     }
 }
 
-/// Tells rows.
 pub fn emit_rows(scenario: &mut Scenario, rows: &[TrailRow]) -> Result<()> {
     for row in rows {
         scenario.emit_row(row)?;
@@ -135,7 +134,7 @@ pub fn emit_rows(scenario: &mut Scenario, rows: &[TrailRow]) -> Result<()> {
     Ok(())
 }
 
-/// Tells what is seen of a trail but its rows: its last row, how often it refused, its files and its delays.
+/// Prints a trail without its rows: its last row, how often it refused, its files and its delays.
 pub fn emit_seen<S: Alter>(scenario: &mut Scenario, trail: &Trail<S>, files: &Files) -> Result<()> {
     let seen = seen_of(trail);
     scenario.emit("rows", seen.rows)?;
@@ -162,7 +161,7 @@ pub fn emit_trail<S: Alter>(
     emitted
 }
 
-// Records the worked items, the last of a later era, and tells what is seen after each.
+// Records the worked items, the last of a later era, and prints the trail after each.
 fn record_items<S: Alter>(scenario: &mut Scenario, trail: &mut Trail<S>) -> Result<()> {
     for (place, sent) in ITEMS.iter().enumerate() {
         let era = if place == 6 { 2 } else { 1 };
@@ -172,7 +171,7 @@ fn record_items<S: Alter>(scenario: &mut Scenario, trail: &mut Trail<S>) -> Resu
     Ok(())
 }
 
-// Tells a new trail, fills it, and tells it again.
+// Prints a new trail, fills it, and prints it again.
 fn fill<S: Alter>(scenario: &mut Scenario, trail: &mut Trail<S>, files: &Files) -> Result<()> {
     emit_trail(scenario, trail, files)?;
     record_items(scenario, trail)?;

@@ -11,17 +11,17 @@ use crate::stops::run_stops;
 use crate::working::run_working;
 use anyhow::{Result, bail};
 
-// Plays what a line names by its first word, with the others.
+// Runs the scenario of this name, with its other words.
 fn run_by(scenario: &mut Scenario, word: &str, rest: &str) -> Result<()> {
     match word {
         "trail" => run_steps(scenario, rest),
         "eras" => run_eras(scenario, rest),
         "stop" => run_stops(scenario, rest),
-        _ => bail!("no play: {word}"),
+        _ => bail!("no scenario: {word}"),
     }
 }
 
-// Plays what a line names.
+// Runs the scenario of a line.
 fn run_named(scenario: &mut Scenario, line: &str) -> Result<()> {
     match line {
         "keep" => run_keeping(scenario),
@@ -37,7 +37,7 @@ fn run_named(scenario: &mut Scenario, line: &str) -> Result<()> {
     }
 }
 
-// Plays a line, and appends it with what is seen; a line that tells an answer is passed over.
+// Runs a line, and appends it with its answers; a line that is an answer is skipped.
 fn run_line(scenario: &mut Scenario, line: &str) -> Result<()> {
     if line.starts_with("  ") {
         return Ok(());
@@ -49,7 +49,6 @@ fn run_line(scenario: &mut Scenario, line: &str) -> Result<()> {
     run_named(scenario, line)
 }
 
-/// Plays all lines.
 pub fn run_lines(scenario: &mut Scenario, transcript: &str) -> Result<()> {
     for line in transcript.lines() {
         run_line(scenario, line)?;

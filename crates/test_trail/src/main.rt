@@ -1,11 +1,11 @@
-//! Plays a trail, a venue that begins from it, boards of seats and a worker over it, and sees whether they answer as it is written; of a
-//! trail also what bad files, other eras and a stop at each call leave of it.
+//! Scenario tests of a trail, a venue that begins from it, boards of seats and a worker over it; of a trail also bad
+//! files, other eras and a stop at each call.
 //!
-//! The transcript comes on standard input. A line that is set in tells an answer, an empty line and one that begins with `#` are passed
-//! over, and any other line names a play. The plays are played, and the transcript is written anew with what is seen. Where that is the
-//! transcript that came, nothing is written; else the new one is, and the status is 1. A call that is refused for want of memory ends the
-//! program; with the argument `one_refused` one call may be, which is made once more. With the words `time ROWS` nothing is played: a trail
-//! is made in memory, and it is told how long that many rows take, one transaction each.
+//! The transcript comes on standard input. An indented line is an answer, an empty line and one that begins with `#`
+//! are skipped, and any other line names a scenario. Where an answer differs, the transcript is printed with the
+//! answers that came, and the status is 1; else nothing is printed. A call that fails to allocate ends the program;
+//! with the argument `one_refused` one call may fail so, and is made again. With the words `time ROWS` a trail is made
+//! in memory instead, and the time of that many rows is printed, one transaction each.
 #![tactic(auto)]
 
 mod boards;
@@ -32,7 +32,7 @@ use std::io::Write;
 use std::{env, io};
 use timing::time;
 
-/// Writes what is seen where it is not what was written there.
+/// Prints the answers where they are not those of the transcript.
 fn emit(rt: &HostRuntime, scenario: &Scenario, transcript: &str) -> Result<()> {
     let is_same = scenario.emitted() == transcript.as_bytes();
     if !is_same {
@@ -42,7 +42,7 @@ fn emit(rt: &HostRuntime, scenario: &Scenario, transcript: &str) -> Result<()> {
     Ok(())
 }
 
-/// Times so many rows, where the word is there.
+/// Times this many rows, where the words ask for it.
 fn time_rows(rt: &HostRuntime, rows: Option<String>) -> Result<()> {
     let Some(rows) = rows else {
         return Err(anyhow!("usage: test_trail time ROWS"));
@@ -53,7 +53,7 @@ fn time_rows(rt: &HostRuntime, rows: Option<String>) -> Result<()> {
     Ok(())
 }
 
-/// How many growths may be refused in the play that the words ask for; none where they ask for no play, and what they ask for is done.
+/// How many allocations may fail in the scenarios; none where the words ask for something else, which is done.
 fn refusals_asked(rt: &HostRuntime) -> Result<Option<u32>> {
     let mut words = env::args(rt)?.skip(1);
     let Some(word) = words.next() else {

@@ -22,7 +22,7 @@ const OWN_DELAY: &str =
 /// The usual delay between linked orders, in milliseconds.
 const DEFAULT_DELAY: u64 = 15_000;
 
-// A file's text, filled up with a comment to so many bytes.
+// A file's text, filled up with a comment to this many bytes.
 fn filled(alloc: Global, text: &str, length: usize) -> Result<FileText, AllocError> {
     let mut bytes = Vec::from_slice(alloc, text.as_bytes())?;
     for _ in text.len()..length {
@@ -31,7 +31,7 @@ fn filled(alloc: Global, text: &str, length: usize) -> Result<FileText, AllocErr
     Ok(FileText::from_vec(bytes))
 }
 
-// The texts of both files, each filled up to so many bytes.
+// The texts of both files, each filled up to this many bytes.
 fn filled_files(alloc: Global, instruments: &str, length: usize) -> Result<Files, AllocError> {
     let participants = filled(alloc, PARTICIPANTS, length)?;
     let instruments = filled(alloc, instruments, length)?;
@@ -46,8 +46,8 @@ pub fn make_files(alloc: Global) -> Result<Files, AllocError> {
     filled_files(alloc, INSTRUMENTS, 0)
 }
 
-/// The texts of both files that a word names: the usual ones, with no instruments, with a delay of an instrument's own, with instruments
-/// that their reader refuses, or filled up with a comment to so many bytes.
+/// The texts of both files that a word names: the usual ones, with no instruments, with a delay of an instrument's own,
+/// with instruments that their reader refuses, or filled up with a comment to this many bytes.
 pub fn files_named(alloc: Global, name: &str) -> Result<Files> {
     let (instruments, length) = match name {
         "usual" => (INSTRUMENTS, 0),
@@ -59,7 +59,7 @@ pub fn files_named(alloc: Global, name: &str) -> Result<Files> {
     Ok(filled_files(alloc, instruments, length)?)
 }
 
-/// The texts of both files, made once more where a growth was refused.
+/// The texts of both files, made again where an allocation failed.
 pub fn files(scenario: &mut Scenario) -> Result<Files> {
     if let Ok(files) = make_files(scenario.alloc) {
         return Ok(files);
@@ -68,14 +68,14 @@ pub fn files(scenario: &mut Scenario) -> Result<Files> {
     Ok(make_files(scenario.alloc)?)
 }
 
-/// What both files tell.
+/// The content of both files.
 #[derive(Drop)]
 pub struct Market {
     pub participants: Participants,
     pub instruments: Instruments,
 }
 
-/// What both files tell.
+/// The content of both files.
 pub fn make_market(alloc: Global) -> Result<Market, AllocError> {
     let participants = fixture_participants(alloc)?;
     let instruments = fixture_instruments(alloc, DEFAULT_DELAY)?;
@@ -85,7 +85,7 @@ pub fn make_market(alloc: Global) -> Result<Market, AllocError> {
     })
 }
 
-/// What both files tell, made once more where a growth was refused.
+/// The content of both files, made again where an allocation failed.
 pub fn both_read(scenario: &mut Scenario) -> Result<Market> {
     if let Ok(market) = make_market(scenario.alloc) {
         return Ok(market);
@@ -94,7 +94,7 @@ pub fn both_read(scenario: &mut Scenario) -> Result<Market> {
     Ok(make_market(scenario.alloc)?)
 }
 
-/// An empty database in memory, made once more where a growth was refused.
+/// An empty database in memory, made again where an allocation failed.
 pub fn empty(scenario: &mut Scenario) -> Result<Connection<MemStore>> {
     if let Ok(conn) = Connection::open_in_memory(scenario.alloc) {
         return Ok(conn);

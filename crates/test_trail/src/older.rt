@@ -72,7 +72,7 @@ pub fn write_older<S: Alter>(conn: &mut Connection<S>, files: &Files, version: i
     write_head(conn, files, version) && write_items(conn)
 }
 
-// A database with such a trail, or none where a growth was refused.
+// A database with such a trail, or none where an allocation failed.
 fn older_once(alloc: Global, files: &Files, version: i64) -> Option<Connection<MemStore>> {
     let Ok(mut conn) = Connection::open_in_memory(alloc) else {
         return None;
@@ -84,7 +84,7 @@ fn older_once(alloc: Global, files: &Files, version: i64) -> Option<Connection<M
     None
 }
 
-// A database with such a trail, written once more where a growth was refused.
+// A database with such a trail, written again where an allocation failed.
 fn older(scenario: &mut Scenario, files: &Files, version: i64) -> Result<Connection<MemStore>> {
     if let Some(conn) = older_once(scenario.alloc, files, version) {
         return Ok(conn);
@@ -97,7 +97,7 @@ fn older(scenario: &mut Scenario, files: &Files, version: i64) -> Result<Connect
 }
 
 // Migrates the trail in the database that a refused call handed back.
-fn migrate_anew<S: Alter + Drop>(
+fn migrate_again<S: Alter + Drop>(
     scenario: &mut Scenario,
     fault: TrailFault,
     mut conn: Connection<S>,
@@ -117,16 +117,16 @@ fn migrate_anew<S: Alter + Drop>(
     }
 }
 
-// Migrates a trail, once more where a growth was refused: the database then has the tables and the items that it had.
+// Migrates a trail, again where an allocation failed: the database then has the tables and the items that it had.
 fn migrate<S: Alter + Drop>(scenario: &mut Scenario, conn: Connection<S>) -> Result<Connection<S>> {
     let tables = conn.schema().tables.len();
     match Trail::migrate(scenario.alloc, conn) {
         Ok(conn) => Ok(conn),
-        Err((fault, conn)) => migrate_anew(scenario, fault, conn, tables),
+        Err((fault, conn)) => migrate_again(scenario, fault, conn, tables),
     }
 }
 
-// Tells what a migrated trail is seen as.
+// Prints a migrated trail.
 fn emit_migrated<S: Alter + Drop>(
     scenario: &mut Scenario,
     conn: Connection<S>,

@@ -24,7 +24,7 @@ pub fn looked_at<S: Alter>(conn: &mut Connection<S>) -> (Option<i64>, usize) {
 }
 
 // Opens a trail in the database that a refused call handed back.
-fn open_anew<S: Alter + Drop>(
+fn open_again<S: Alter + Drop>(
     scenario: &mut Scenario,
     fault: TrailFault,
     mut conn: Connection<S>,
@@ -44,7 +44,7 @@ fn open_anew<S: Alter + Drop>(
     }
 }
 
-/// Opens a trail of seven items, once more where a growth was refused: the database then keeps what it did.
+/// Opens a trail of seven items, again where an allocation failed: the database then keeps what it did.
 pub fn open<S: Alter + Drop>(
     scenario: &mut Scenario,
     conn: Connection<S>,
@@ -52,11 +52,11 @@ pub fn open<S: Alter + Drop>(
 ) -> Result<Trail<S>> {
     match Trail::open(scenario.alloc, conn, given) {
         Ok(trail) => Ok(trail),
-        Err((fault, conn)) => open_anew(scenario, fault, conn, given),
+        Err((fault, conn)) => open_again(scenario, fault, conn, given),
     }
 }
 
-// Opens a trail, and tells it.
+// Opens a trail, and prints it.
 fn open_and_emit<S: Alter + Drop>(
     scenario: &mut Scenario,
     conn: Connection<S>,

@@ -1,4 +1,4 @@
-//! What a run tells, and the refusals that it may meet.
+//! What a scenario prints, and the allocation failures that it may meet.
 
 use anyhow::{Result, bail, ensure};
 use sef_moment::Moment;
@@ -14,8 +14,8 @@ pub fn start_moment() -> Moment {
     Moment::of_ms(START).unwrap()
 }
 
-/// The transcript as it is written anew, and how many calls may still be refused for want of memory: as many as growths are, so that
-/// none is refused without that cause.
+/// The transcript with the answers that came, and how many more calls may fail to allocate: as many as allocations that
+/// were made to fail, so that no call fails without that cause.
 #[derive(Drop)]
 pub struct Scenario {
     pub alloc: Global,
@@ -29,7 +29,7 @@ fn write(line: &str, emitted: &mut Vec<u8>) -> Result<(), AllocError> {
     emitted.extend_from_slice(b"\n")
 }
 
-// Appends a line that is set in: words and a number.
+// Appends an indented line: words and a number.
 fn write_number(
     alloc: Global,
     words: &str,
@@ -58,7 +58,7 @@ fn write_row(alloc: Global, row: &TrailRow, emitted: &mut Vec<u8>) -> Result<(),
     emitted.extend_from_slice(b"\n")
 }
 
-/// What it is told of, unless telling it failed.
+/// The lines of it, unless printing them failed.
 pub fn if_emitted<T: Drop>(emitted: Result<()>, value: T) -> Result<T> {
     match emitted {
         Ok(()) => Ok(value),
@@ -82,25 +82,25 @@ impl Scenario {
         &self.emitted
     }
 
-    /// A call was refused. An error where no growth can have been.
+    /// A call failed. An error where no allocation can have failed.
     pub fn refused(&mut self) -> Result<()> {
-        ensure!(self.left > 0, "a call was refused, and no growth");
+        ensure!(self.left > 0, "a call failed, and no allocation did");
         self.left -= 1;
         Ok(())
     }
 
-    /// A call was refused by this fault, and what its caller sees is as before, or not. An error where the fault is another than want
-    /// of memory.
+    /// A call failed with this fault, and what its caller sees is as before, or not. An error where the fault is no
+    /// allocation failure.
     pub fn met(&mut self, fault: &TrailFault, is_as_before: bool) -> Result<()> {
         match fault {
             TrailFault::NoMemory => {}
-            _ => bail!("another fault than want of memory"),
+            _ => bail!("a fault that is no allocation failure"),
         }
         ensure!(is_as_before, "a refused call changed what is seen");
         self.refused()
     }
 
-    /// Appends a line, once more where a growth was refused.
+    /// Appends a line, again where an allocation failed.
     pub fn echo(&mut self, line: &str) -> Result<()> {
         let before = self.emitted.len();
         if write(line, &mut self.emitted).is_ok() {
@@ -111,7 +111,7 @@ impl Scenario {
         Ok(write(line, &mut self.emitted)?)
     }
 
-    /// Tells a number by words, once more where a growth was refused.
+    /// Prints words and a number, again where an allocation failed.
     pub fn emit(&mut self, words: &str, number: u64) -> Result<()> {
         let before = self.emitted.len();
         if write_number(self.alloc, words, number, &mut self.emitted).is_ok() {
@@ -122,13 +122,13 @@ impl Scenario {
         Ok(write_number(self.alloc, words, number, &mut self.emitted)?)
     }
 
-    /// Tells a fault. No growth may be refused.
+    /// Prints a fault. No allocation may fail.
     pub fn emit_fault(&mut self, fault: &TrailFault) -> Result<()> {
         let line = format!(in self.alloc; "  {fault}")?;
         self.echo(line.as_str())
     }
 
-    /// Tells a row, once more where a growth was refused.
+    /// Prints a row, again where an allocation failed.
     pub fn emit_row(&mut self, row: &TrailRow) -> Result<()> {
         let before = self.emitted.len();
         if write_row(self.alloc, row, &mut self.emitted).is_ok() {

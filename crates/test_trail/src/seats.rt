@@ -7,7 +7,7 @@ use intake_seats::{Board, HandSeat, TakeSeat};
 use std::alloc::{AllocError, Global};
 use venue_worker::Outgoing;
 
-/// So many participants.
+/// How many participants there are.
 pub const COUNT: usize = 5;
 
 /// Both boards.
@@ -51,16 +51,16 @@ pub fn make_boards(alloc: Global) -> Result<(Boards, Ends), AllocError>
 enum Found {
     Nothing,
     Reply,
-    /// The mark that the session's line is to be dropped.
+    /// The sentinel of a cut: the session's connection is to be dropped.
     CutToken,
 }
 
-/// What a session collected: so many replies, and its marks.
+/// What a session collected: how many replies and sentinels.
 #[derive(Clone, Copy)]
 pub struct Collected {
     replies: usize,
     cut_tokens: usize,
-    /// A reply came behind a mark.
+    /// A reply came after a sentinel.
     is_late: bool,
 }
 
@@ -83,7 +83,7 @@ impl Collected {
         }
     }
 
-    /// Whether these are so many replies, and behind them a mark where the session was to end.
+    /// Whether these are this many replies, and after them a sentinel where the session was to end.
     pub fn is_all(&self, replies: usize, is_cut: bool) -> bool {
         let cut_tokens = if is_cut { 1 } else { 0 };
         self.replies == replies && self.cut_tokens == cut_tokens && !self.is_late

@@ -13,8 +13,8 @@ use trail_journal::{Journal, start_trail};
 use venue_core::Venue;
 use venue_rules::{Keep, TrailFault, TrailRow};
 
-// Begins anew over the database that a refused call handed back. Where it listed nothing, it may have the whole empty trail.
-fn start_anew<S: Alter + Drop>(
+// Begins over the database that a failed call handed back. Where it listed nothing, it may have the whole empty trail.
+fn start_again<S: Alter + Drop>(
     scenario: &mut Scenario,
     fault: TrailFault,
     conn: Connection<S>,
@@ -51,7 +51,7 @@ fn start_anew<S: Alter + Drop>(
     }
 }
 
-/// Begins where the trail leads that a database keeps, or with an empty one; once more where a growth was refused.
+/// Begins where the trail leads that a database keeps, or with an empty one; again where an allocation failed.
 pub fn start<S: Alter + Drop>(
     scenario: &mut Scenario,
     conn: Connection<S>,
@@ -75,11 +75,11 @@ pub fn start<S: Alter + Drop>(
         market.instruments,
     ) {
         Ok(begun) => Ok(begun),
-        Err((fault, conn)) => start_anew(scenario, fault, conn, files, tables),
+        Err((fault, conn)) => start_again(scenario, fault, conn, files, tables),
     }
 }
 
-// The rows, read once more where a growth was refused.
+// The rows, read again where an allocation failed.
 fn rows<S: Alter>(scenario: &mut Scenario, journal: &mut Journal<S>) -> Result<Vec<TrailRow>>
     ensures same { journal.new.rows ≡ journal.old.rows }
 {
@@ -96,7 +96,7 @@ fn rows<S: Alter>(scenario: &mut Scenario, journal: &mut Journal<S>) -> Result<V
     }
 }
 
-// Tells what is seen of a journal.
+// Prints a journal.
 fn emit_journal<S: Alter>(scenario: &mut Scenario, journal: &mut Journal<S>) -> Result<()> {
     let (last, moment) = journal.last();
     scenario.emit("last", last)?;
@@ -108,7 +108,7 @@ fn emit_journal<S: Alter>(scenario: &mut Scenario, journal: &mut Journal<S>) -> 
     emitted
 }
 
-/// Tells a journal and the trades of its venue, and gives the connection back.
+/// Prints a journal and the trades of its venue, and gives the connection back.
 pub fn emit_begun<S: Alter + Drop>(
     scenario: &mut Scenario,
     journal: Journal<S>,
@@ -123,7 +123,7 @@ pub fn emit_begun<S: Alter + Drop>(
     if_emitted(emitted, conn)
 }
 
-// A venue begins over a database, and is told.
+// A venue begins over a database, and is printed.
 fn start_and_emit<S: Alter + Drop>(
     scenario: &mut Scenario,
     conn: Connection<S>,

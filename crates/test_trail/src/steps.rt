@@ -15,7 +15,7 @@ use venue_rules::TrailFault;
 /// What is done to a database.
 #[derive(Clone, Copy)]
 pub enum Step<'a> {
-    /// A trail is made, and so many items are recorded.
+    /// A trail is made, and this many items are recorded.
     Keep(u64),
     /// A trail of the seven worked items is written in one transaction, as older venues did: its version is 1 or 2.
     Write(i64),
@@ -25,7 +25,7 @@ pub enum Step<'a> {
     Run(&'a str),
 }
 
-/// So many rows a trail shows, if they can be read and are the items and then ticks.
+/// How many rows a trail shows, if they can be read and are the items and then ticks.
 pub fn items_of<S: Alter>(trail: &mut Trail<S>) -> Option<u64> {
     match trail.rows() {
         Ok(rows) => items_in(rows.as_slice()),
@@ -44,7 +44,7 @@ pub fn record_next<S: Alter>(alloc: Global, trail: &mut Trail<S>, sent: &Sent) -
     trail.record(&row).is_ok()
 }
 
-// Records items in a new trail up to the first that is refused, and says how many were kept.
+// Records items in a new trail up to the first that is refused; how many were kept.
 fn fill<S: Alter>(alloc: Global, trail: &mut Trail<S>, items: u64) -> u64 {
     for done in 0..items {
         if !record_next(alloc, trail, &item(done.saturating_add(1))) {
@@ -54,7 +54,7 @@ fn fill<S: Alter>(alloc: Global, trail: &mut Trail<S>, items: u64) -> u64 {
     items
 }
 
-// Makes a trail of these files, and records so many items. How many were kept, or the fault where no trail was made.
+// Makes a trail of these files, and records this many items. How many were kept, or the fault where no trail was made.
 fn keep<S: Alter + Drop>(
     alloc: Global,
     conn: Connection<S>,
@@ -102,7 +102,7 @@ pub fn take<S: Alter + Drop>(
     )
 }
 
-// Takes a step, and tells its fault, if it has one.
+// Takes a step, and prints its fault, if it has one.
 fn take_and_emit<S: Alter + Drop>(
     scenario: &mut Scenario,
     conn: Connection<S>,
@@ -117,7 +117,7 @@ fn take_and_emit<S: Alter + Drop>(
     if_emitted(emitted, conn)
 }
 
-// Tells what is seen of a trail, and how many rows it shows.
+// Prints what is seen of a trail, and how many rows it shows.
 fn emit_count<S: Alter>(
     scenario: &mut Scenario,
     trail: &mut Trail<S>,
@@ -130,7 +130,7 @@ fn emit_count<S: Alter>(
     scenario.emit("items", items)
 }
 
-// Tells a fault. The database that came back has to answer.
+// Prints a fault. The database that came back has to answer.
 fn emit_refused<S: Alter>(
     scenario: &mut Scenario,
     fault: &TrailFault,
@@ -143,7 +143,7 @@ fn emit_refused<S: Alter>(
     scenario.emit_fault(fault)
 }
 
-/// Opens a trail with these files or with none, and tells what is found.
+/// Opens a trail with these files or with none, and prints what is found.
 pub fn open_and_count<S: Alter + Drop>(
     scenario: &mut Scenario,
     conn: Connection<S>,
@@ -228,7 +228,8 @@ fn act_each<S: Alter + Drop>(
     Ok(conn)
 }
 
-/// Takes steps over a database in memory: the first word names the files, the others the steps, and statements stand behind a colon.
+/// Takes steps over a database in memory: the first word names the files, the others the steps, and statements follow a
+/// colon.
 pub fn run_steps(scenario: &mut Scenario, line: &str) -> Result<()> {
     let (words, statements) = line.split_once(": ").unwrap_or((line, ""));
     let (name, words) = words.split_once(' ').unwrap_or((words, "open"));

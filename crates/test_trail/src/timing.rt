@@ -18,7 +18,7 @@ const ORDER: Sent = Sent {
     text: "35=D\x0111=order-0001\x01583=link-0001\x0155=IRS5Y\x0154=1\x0138=100\x0140=2\x0144=2.5\x0159=0\x0160=20250303-14:30:00.000\x01",
 };
 
-// How many microseconds it takes to record so many rows in a trail, which is dropped.
+// The microseconds in which this many rows are recorded in a trail, which is dropped.
 fn time_over<S: Alter + Drop>(rt: &HostRuntime, mut trail: Trail<S>, rows: u64) -> Result<u64> {
     let start = Instant::now(rt)?;
     for _ in 0..rows {
@@ -37,7 +37,7 @@ fn time_over<S: Alter + Drop>(rt: &HostRuntime, mut trail: Trail<S>, rows: u64) 
     )
 }
 
-/// Makes a trail in memory, and says how many microseconds it takes to record so many rows in it.
+/// Makes a trail in memory, and prints the microseconds in which this many rows are recorded.
 pub fn time(rt: &HostRuntime, rows: u64) -> Result<u64> {
     let alloc = rt.alloc();
     let files = make_files(alloc)?;

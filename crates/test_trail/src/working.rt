@@ -22,7 +22,7 @@ use venue_worker::{Parts, Queue, Worker};
 /// The delay of a cross, in milliseconds.
 const DELAY: u64 = 15_000;
 
-// Both boards with their ends, made once more where a growth was refused.
+// Both boards with their ends, made again where an allocation failed.
 fn new_boards(scenario: &mut Scenario) -> Result<(Boards, Ends)>
     ensures takes { IfOk result (λ r. AreTakes r.0.intake r.1.takes.items × AreUnusedTakes r.1.takes.items) }
     ensures hands { IfOk result (λ r. AreHands r.0.replies r.1.hands.items × AreUnusedHands r.1.hands.items) }
@@ -81,8 +81,8 @@ impl<'a, K: Keep + Drop> Fixture<'a, K> {
     }
 }
 
-// Takes a message to which a growth was refused: it is still in its seat, which takes no other.
-fn take_anew<K: Keep + Drop>(
+// Takes a message whose first take failed to allocate: it is still in its seat, which takes no other.
+fn take_again<K: Keep + Drop>(
     scenario: &mut Scenario,
     fixture: &mut Fixture<'_, K>,
     sent: &Sent,
@@ -101,7 +101,7 @@ fn take_anew<K: Keep + Drop>(
     Ok(())
 }
 
-// Hands a message over, and has the worker take it, once more where a growth was refused.
+// Hands a message over, and has the worker take it, again where an allocation failed.
 fn hand_and_take<K: Keep + Drop>(
     scenario: &mut Scenario,
     fixture: &mut Fixture<'_, K>,
@@ -112,7 +112,7 @@ fn hand_and_take<K: Keep + Drop>(
     ensure!(fixture.hand(sent.place(), item), "a seat is not empty");
     match fixture.take(sent.place(), moment) {
         Took::Done => {}
-        Took::NoMemory => take_anew(scenario, fixture, sent, moment)?,
+        Took::NoMemory => take_again(scenario, fixture, sent, moment)?,
         Took::Other => return Err(anyhow!("no message is taken")),
     }
     scenario.emit("taken", sent.place() as u64)
@@ -125,7 +125,7 @@ fn take_all<K: Keep + Drop>(scenario: &mut Scenario, fixture: &mut Fixture<'_, K
     Ok(())
 }
 
-// Enters the side of the cross that is due, once more where a growth was refused.
+// Enters the side of the cross that is due, again where an allocation failed.
 fn tick<K: Keep + Drop>(scenario: &mut Scenario, fixture: &mut Fixture<'_, K>) -> Result<()> {
     let moment = CROSS.moment().plus(DELAY);
     match fixture.enter(moment) {
@@ -156,7 +156,7 @@ fn emit_queues(scenario: &mut Scenario, queues: &[Queue]) -> Result<()> {
     Ok(())
 }
 
-// Tells all that a worker had.
+// Prints the rows, trades and replies of a worker.
 fn emit_parts<S: Alter + Drop>(scenario: &mut Scenario, parts: Parts<Journal<S>>) -> Result<()> {
     let Parts {
         venue,
@@ -174,7 +174,8 @@ fn emit_parts<S: Alter + Drop>(scenario: &mut Scenario, parts: Parts<Journal<S>>
     emitted
 }
 
-// Has a worker over these boards take all items. `false` where a growth was refused to `Worker::new`, which gives nothing back.
+// Has a worker over these boards take all items. `false` where `Worker::new` failed to allocate, which gives nothing
+// back.
 fn work_over<S: Alter + Drop>(
     scenario: &mut Scenario,
     journal: Journal<S>,
@@ -226,7 +227,7 @@ fn work_over<S: Alter + Drop>(
     Ok(true)
 }
 
-// A venue begins with an empty trail, and a worker takes all items. `false` where a growth was refused to `Worker::new`.
+// A venue begins with an empty trail, and a worker takes all items. `false` where `Worker::new` failed to allocate.
 fn work(scenario: &mut Scenario) -> Result<bool> {
     let files = files(scenario)?;
     let conn = empty(scenario)?;
@@ -243,7 +244,7 @@ fn work(scenario: &mut Scenario) -> Result<bool> {
     work_over(scenario, journal, venue, &boards, ends)
 }
 
-/// A worker takes all items, and what it had is told. Where it is not made for want of memory, another is, of equal things.
+/// A worker takes all items, and is printed. Where making it failed to allocate, another is made of equal things.
 pub fn run_working(scenario: &mut Scenario) -> Result<()> {
     if work(scenario)? {
         return Ok(());

@@ -1,4 +1,4 @@
-//! A desk's line over TCP.
+//! A client's connection over TCP.
 ghost use Rattle.std.specs.Prelude.{◌≡◌, []};
 ghost use Rattle.gateway.specs.Said.{IsWithin};
 
@@ -54,7 +54,7 @@ impl<'a, N: Net<Listener = TcpListener, Stream = TcpStream> + Clock + Drop> Conn
         Connection::new(self.alloc, stream, output)
     }
 
-    // Gives up the connection, if there is one, and tells of it.
+    // Gives up the connection, if there is one, and signals that.
     fn give_up(&mut self)
         ensures { self.new.log ≡ self.old.log }
     {

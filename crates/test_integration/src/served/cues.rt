@@ -1,13 +1,13 @@
-//! What the desks of a day wait for, and what they are told.
+//! What the clients of a day wait for, and the signals that they get.
 
 use super::signal::Signal;
 
 // What a message is held back for.
 #[derive(Clone, Copy)]
 enum Until {
-    /// So many application messages were written to the desk at this place.
+    /// How many application messages were written to the client at this place.
     Emitted(usize, u64),
-    /// A desk gave its connection up.
+    /// A client gave its connection up.
     Broken,
 }
 
@@ -20,17 +20,17 @@ const DELTA: usize = 3;
 
 const EPSILON: usize = 4;
 
-/// The plays that there are.
+/// The scenarios with cues.
 #[derive(Clone, Copy)]
 pub enum Plan {
     TwoOrders,
     FiveClients,
 }
 
-// DELTA sells once ALPHA was told that its order is new.
+// DELTA sells once ALPHA has the report that its order is new.
 const OF_TWO_ORDERS: [Cue; 1] = [("11=d1", Until::Emitted(ALPHA, 1))];
 
-// What orders the steps of different desks in `five_clients`.
+// What orders the steps of different clients in `five_clients`.
 const OF_FIVE_CLIENTS: [Cue; 6] = [
     ("11=d1", Until::Emitted(ALPHA, 1)),
     ("262=v1", Until::Emitted(ALPHA, 3)),
@@ -40,7 +40,7 @@ const OF_FIVE_CLIENTS: [Cue; 6] = [
     ("11=d2", Until::Broken),
 ];
 
-// ALPHA calls again once DELTA heard of the trade that ALPHA missed.
+// ALPHA reconnects once DELTA has the report of the trade that ALPHA missed.
 const AGAIN: Until = Until::Emitted(DELTA, 7);
 
 fn cues_of(plan: Plan) -> &'static [Cue] {
@@ -50,12 +50,12 @@ fn cues_of(plan: Plan) -> &'static [Cue] {
     }
 }
 
-/// A day of five desks.
+/// A day of five clients.
 #[derive(Drop)]
 pub struct Day {
-    /// The application messages that were written to each desk.
+    /// The application messages that were written to each client.
     emitted: [Signal; 5],
-    /// A desk gave its connection up.
+    /// A client gave its connection up.
     pub broken: Signal,
     /// The day is over.
     pub over: Signal,
@@ -88,7 +88,7 @@ impl Day {
         }
     }
 
-    /// What tells of the messages to the desk at this place; past the last desk, the end of the day.
+    /// The signal of the messages to the client at this place; past the last client, of the end of the day.
     pub fn emitted(&self, client: usize) -> &Signal {
         match self.emitted.get(client) {
             Some(signal) => signal,
@@ -113,7 +113,7 @@ impl Day {
         true
     }
 
-    /// Whether a desk that gave its connection up may call again.
+    /// Whether a client that gave its connection up may call again.
     pub fn lets_call_again(&self) -> bool {
         self.has_come(AGAIN)
     }

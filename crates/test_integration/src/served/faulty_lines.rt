@@ -23,7 +23,7 @@ const PIECES: [&str; 4] = [
     "8=FIXT.1.1|9=85|35=D|49=ALPHA|56=SEF|34=3|52=20250303-14:30:00|11=a2|55=IRS5Y|54=1|38=40|40=2|44=2.5|10=245|",
 ];
 
-/// What it sends on the next connection, in one piece: a Logon, and all that came before once more.
+/// What it sends on the next connection, in one piece: a Logon, and all of the first pieces again.
 const AGAIN: &str =
     "8=FIXT.1.1|9=66|35=A|49=ALPHA|56=SEF|34=4|52=20250303-14:30:00|98=0|108=30|1137=9|10=003|\
      8=FIXT.1.1|9=85|35=4|49=ALPHA|56=SEF|34=1|52=20250303-14:30:00|43=Y|122=20250303-14:30:00|123=Y|36=2|10=199|\
@@ -31,10 +31,10 @@ const AGAIN: &str =
      8=FIXT.1.1|9=112|35=D|49=ALPHA|56=SEF|34=3|52=20250303-14:30:00|43=Y|122=20250303-14:30:00|11=a2|55=IRS5Y|54=1|38=40|40=2|44=2.5|10=069|\
      8=FIXT.1.1|9=85|35=4|49=ALPHA|56=SEF|34=4|52=20250303-14:30:00|43=Y|122=20250303-14:30:00|123=Y|36=5|10=205|";
 
-/// So many connections are given.
+/// How many connections are given.
 const CONNECTIONS: usize = 12;
 
-/// So many writes may fail.
+/// How many writes may fail.
 const WRITES: usize = 8;
 
 /// The orders are taken, and a report of each is delivered.

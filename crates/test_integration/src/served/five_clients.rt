@@ -1,5 +1,5 @@
-//! A trading day of five desks over TCP: the day of `tests/e2e`, but for its reset, and for the messages that a desk asks for again
-//! though it has them: a script has no step for either.
+//! A trading day of five clients over TCP: the day of `tests/e2e`, without its reset and without the resend request for
+//! messages that were received. A script has no step for either.
 
 use super::cues::{Day, Plan};
 use super::five_ports::{opened_somewhere, scenario, serve_in_parallel};
@@ -18,7 +18,8 @@ use std::thread;
 use std::thread::Threads;
 use std::time::Clock;
 
-/// What each desk does, in order. ALPHA's line breaks before it sends a3, which is lost, and so is the report of d2; both are asked for.
+/// What each client does, in order. ALPHA's connection breaks before it sends a3, which is lost, as is the report of
+/// d2; a resend request asks for each.
 const DAY: [&str; 49] = [
     "ALPHA logon",
     "BETA logon",
@@ -57,7 +58,7 @@ const DAY: [&str; 49] = [
     "ALPHA 35=AJ|693=h1|117=Q1|694=1|",
     "ALPHA hears 11",
     "DELTA hears 5",
-    // ALPHA's line breaks, and meanwhile DELTA trades with its order.
+    // ALPHA's connection breaks, and DELTA trades with its order.
     "ALPHA break",
     "ALPHA 35=D|11=a3|55=BASIS1Y|54=1|38=5|40=2|44=-0.25|",
     "DELTA 35=D|11=d2|55=IRS5Y|54=2|38=10|40=2|44=2.4975|",
@@ -76,8 +77,8 @@ const DAY: [&str; 49] = [
     "EPSILON logout",
 ];
 
-/// The desks, how many application messages each hears, and these, each by its type and the trade that it tells; among them
-/// where the venue asks for messages again (35=2).
+/// The clients, how many application messages each receives, and these, each by its type and its trade; among them the
+/// venue's resend requests (35=2).
 const HEARD: [(&str, usize, &str); 5] = [
     (
         "ALPHA",
@@ -98,12 +99,12 @@ const HEARD: [(&str, usize, &str); 5] = [
     ),
 ];
 
-// Whether a field tells a message's type, or a trade.
+// Whether a field is a message's type, or a trade.
 fn emits(field: &[u8]) -> bool {
     field.starts_with(b"35=") || field.starts_with(b"880=")
 }
 
-// Appends the fields that tell the kind of an application message.
+// Appends the fields that make the kind of an application message.
 fn append_kind(alloc: Global, app: &App, kinds: &mut Vec<u8>) -> Result<(), AllocError> {
     let mut text = Vec::new(alloc);
     print_app(app, &mut text)?;
@@ -116,7 +117,7 @@ fn append_kind(alloc: Global, app: &App, kinds: &mut Vec<u8>) -> Result<(), Allo
     Ok(())
 }
 
-// Appends the kind of an application message, and tells where the venue asks for messages again.
+// Appends the kind of an application message, and each resend request of the venue.
 fn append_message(alloc: Global, message: &Message, kinds: &mut Vec<u8>) -> Result<(), AllocError> {
     match &message.body {
         Body::App(app) => append_kind(alloc, app.get(), kinds),
@@ -133,7 +134,7 @@ fn kinds_of(alloc: Global, messages: &[Message]) -> Result<Vec<u8>, AllocError> 
     Ok(kinds)
 }
 
-// Whether so many application messages were heard, of these kinds.
+// Whether this many application messages were received, of these kinds.
 fn is_heard(alloc: Global, heard: Heard, count: usize, kinds: &str) -> Result<bool, AllocError> {
     let is_counted = heard.applications() == count;
     let emitted = kinds_of(alloc, heard.as_slice());
@@ -143,7 +144,7 @@ fn is_heard(alloc: Global, heard: Heard, count: usize, kinds: &str) -> Result<bo
     Ok(is_counted && emitted.as_slice() == expected.as_slice())
 }
 
-// Plays the desk at this place. Whether it heard what it is to hear.
+// Runs the client at this place; whether it received what it is owed.
 fn run_client<R: Net<Listener = TcpListener, Stream = TcpStream> + Wait + Clock + Copy + Drop>(
     rt: &R,
     alloc: Global,
@@ -170,7 +171,7 @@ fn are_all(clients: &[Result<bool, ScenarioFault>]) -> Result<bool, ScenarioFaul
     Ok(true)
 }
 
-// All desks play, and then the day is over. Whether each heard what it is to hear.
+// All clients run, and then the day is over; whether each received what it is owed.
 fn run_clients<
     R: Net<Listener = TcpListener, Stream = TcpStream>
         + Threads
@@ -191,7 +192,7 @@ fn run_clients<
     are_all(&clients)
 }
 
-// The day over TCP: what the venue had, and whether each desk heard what it is to hear.
+// The day over TCP: what the venue had, and whether each client received what it is owed.
 fn trade_a_day<
     R: Net<Listener = TcpListener, Stream = TcpStream>
         + Threads

@@ -1,4 +1,4 @@
-//! A venue of five over TCP, and desks that call at it.
+//! A venue of five over TCP, and clients that connect to it.
 
 use super::connect::ConnectLine;
 use super::cues::Day;
@@ -42,7 +42,7 @@ pub fn opened_somewhere<
 
 type Watched<'a, T> = (WatchedLine<'a, TcpLine<T>>, SystemClock<T>, TcpGate);
 
-// The same lines, which tell the day what is written on them, and are over with it.
+// The same lines, which signal to the day what is written on them, and end with it.
 fn watched<'a, T: Clock + Drop>(
     alloc: Global,
     sessions: Vec<SessionIo<T>>,
@@ -76,7 +76,7 @@ fn serve<R: Threads + Wait + Sync, T: Clock + Send + Drop>(
     run_afresh(rt, alloc, participants, lines, worker, TURNS)
 }
 
-/// What a venue over these lines has, and what this play comes to beside it.
+/// What a venue over these lines has, and the result of this scenario, run in parallel.
 pub fn serve_in_parallel<
     R: Threads + Wait + Sync,
     T: Clock + Send + Drop,
@@ -94,7 +94,7 @@ pub fn serve_in_parallel<
     Ok((outcome?, emitted?))
 }
 
-/// Plays a script over a line to this port, as the day lets it.
+/// Runs a script over a connection to this port, as the day lets it.
 pub fn scenario<R: Net<Listener = TcpListener, Stream = TcpStream> + Wait + Clock + Copy + Drop>(
     rt: &R,
     alloc: Global,

@@ -1,4 +1,4 @@
-//! What the tests play with.
+//! The fixture of the tests.
 ghost use Rattle.std.specs.Prelude.{◌≡◌, IfOk};
 ghost use Rattle.venue_core.specs.VenueFacts.{IsHistory};
 ghost use Rattle.venue_rules.specs.Facts.{no_history};
@@ -18,10 +18,10 @@ use venue_runtime::run_venue;
 use venue_worker::Clock;
 use venue_world::ListTrail;
 
-/// The longest delay between linked orders, in milliseconds: no held side comes due while a test plays.
+/// The longest delay between linked orders, in milliseconds: no held side comes due during a test.
 const LONGEST_DELAY: u64 = 3_600_000;
 
-/// Why a play did not come to its end.
+/// Why a scenario did not come to its end.
 #[derive(Clone, Copy, Debug, PartialEq, Eq)]
 pub enum ScenarioFault {
     NoMemory,
@@ -29,7 +29,7 @@ pub enum ScenarioFault {
     NoPort,
     /// There was not a line for each participant.
     Lines,
-    /// A line of a day tells no step.
+    /// A line of a day is no step.
     Line,
     Run(RunFault),
     Client(ClientFault),
@@ -88,7 +88,7 @@ fn new_venue(alloc: Global, participants: Participants) -> Result<Venue, AllocEr
 #[derive(Clone, Copy, Debug, PartialEq, Eq)]
 pub struct Outcome {
     pub sessions: usize,
-    /// So many messages were taken.
+    /// How many messages were taken.
     pub taken: usize,
     /// The numbers (34) of the first two of its rows, and 0 where there is none.
     pub numbers: [u32; 2],
@@ -118,8 +118,8 @@ fn outcome_of<L: Drop>(closed: Closed<L, ListTrail>) -> Outcome {
     outcome
 }
 
-/// Runs a venue on which nothing has happened, with the two instruments of the worked rows, over rows in memory. There is to be a line for
-/// each participant.
+/// Runs a venue on which nothing has happened, with the two instruments of the worked rows, over rows in memory. There
+/// is to be a line for each participant.
 pub fn run_afresh<
     R: Threads + Wait + Sync,
     L: Line + Send + Drop,

@@ -1,4 +1,4 @@
-//! A desk's script as the lines of a day have it.
+//! A client's script as the lines of a day have it.
 
 use super::fixture::ScenarioFault;
 use super::scripts::script;
@@ -16,7 +16,8 @@ fn sent(alloc: Global, text: &str) -> Result<ScriptStep, ScenarioFault> {
     }
 }
 
-// `logon`, `break`, `logout`, `hears N`, which waits until N application messages were heard in all, or a message that is sent.
+// `logon`, `break`, `logout`, `hears N`, which waits until N application messages were heard in all, or a message that
+// is sent.
 fn step_of(alloc: Global, text: &str) -> Result<ScriptStep, ScenarioFault> {
     match text {
         "logon" => return Ok(ScriptStep::Logon),
@@ -48,7 +49,7 @@ fn steps_of(alloc: Global, name: &str, lines: &[&str]) -> Result<Vec<ScriptStep>
     Ok(steps)
 }
 
-/// What the desk of this name does of a day.
+/// What the client of this name does of a day.
 pub fn script_of(alloc: Global, name: &str, lines: &[&str]) -> Result<Script, ScenarioFault> {
     let Some(own) = Identifier::read(name.as_bytes()) else {
         return Err(ScenarioFault::Line);

@@ -20,7 +20,7 @@ use std::time::Clock;
 /// DELTA is the fourth.
 const DELTA: u16 = 3;
 
-/// What ALPHA is told: its order is new, and then 40 of it are filled.
+/// What ALPHA is to receive: its order is new, and then 40 of it are filled.
 const REPORTS: &str = "35=8|37=O1|17=E1|150=0|39=0|55=IRS5Y|54=1|151=100|14=0|11=a1|\
      35=8|37=O1|17=E4|150=F|39=1|55=IRS5Y|54=1|151=60|14=40|11=a1|31=2.5|32=40|880=T1|";
 
@@ -52,7 +52,7 @@ fn reports_in(alloc: Global, messages: &[Message]) -> Result<Vec<u8>, AllocError
     Ok(text)
 }
 
-// Whether what was heard is what ALPHA is to be told.
+// Whether ALPHA received what it is to receive.
 fn is_emitted(alloc: Global, heard: Heard) -> Result<bool, AllocError> {
     let emitted = reports_in(alloc, heard.as_slice());
     drop(heard);
@@ -61,7 +61,7 @@ fn is_emitted(alloc: Global, heard: Heard) -> Result<bool, AllocError> {
     Ok(emitted.as_slice() == expected.as_slice())
 }
 
-// ALPHA buys. Whether it heard what it is to be told.
+// ALPHA buys; whether it received what it is to receive.
 fn run_alpha<R: Net<Listener = TcpListener, Stream = TcpStream> + Wait + Clock + Copy + Drop>(
     rt: &R,
     alloc: Global,
@@ -84,7 +84,7 @@ fn run_delta<R: Net<Listener = TcpListener, Stream = TcpStream> + Wait + Clock +
     Ok(())
 }
 
-// Both play, and then all is over.
+// Both run, and then all is over.
 fn run_to_the_end<
     R: Net<Listener = TcpListener, Stream = TcpStream>
         + Threads
@@ -105,7 +105,7 @@ fn run_to_the_end<
     emitted
 }
 
-// A trade over TCP: what the venue had, and whether ALPHA heard what it is to be told.
+// A trade over TCP: what the venue had, and whether ALPHA received what it is to receive.
 fn trade<
     R: Net<Listener = TcpListener, Stream = TcpStream>
         + Threads

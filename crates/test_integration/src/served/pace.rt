@@ -27,7 +27,7 @@ pub fn sleep_a_little<T: time::Clock>(clock: &T) {
     thread::sleep(clock, Duration::from_millis(1));
 }
 
-/// A clock that sleeps, and then answers the next millisecond. It tells once seats have stirred so often.
+/// A clock that sleeps, and then answers the next millisecond. It signals once seats have progressed this often.
 #[derive(Drop)]
 pub struct PacedClock<'a, T> {
     clock: T,

@@ -13,7 +13,8 @@ use std::mem::drop;
 use std::sync::Wait;
 use std::test::*;
 
-/// What comes in each turn, nothing where the text is empty. After the break the venue has lost ALPHA's order, and ALPHA a report.
+/// What comes in each turn, nothing where the text is empty. After the break the venue has lost ALPHA's order, and
+/// ALPHA a report.
 const COMES: [&str; 7] = [
     "8=FIXT.1.1|9=70|35=A|49=SEF|56=ALPHA|34=1|52=20250303-14:30:00.000|98=0|108=30|1137=9|10=185|",
     "",
@@ -27,7 +28,7 @@ const COMES: [&str; 7] = [
     "8=FIXT.1.1|9=51|35=5|49=SEF|56=ALPHA|34=7|52=20250303-14:30:00.000|10=086|",
 ];
 
-/// What ALPHA hears: each message of the session as it came, and each report once, as its number was due.
+/// What ALPHA receives: each session message as it came, and each report once, as its number was expected.
 const HEARD: &str = "35=A|49=SEF|56=ALPHA|34=1|52=20250303-14:30:00.000|98=0|108=30|1137=9|\
      35=8|49=SEF|56=ALPHA|34=2|52=20250303-14:30:00.000|37=O1|17=E1|150=0|39=0|55=IRS5Y|54=1|151=100|14=0|11=a1|\
      35=A|49=SEF|56=ALPHA|34=4|52=20250303-14:30:00.000|98=0|108=30|1137=9|\
@@ -37,8 +38,8 @@ const HEARD: &str = "35=A|49=SEF|56=ALPHA|34=1|52=20250303-14:30:00.000|98=0|108
      35=1|49=SEF|56=ALPHA|34=6|52=20250303-14:30:00.000|112=x|\
      35=5|49=SEF|56=ALPHA|34=7|52=20250303-14:30:00.000|";
 
-/// What ALPHA writes: a Logon and an order; after the break a Logon, a ResendRequest for what it lost, the order once more and a gap
-/// fill; the answer to a test; a Logout.
+/// What ALPHA writes: a Logon and an order; after the break a Logon, a ResendRequest for what it lost, the order again
+/// and a gap fill; the answer to a TestRequest; a Logout.
 const WRITTEN: &str =
     "8=FIXT.1.1|9=70|35=A|49=ALPHA|56=SEF|34=1|52=20250303-14:30:00.001|98=0|108=30|1137=9|10=186|\
      8=FIXT.1.1|9=90|35=D|49=ALPHA|56=SEF|34=2|52=20250303-14:30:00.003|11=a1|55=IRS5Y|54=1|38=100|40=2|44=2.5|10=221|\
@@ -95,14 +96,14 @@ fn are_of(alloc: Global, messages: &[Message], text: &str) -> Result<bool, Alloc
     Ok(printed.as_slice() == expected.as_slice())
 }
 
-/// Whether the right bytes were written, and the right messages heard.
+/// Whether the right bytes were written, and the right messages received.
 #[derive(Clone, Copy, Debug, PartialEq, Eq)]
 struct Outcome {
     is_written: bool,
     is_heard: bool,
 }
 
-// Plays a script over a line.
+// Runs a script over a line.
 fn scenario<R: Wait>(
     rt: &R,
     alloc: Global,

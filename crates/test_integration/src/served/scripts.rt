@@ -1,4 +1,4 @@
-//! A desk's script, and the orders in it.
+//! A client's script, and the orders in it.
 
 use fix_dictionary::{App, FixChar, Identifier, NewOrderSingle, Price, Quantity, Side};
 use sef_client::{Script, ScriptStep};
@@ -18,7 +18,7 @@ pub fn order(order_id: Identifier, side: Side, quantity: Quantity) -> App {
     })
 }
 
-/// What the desk of this name does at the venue SEF.
+/// What the client of this name does at the venue SEF.
 pub fn script(name: Identifier, steps: Vec<ScriptStep>) -> Script {
     Script::new(name, Identifier::from_slice(b"SEF"), steps)
 }

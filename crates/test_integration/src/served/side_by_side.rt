@@ -1,4 +1,4 @@
-//! Two sessions and the worker run side by side: each session waits within one turn for what the other's order is answered.
+//! Two sessions and the worker run in parallel: each session waits within one turn for the answer to the other's order.
 
 use super::fixture::{ScenarioFault, both, run_for_two};
 use super::pace::{PacedClock, PacedGate, SessionIo};
@@ -32,10 +32,10 @@ fn line_of(alloc: Global, text: &str) -> Result<MemLine, AllocError> {
     Ok(MemLine::new(alloc, accepts, reads, Vec::new(alloc)))
 }
 
-/// What is told of both orders.
+/// The signals of both orders.
 #[derive(Drop)]
 struct Emitted {
-    /// Told from the start.
+    /// Given from the start.
     now: Signal,
     /// An order was answered.
     alpha: Signal,
@@ -43,7 +43,7 @@ struct Emitted {
     gave_up: Signal,
 }
 
-// Nothing was told.
+// No signal was given.
 fn nothing_emitted() -> Emitted {
     let now = Signal::new();
     now.give();
@@ -55,8 +55,8 @@ fn nothing_emitted() -> Emitted {
     }
 }
 
-// A session whose line tells the answer to its order, and whose gate waits, after one signal, for another. All is over as ALPHA's
-// order is answered, which is the last.
+// A session whose line signals the answer to its order, and whose gate waits, after one signal, for another. All is
+// over as ALPHA's order is answered, which is the last.
 fn outside<'a, T: Clock + Copy + Drop>(
     clock: T,
     line: MemLine,

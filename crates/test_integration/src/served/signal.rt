@@ -1,4 +1,4 @@
-//! What one thread of a test tells another: no more than that something happened, and how often.
+//! A signal between threads of a test: that something happened, and how often.
 
 use std::sync::atomic::{AtomicU64, Ordering};
 

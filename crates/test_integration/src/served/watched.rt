@@ -1,4 +1,5 @@
-//! A line of the venue that is watched: it tells of each application message that was written on it, and is over once it is told so.
+//! A line of the venue that is watched: it signals each application message that was written on it, and ends on a
+//! signal.
 ghost use Rattle.std.specs.Prelude.{◌≡◌, []};
 ghost use Rattle.gateway.specs.GhostHistory.{entries};
 ghost use Rattle.gateway.specs.Said.{IsWithin, given};
@@ -54,7 +55,7 @@ fn begin_with_type(bytes: &[u8]) -> bool {
     }
 }
 
-// Tells of each application message among these bytes.
+// Signals each application message among these bytes.
 fn emit(bytes: &[u8], emitted: &Signal) {
     for at in 0..bytes.len() {
         if begin_with_type(&bytes[at..]) {

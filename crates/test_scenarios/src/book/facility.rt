@@ -72,7 +72,7 @@ impl Facility {
         Ok(())
     }
 
-    /// A quote; tells whether it is the first in its room.
+    /// A quote; whether it is the first in its room.
     pub(crate) fn quote(&mut self, who: Who, quote: &Quote) -> Result<bool> {
         let market = &self.market;
         let Ok(plan) = self.rooms.plan_quote(
@@ -96,7 +96,7 @@ impl Facility {
         Ok(first)
     }
 
-    /// A hit of a quote; tells its maker.
+    /// A hit of a quote; its maker.
     pub(crate) fn hit(&mut self, who: Who, response: &QuoteResponse) -> Result<Who> {
         let Ok(plan) = self.rooms.plan_answer(who, response, self.market.moment) else {
             return Err(anyhow!("refused"));

@@ -1,4 +1,4 @@
-//! A book filled to the brim: what has room there is not refused.
+//! A book filled to its capacity, without a refusal below it.
 
 use crate::book::market::{Market, enter, market_of};
 use crate::book::stream::{order_of, quantity, standing};
@@ -28,7 +28,7 @@ fn spread(n: u64) -> OrderFact {
     resting(n, (n / 400 % 4) as u32, side)
 }
 
-/// Enters so many orders that rest, and tells how many are refused.
+/// Enters this many orders that rest; how many were refused.
 pub(crate) fn enter_all(market: &Market, book: &mut PriceBook, orders: u64) -> u64 {
     let mut refused: u64 = 0;
     for n in 0..orders {

@@ -43,7 +43,7 @@ fn look_for_all(alloc: Global, orders: u64) -> Result<Looks> {
     Ok(looks)
 }
 
-/// Looks for each of so many orders that rest.
+/// Looks for each of this many orders that rest.
 pub(crate) fn find(alloc: Global, orders: u64, emitted: &mut Vec<u8>) -> Result<()> {
     let looks = look_for_all(alloc, orders)?;
     let text = format!(in alloc;

@@ -6,7 +6,7 @@ use crate::book::measuring::try_all;
 use crate::book::running::scenario;
 use anyhow::{Result, bail};
 
-// Appends a line with what is answered, where it does not tell an answer itself.
+// Appends a call with its answers; a line that is an answer is skipped.
 fn run_line(rt: &HostRuntime, line: &str, emitted: &mut Vec<u8>) -> Result<()> {
     if line.starts_with("  ") {
         return Ok(());
@@ -18,7 +18,7 @@ fn run_line(rt: &HostRuntime, line: &str, emitted: &mut Vec<u8>) -> Result<()> {
     }
     let alloc = rt.alloc();
     match line.split_once(' ').unwrap_or((line, "")) {
-        ("play", requests) => scenario(alloc, requests.parse::<u64>()?, emitted),
+        ("stream", requests) => scenario(alloc, requests.parse::<u64>()?, emitted),
         ("fill", _) => fill(alloc, emitted),
         ("find", orders) => find(alloc, orders.parse::<u64>()?, emitted),
         ("time", _) => try_all(rt),
@@ -26,7 +26,7 @@ fn run_line(rt: &HostRuntime, line: &str, emitted: &mut Vec<u8>) -> Result<()> {
     }
 }
 
-/// Appends the lines of a part, with what both books answer.
+/// Appends the calls of a part, with the answers of both books.
 pub(crate) fn run_part(rt: &HostRuntime, lines: &str, emitted: &mut Vec<u8>) -> Result<()> {
     for line in lines.lines() {
         run_line(rt, line, emitted)?;

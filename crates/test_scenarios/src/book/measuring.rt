@@ -8,8 +8,8 @@ use crate::times::emit_middles;
 use anyhow::Result;
 use price_book::PriceBook;
 
-/// How many orders rest on each side of an instrument, how many came and went, how many instruments there are, and how many requests
-/// of each kind are timed.
+/// How many orders rest on each side of an instrument, how many came and went, how many instruments there are, and how
+/// many requests of each kind are timed.
 #[derive(Clone, Copy)]
 pub(crate) struct Size {
     pub(crate) resting: u64,

@@ -39,7 +39,8 @@ fn time_hit(rt: &HostRuntime, facility: &mut Facility, n: u64) -> Result<u64> {
     Ok(spent)
 }
 
-// The n-th request, the quote in the room of the second before it, and the hit that ends the room of the fourth before it.
+// The n-th request, the quote in the room of the second before it, and the hit that ends the room of the fourth before
+// it.
 fn scenario(rt: &HostRuntime, facility: &mut Facility, n: u64) -> Result<[u64; 3]> {
     let request = time_request(rt, facility, n)?;
     let quote = if OPEN / 2 < n {
@@ -55,7 +56,7 @@ fn scenario(rt: &HostRuntime, facility: &mut Facility, n: u64) -> Result<[u64; 3
     Ok([request, quote, hit])
 }
 
-/// The times of a request, a quote and a hit, of so many that are timed after so many rooms came and went.
+/// The times of a request, a quote and a hit, after `gone` rooms came and went.
 pub(crate) fn time_rooms(
     rt: &HostRuntime,
     facility: &mut Facility,

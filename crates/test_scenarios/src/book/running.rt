@@ -1,4 +1,4 @@
-//! A stream of requests, played to both books.
+//! A stream of requests to both books.
 
 use crate::book::market::{Market, market_of};
 use crate::book::stream::{drawn, id_of, next, price, quantity};
@@ -46,7 +46,7 @@ fn is_alike(a: &FillPlan, b: &FillPlan) -> bool {
     }
 }
 
-fn is_same_picture(a: &[SnapshotEntry], b: &[SnapshotEntry]) -> bool {
+fn is_same_snapshot(a: &[SnapshotEntry], b: &[SnapshotEntry]) -> bool {
     if a.len() != b.len() {
         return false;
     }
@@ -200,13 +200,14 @@ fn compare(books: &Books, tally: &mut Tally, n: u64, state: u64) -> Result<()> {
     }
     let one = books.book.picture(order.instrument)?;
     let other = books.scanned.picture(order.instrument)?;
-    if !is_same_picture(&one, &other) {
+    if !is_same_snapshot(&one, &other) {
         tally.unlike = tally.unlike.saturating_add(1);
     }
     Ok(())
 }
 
-// The n-th request, as the state of the generator has it: a cancel or a replacement of an order some way back, or an entry.
+// The n-th request, as the state of the generator has it: a cancel or a replacement of an order some way back, or an
+// entry.
 fn request(
     market: &mut Market,
     books: &mut Books,
@@ -262,7 +263,7 @@ fn outcome(alloc: Global, requests: u64) -> Result<Tally> {
     tally
 }
 
-/// Plays so many requests to both books, and tells what they answered.
+/// Sends this many requests to both books, and prints how their answers compare.
 pub(crate) fn scenario(alloc: Global, requests: u64, emitted: &mut Vec<u8>) -> Result<()> {
     let tally = outcome(alloc, requests)?;
     let text = format!(in alloc;

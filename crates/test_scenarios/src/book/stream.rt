@@ -16,7 +16,7 @@ pub(crate) fn id_of(n: u64) -> Identifier {
     printed_identifier(b'n', 100_000_000 + n % 900_000_000)
 }
 
-/// A price of so many ticks.
+/// A price of this many ticks.
 pub(crate) fn price(ticks: u64) -> Price {
     Price::new((ticks % 1_000_000) as i64 * 2_500)
 }
@@ -39,7 +39,8 @@ pub(crate) fn order_of(n: u64, who: u32, instrument: u32, side: Side, ticks: u64
     }
 }
 
-/// The n-th of the orders that rest on a side all day: bids of at most 499 ticks, offers of at least 501, over 50 prices each.
+/// The n-th of the orders that rest on a side all day: bids of at most 499 ticks, offers of at least 501, over 50
+/// prices each.
 pub(crate) fn standing(n: u64, instrument: u32, side: Side) -> OrderFact {
     let away = n % 50;
     let ticks = match side {

@@ -9,7 +9,7 @@ use participants::Who;
 use price_book::PriceBook;
 use std::time::Instant;
 
-/// So many orders rest on each side of so many instruments, of the identifiers from 0 on.
+/// Enters `resting` orders on each side of each instrument, with identifiers from 0 on.
 pub(crate) fn rest_all(
     market: &Market,
     book: &mut PriceBook,
@@ -45,7 +45,8 @@ pub(crate) fn pass(
     since(rt, start)
 }
 
-/// A bid that rests, is replaced and cancelled, an offer that a bid fills, and a picture: six identifiers from n on.
+/// A bid that rests, is replaced and cancelled, an offer that a bid fills, and a book snapshot: six identifiers from n
+/// on.
 pub(crate) fn scenario(
     rt: &HostRuntime,
     market: &Market,

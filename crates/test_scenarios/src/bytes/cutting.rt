@@ -11,10 +11,10 @@ use crate::texts::bytes_in;
 use fix_frame::{Cut, Cutter, FrameFault, frame_bodies, write_frame};
 use std::alloc::{AllocError, Global};
 
-/// What stands before a frame that is written.
+/// The content of the buffer before a frame is written.
 const BEFORE: &[u8] = b"ab";
 
-// Appends a cut and the bytes that it took: of a frame also where its body stands.
+// Appends a cut and the bytes that it took; of a frame also the range of its body.
 fn emit_cut(
     alloc: Global,
     cut: &Cut,
@@ -32,7 +32,7 @@ fn emit_cut(
     }
 }
 
-// Takes what stands at the front, and tells it. What cannot be told is put back, and so is all that is only looked at.
+// Takes what is at the front, and prints it. What cannot be printed is put back, and so is what is only looked at.
 fn emit_front(
     alloc: Global,
     cutter: &mut Cutter,
@@ -68,7 +68,7 @@ struct Seen {
     most_held: usize,
 }
 
-// Takes all that is whole, and tells the bodies, of the same ones in succession one.
+// Takes all whole frames, and prints their bodies; of equal ones in succession, one.
 fn take_all(
     alloc: Global,
     cutter: &mut Cutter,
@@ -94,7 +94,8 @@ fn take_all(
     Ok(())
 }
 
-// Pushes the bytes into a new cutter in pieces of so many, takes all that is whole after each, and tells what was seen.
+// Pushes the bytes into a new cutter in pieces of this size, takes all whole frames after each, and prints the bodies
+// and counts.
 fn emit_pieces(
     alloc: Global,
     bytes: &[u8],
@@ -139,7 +140,7 @@ fn emit_bodies(alloc: Global, text: &str, emitted: &mut Vec<u8>) -> Result<(), A
     Ok(())
 }
 
-// The body of a message with this behind `35=`.
+// The body of a message with this after `35=`.
 fn body_of(alloc: Global, middle: &[u8]) -> Result<Vec<u8>, AllocError>
     ensures { IfOk result (λ body. IsBody body.items) }
 {
@@ -149,7 +150,7 @@ fn body_of(alloc: Global, middle: &[u8]) -> Result<Vec<u8>, AllocError>
     Ok(body)
 }
 
-// Writes a frame behind other bytes, and tells these. A refused write leaves them.
+// Writes a frame after other bytes, and prints all. A refused write leaves the bytes.
 fn emit_frame(alloc: Global, middle: &[u8], emitted: &mut Vec<u8>) -> Result<(), Trouble> {
     let body = body_of(alloc, middle)?;
     let mut out = Vec::from_slice(alloc, BEFORE)?;

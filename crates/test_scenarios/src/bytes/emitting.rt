@@ -3,7 +3,7 @@
 use crate::emitting::end_line;
 use std::alloc::{AllocError, Global};
 
-/// Of more bytes than these the last alone are told.
+/// Of more bytes than these, only the last are printed.
 const LONGEST_EMITTED: usize = 300;
 
 const LAST_EMITTED: usize = 20;

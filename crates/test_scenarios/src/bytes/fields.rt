@@ -20,7 +20,7 @@ fn emit_fault(alloc: Global, fault: FieldFault, emitted: &mut Vec<u8>) -> Result
     }
 }
 
-/// Appends so many fields, with the numbers from 0 on. A refused one leaves the text.
+/// Appends this many fields, with the numbers from 0 on. A refused one leaves the text.
 pub fn add_numbers(count: u64, text: &mut Vec<u8>) -> Result<(), Trouble> {
     for number in 0..count {
         let before = text.len();
@@ -55,7 +55,7 @@ enum Asked {
     Value(u32, Form),
 }
 
-// What a line asks, and the text that is behind it.
+// A call and its text.
 fn asked_in<'a>(word: &str, rest: &'a str) -> Option<(Asked, &'a str)> {
     let asked = match word {
         "fields" => Asked::Count,
@@ -88,7 +88,8 @@ fn emit_asked(
     }
 }
 
-// Reads bodies in turn by one value, and tells each fault, then how many fields stand and the value of a tag.
+// Reads bodies in turn with one reader, and prints each fault, then how many fields the last has and its value of a
+// tag.
 fn emit_turns(
     alloc: Global,
     tag: u32,
@@ -108,7 +109,7 @@ fn emit_turns(
     }
 }
 
-// Tells a value in the form that a text begins with.
+// Prints a value in the form that the text begins with.
 fn emit_value(
     alloc: Global,
     state: &mut State,

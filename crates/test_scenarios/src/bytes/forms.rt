@@ -90,7 +90,7 @@ pub fn emit_text(
     }
 }
 
-// The integers that a text begins with, and what stands behind them.
+// The integers that a text begins with, and the rest.
 fn integer_in(text: &str) -> Option<(Form, &str)> {
     let (low, rest) = text.split_once(' ')?;
     let (high, rest) = rest.split_once(' ').unwrap_or((rest, ""));
@@ -98,7 +98,7 @@ fn integer_in(text: &str) -> Option<(Form, &str)> {
     Some((form, rest))
 }
 
-/// The form that a text begins with, and what stands behind it.
+/// The form that a text begins with, and the rest.
 pub fn form_in(text: &str) -> Option<(Form, &str)> {
     let (word, rest) = text.split_once(' ').unwrap_or((text, ""));
     let form = match word {

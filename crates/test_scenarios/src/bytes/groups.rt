@@ -37,7 +37,7 @@ fn emit_instance(
     emit_last(alloc, words, &text, emitted)
 }
 
-/// Tells how many parties are among some fields, and each of them.
+/// Prints how many parties are among some fields, and each of them.
 pub fn emit_parties(
     alloc: Global,
     fields: &[Field<'_>],
@@ -55,7 +55,7 @@ pub fn emit_parties(
     Ok(())
 }
 
-/// Tells how many symbols the fields have, and each with its parties.
+/// Prints how many symbols the fields have, and each with its parties.
 pub fn emit_symbols(
     alloc: Global,
     fields: &Fields<'_>,

@@ -52,7 +52,7 @@ fn ask(
     ask_frames(alloc, state, word, rest, emitted)
 }
 
-// Plays a line, and appends it with what is answered; false where it is no call. Behind each call a new text begins.
+// Runs a line, and appends it with its answers; false where it is no call. Each call takes the text before it.
 fn run_once(
     alloc: Global,
     state: &mut State,
@@ -82,7 +82,7 @@ impl Part for State {
         Ok(State::new(alloc))
     }
 
-    // Plays a line, once more where a growth was refused, after the text was put back as it was.
+    // Where an allocation failed, puts the text back as it was, and runs the line again.
     fn run_line(
         &mut self,
         alloc: Global,

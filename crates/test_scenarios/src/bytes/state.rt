@@ -1,4 +1,4 @@
-//! What stands between the calls of a transcript.
+//! State between the calls of a transcript.
 
 use crate::texts::append_with;
 use fix_frame::Cutter;
@@ -19,12 +19,12 @@ impl State {
         }
     }
 
-    /// Puts bytes behind the text, with SOH for `|`.
+    /// Appends bytes to the text, with SOH for `|`.
     pub fn add(&mut self, bytes: &str) -> Result<(), AllocError> {
         append_with(bytes.as_bytes(), b'|', 1, &mut self.text)
     }
 
-    /// Puts the bytes behind the text so many times.
+    /// Appends the bytes to the text this many times.
     pub fn add_times(&mut self, times: u32, bytes: &str) -> Result<(), AllocError> {
         for _ in 0..times {
             self.add(bytes)?;

@@ -30,7 +30,7 @@ fn put_limits(writer: &mut FieldWriter) -> Result<(), AllocError> {
     writer.put_price(44, -1_000_000_000_000_000_000)
 }
 
-/// Writes a report and fields at their limits, and tells them.
+/// Writes a report and fields at their limits, and prints them.
 pub fn emit_written(alloc: Global, emitted: &mut Vec<u8>) -> Result<(), AllocError> {
     let mut writer = FieldWriter::new(alloc);
     put_report(&mut writer)?;

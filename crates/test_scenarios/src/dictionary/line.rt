@@ -13,7 +13,7 @@ impl Part for Dictionary {
         Ok(Dictionary {})
     }
 
-    // Plays a line, and appends it with what the dictionary answers, once more where a growth was refused.
+    // Runs a line again where an allocation failed.
     fn run_line(
         &mut self,
         alloc: Global,

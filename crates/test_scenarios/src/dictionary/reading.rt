@@ -10,7 +10,7 @@ use fix_fields::{FieldFault, Fields, split};
 use fix_validation::DictFault;
 use std::alloc::{AllocError, Global};
 
-/// What stands before a printed body.
+/// The content of the buffer before a body is printed.
 const BEFORE: &[u8] = b"  ";
 
 // How a body is read.
@@ -50,7 +50,7 @@ fn print(alloc: Global, reading: &Reading, text: &mut Vec<u8>) -> Result<(), All
     }
 }
 
-// Appends what is printed. A print to which a growth is refused appends nothing to its vector.
+// Appends what is printed. A print that fails to allocate appends nothing to its vector.
 fn emit_printed(alloc: Global, reading: &Reading, emitted: &mut Vec<u8>) -> Result<(), Trouble> {
     let mut text = Vec::from_slice(alloc, BEFORE)?;
     if print(alloc, reading, &mut text).is_err() {

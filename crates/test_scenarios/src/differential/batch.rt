@@ -12,7 +12,7 @@ use std::time::Instant;
 /// How many messages are timed together.
 const BATCH: usize = 100;
 
-/// What is played: the world, and beside it the sessions and the venue apart.
+/// The world, and the sessions and the venue apart.
 #[derive(Drop)]
 pub(crate) struct Stage {
     pub(crate) together: Together,
@@ -23,7 +23,7 @@ pub(crate) struct Stage {
     pub(crate) times: Vec<Turn>,
 }
 
-/// How much was played.
+/// How much was run.
 #[derive(Clone, Copy)]
 pub(crate) struct Outcome {
     pub(crate) frames: u64,
@@ -77,7 +77,7 @@ fn count(outcome: &mut Outcome, batch: &[Sent], written: &[u8]) {
     }
 }
 
-// What each of so many messages took.
+// The time of each message of a batch.
 fn each(spent: Turn, messages: usize) -> Turn {
     let messages = messages.max(1) as u64;
     [
@@ -100,7 +100,7 @@ fn scenario(rt: &HostRuntime, stage: &mut Stage, batch: &mut Vec<Sent>) -> Resul
     Ok(())
 }
 
-/// Plays the frames of these lines, so many at a time.
+/// Runs the frames of these lines, in batches.
 pub(crate) fn run_all(rt: &HostRuntime, stage: &mut Stage, lines: &str) -> Result<()> {
     let mut batch = Vec::new(rt.alloc());
     for line in lines.lines() {

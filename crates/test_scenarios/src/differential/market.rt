@@ -12,7 +12,7 @@ use venue_rules::{Reply, Taken, Who};
 /// How many messages a venue is given.
 const MAX_ITEMS: u32 = 100_000_000;
 
-/// The message of a reply, and who is told it.
+/// The message of a reply, and its recipient.
 #[derive(Drop)]
 pub(crate) struct Addressed {
     pub(crate) to: Who,

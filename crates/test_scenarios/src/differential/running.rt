@@ -1,4 +1,4 @@
-//! Frames through the world, and beside that through the sessions alone and the venue alone.
+//! Frames through the world, and through the sessions alone and the venue alone, for comparison.
 
 use crate::differential::apart::Apart;
 use crate::differential::batch::{Outcome, Stage, run_all};
@@ -81,7 +81,7 @@ fn with_times(alloc: Global, counts: &str, times: &[Turn]) -> Result<String, All
     format!(in alloc; "{counts}\nworld {world} sessions {sessions} venue {venue}")
 }
 
-// Plays these lines, and says what came of it.
+// Runs these lines; their counts as a text.
 fn scenario(rt: &HostRuntime, stage: &mut Stage, lines: &str, is_timed: bool) -> Result<String> {
     run_all(rt, stage, lines)?;
     let outcome = stage.outcome;
@@ -95,8 +95,8 @@ fn scenario(rt: &HostRuntime, stage: &mut Stage, lines: &str, is_timed: bool) ->
     Ok(with_times(rt.alloc(), counts.as_str(), &stage.times)?)
 }
 
-/// How many frames and replies there were and how many bytes were written; where it is timed, on a line behind that also how many
-/// nanoseconds a frame took. A participant file comes first, an empty line, and then a line for each frame.
+/// How many frames and replies there were and how many bytes were written; where it is timed, on a second line the
+/// nanoseconds of a frame. The input is a participant file, an empty line, and a line for each frame.
 pub(crate) fn emitted_of(rt: &HostRuntime, input: &str, is_timed: bool) -> Result<String> {
     let Some((file, lines)) = input.split_once("\n\n") else {
         bail!("no empty line after the participant file");
@@ -107,7 +107,7 @@ pub(crate) fn emitted_of(rt: &HostRuntime, input: &str, is_timed: bool) -> Resul
     emitted
 }
 
-// The lines that tell no answer.
+// The lines that are no answer.
 fn asked_in(alloc: Global, lines: &str) -> Result<String, AllocError> {
     let mut asked = String::new(alloc);
     for line in lines.lines() {

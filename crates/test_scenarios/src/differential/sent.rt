@@ -4,7 +4,7 @@ use anyhow::{Result, anyhow};
 use std::alloc::Global;
 use venue_rules::Who;
 
-/// A frame, who sends it, and whom the venue told of it: a participant for each reply.
+/// A frame, its sender, and the recipients of the venue's replies, one for each.
 #[derive(Drop)]
 pub(crate) struct Sent {
     pub(crate) from: Who,

@@ -41,7 +41,7 @@ impl Sessions {
         Ok(&mut self.sessions[place])
     }
 
-    /// The session hears a frame, and the message that it made ready is taken out.
+    /// The session receives a frame, and the message that it made ready is taken out.
     pub(crate) fn hear(&mut self, sent: &Sent, t: Moment) -> Result<Option<Taken>> {
         let session = self.of(sent.from)?;
         session.push_bytes(&sent.frame)?;

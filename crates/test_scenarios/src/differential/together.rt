@@ -27,7 +27,7 @@ pub(crate) fn resume_all(world: &mut Together, t: Moment) -> Result<()> {
     Ok(())
 }
 
-// A frame comes, the session hears it, and the message that it made ready is handed to the venue, which takes it.
+// A frame comes, its session receives it, and the message that it made ready is handed to the venue, which takes it.
 fn take(world: &mut Together, sent: &Sent, t: Moment) -> Result<()> {
     let who = sent.from;
     if !world.has(who) {

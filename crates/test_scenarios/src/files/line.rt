@@ -48,16 +48,16 @@ fn read_instruments(
     Ok(())
 }
 
-// What stands in an entry of a participant before and behind the number of its name.
+// A participant's entry, before and after the number in its name.
 const PARTICIPANT: [&str; 2] = ["[[participant]]\nname = \"P", "\"\n"];
 
-// And in one of an instrument.
+// An instrument's entry, before and after the number in its symbol.
 const INSTRUMENT: [&str; 2] = [
     "[[instrument]]\nsymbol = \"I",
     "\"\ntick = 1\nleast = 1\nrfq_life = 1\n",
 ];
 
-// Appends so many entries to the text, numbered from 000 on.
+// Appends this many entries to the text, numbered from 000 on.
 fn add_entries(
     alloc: Global,
     entry: [&str; 2],
@@ -123,7 +123,7 @@ fn ask(
     }
 }
 
-// Plays a line, and appends it with what is answered; false where it is no call.
+// Runs a line, and appends it with its answers; false where it is no call.
 fn run_once(
     alloc: Global,
     files: &mut Files,
@@ -163,7 +163,7 @@ impl Part for Files {
         })
     }
 
-    // Plays a line, once more where a growth was refused. A refused call changes nothing but the text that it was to write,
+    // Runs a line again where an allocation failed. The failed call changed nothing but the text that it was to write,
     // which is put back.
     fn run_line(
         &mut self,

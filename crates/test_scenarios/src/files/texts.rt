@@ -30,7 +30,7 @@ impl Files {
         Ok(())
     }
 
-    /// Puts the texts that were kept under a name behind the text.
+    /// Appends the texts that were kept under a name to the text.
     pub fn add(&mut self, name: &str) -> Result<(), AllocError> {
         for kept in &self.kept {
             if kept.name.as_slice() == name.as_bytes() {

@@ -8,7 +8,7 @@ use sef_moment::Moment;
 use std::alloc::{AllocError, Global};
 use std::io::Read;
 
-/// How many bytes are heard at once.
+/// How many bytes are received at once.
 const PIECE: usize = 4_096;
 
 /// What was taken of a session.
@@ -45,7 +45,7 @@ fn take_next(session: &mut Session, t: Moment, taken: &mut Taken) -> Result<bool
     Ok(true)
 }
 
-/// Hears a piece, in which no more frames than bytes can end.
+/// Receives a piece, in which no more frames than bytes can end.
 fn hear(session: &mut Session, piece: &[u8], t: Moment, taken: &mut Taken) -> Result<()> {
     session.push_bytes(piece)?;
     for _ in 0..=piece.len() {
@@ -59,7 +59,7 @@ fn hear(session: &mut Session, piece: &[u8], t: Moment, taken: &mut Taken) -> Re
     Ok(())
 }
 
-// Hears all that a reader gives.
+// Receives all that a reader gives.
 fn hear_all<R: Read>(session: &mut Session, reader: &mut R, t: Moment) -> Result<Taken> {
     let mut taken = Taken {
         frames: 0,

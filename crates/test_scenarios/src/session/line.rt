@@ -50,7 +50,7 @@ impl Part for Session {
         new_session(alloc, "SEF", "ALPHA")
     }
 
-    // Plays a line, and appends it with what the session answers, of the same answers in succession one.
+    // Of equal answers in succession, one is appended.
     fn run_line(
         &mut self,
         alloc: Global,

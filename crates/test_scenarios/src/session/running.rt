@@ -40,7 +40,7 @@ fn look_at(session: &Session) -> Look {
     }
 }
 
-// Sends the message that is told behind its moment.
+// Sends the message that follows its moment.
 fn send(alloc: Global, session: &mut Session, text: &str) -> Result<Option<Answer>, AllocError> {
     let Some((after, message)) = text.split_once(' ') else {
         return Ok(None);
@@ -107,7 +107,7 @@ fn ask(alloc: Global, session: &mut Session, line: &str) -> Result<Option<Answer
     Ok(Some(Answer::Nothing))
 }
 
-/// What the call of a line gives. A call to which a growth is refused changes nothing that is seen, and is made once more.
+/// The answer to the call of a line. A call that fails to allocate changes nothing that is seen, and is made again.
 pub fn answer_to(
     alloc: Global,
     session: &mut Session,

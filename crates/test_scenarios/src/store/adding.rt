@@ -5,7 +5,7 @@ use crate::texts::app_in;
 use resend_store::{Store, StoreFault};
 use std::alloc::Global;
 
-// Adds the message that is told behind its first moment; false where none is told.
+// Adds the message that follows its first moment; false where there is none.
 fn add_message(alloc: Global, store: &mut Store, text: &str) -> Result<bool, StoreFault> {
     let Some((moment, message)) = text.split_once(' ') else {
         return Ok(false);
@@ -26,7 +26,7 @@ fn add_message(alloc: Global, store: &mut Store, text: &str) -> Result<bool, Sto
 /// Makes a call that adds, if it is one.
 pub fn add(alloc: Global, store: &mut Store, word: &str, rest: &str) -> Result<bool, StoreFault> {
     match word {
-        "mark" => {
+        "admin" => {
             let number = store.next_number();
             store.add_admin(number)?;
         }

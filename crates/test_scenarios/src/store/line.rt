@@ -35,7 +35,7 @@ fn ask(
     look(alloc, store, word, rest, emitted)
 }
 
-// Makes a call, once more where a growth was refused, after the store was compared with what it was.
+// Makes a call again where an allocation failed, once the store was compared with what it was.
 fn ask_again(
     alloc: Global,
     store: &mut Store,
@@ -62,7 +62,6 @@ impl Part for Store {
         Ok(Store::new(alloc))
     }
 
-    // Plays a line, and appends it with what is answered.
     fn run_line(
         &mut self,
         alloc: Global,

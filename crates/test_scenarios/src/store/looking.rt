@@ -32,7 +32,7 @@ fn emit_resend(alloc: Global, resend: Resend<'_>, emitted: &mut Vec<u8>) -> Resu
     }
 }
 
-// Tells what is sent again for these numbers; false where the first is none.
+// Prints what is sent again for these numbers; false where the first is no number.
 fn emit_resends(
     alloc: Global,
     store: &Store,
@@ -55,7 +55,7 @@ fn range_in(text: &str) -> Option<(u32, u32)> {
     Some((from.parse::<u32>().ok()?, to.parse::<u32>().ok()?))
 }
 
-/// Tells what a call sees of the store, if it is one that looks.
+/// Prints the answer of the store to a call, if it is one that only reads.
 pub fn look(
     alloc: Global,
     store: &Store,

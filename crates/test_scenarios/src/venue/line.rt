@@ -17,7 +17,7 @@ use std::mem;
 /// Why a line is not answered.
 #[derive(Drop, Clone, Copy, PartialEq)]
 pub enum Trouble {
-    /// It tells no call.
+    /// It is no call.
     NoCall,
     /// The files of the market are refused.
     NoFile,
@@ -30,7 +30,7 @@ impl From<AllocError> for Trouble {
     }
 }
 
-/// The market that is told, and the venue that is played.
+/// The market of the lines so far, and the venue that was opened last.
 #[derive(Drop)]
 pub struct Scenario {
     market: Market,
@@ -38,14 +38,14 @@ pub struct Scenario {
 }
 
 impl Scenario {
-    // A market without participants and instruments, in the place of the one that is told.
+    // Begins a market without participants and instruments.
     fn new_market(&mut self, alloc: Global) -> Result<(), Trouble> {
         let market = Market::new(alloc)?;
         drop(mem::replace(&mut self.market, market));
         Ok(())
     }
 
-    // A new venue, on the market that is told.
+    // Opens a new venue on the market of the lines so far.
     fn open(&mut self, alloc: Global) -> Result<(), Trouble> {
         let stage = Stage::open(alloc, &self.market)?;
         drop(mem::replace(&mut self.stage, stage));
@@ -78,7 +78,7 @@ fn take(
         .send(alloc, moment, sent_in(text)?, 0, emitted)
 }
 
-// One message of a line of many, once more where a growth was refused.
+// One message of a line of many, sent again where an allocation failed.
 fn send_one(
     alloc: Global,
     scenario: &mut Scenario,
@@ -168,7 +168,7 @@ fn call(
     }
 }
 
-// Makes the call of a line, once more where a growth was refused.
+// Makes the call of a line again where an allocation failed.
 fn call_again(
     alloc: Global,
     scenario: &mut Scenario,
@@ -203,7 +203,6 @@ impl Part for Scenario {
         })
     }
 
-    // Plays a line, and appends it with what is answered.
     fn run_line(
         &mut self,
         alloc: Global,

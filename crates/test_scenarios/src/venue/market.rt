@@ -1,4 +1,4 @@
-//! The files of a market, as the lines of a transcript tell them.
+//! The files of a market, made of the lines of a transcript.
 
 use crate::venue::line::Trouble;
 use instruments::{FileFault as InstrumentFault, Instruments};

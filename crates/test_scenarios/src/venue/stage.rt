@@ -1,4 +1,4 @@
-//! A venue that is played.
+//! A venue, and what it is given.
 ghost use Rattle.std.specs.Prelude.{◌≡◌, ◌≤◌, ◌+◌, IfOk};
 ghost use Rattle.venue_core.specs.Plan.{IsPlanOf};
 
@@ -37,7 +37,7 @@ fn plan(venue: &mut Venue, input: &Input) -> Result<Plan, AllocError>
     }
 }
 
-// Appends what the venue replies; after it the venue has gone on. Where a growth was refused it has not.
+// Appends the venue's replies, and applies its plan; where an allocation failed, the plan is dropped.
 fn step(
     alloc: Global,
     venue: &mut Venue,

@@ -62,7 +62,7 @@ fn emit_rows(alloc: Global, rows: &[TrailRow], emitted: &mut Vec<u8>) -> Result<
     Ok(())
 }
 
-/// An answer of a world, and the world, whose rows it may tell.
+/// An answer of a world, and the world, whose rows it may print.
 #[derive(Clone, Copy)]
 pub struct Emitted<'a> {
     pub world: &'a Outcome,

@@ -31,7 +31,7 @@ fn filling_in(text: &str) -> Option<Filling<'_>> {
     })
 }
 
-// The message of this number is sent, heard, handed and taken; the first answer that is a fault ends it.
+// The message of this number is sent, received, handed and taken; the first answer that is a fault ends it.
 fn send_one(
     alloc: Global,
     world: &mut Outcome,
@@ -57,7 +57,7 @@ fn send_one(
     Ok(Answer::Nothing)
 }
 
-// So many of them; the first answer that is a fault ends it.
+// `count` of them; the first answer that is a fault ends it.
 fn send_all(
     alloc: Global,
     world: &mut Outcome,
@@ -74,7 +74,7 @@ fn send_all(
     Ok(Answer::Nothing)
 }
 
-/// So many messages, as a text tells them; none where it tells none.
+/// The messages that a text states; none where it states none.
 pub fn fill(
     alloc: Global,
     world: &mut Outcome,

@@ -14,7 +14,6 @@ impl Part for Outcome {
         Ok(new_world(alloc, None)?)
     }
 
-    // Plays a line, and appends it with what the world answers.
     fn run_line(
         &mut self,
         alloc: Global,

@@ -18,8 +18,8 @@ pub fn who_in(name: &str) -> Option<Who> {
     None
 }
 
-/// The frame of a message of a participant: its type, its header with this number, and its other fields. None where the text
-/// is no message.
+/// The frame of a message of a participant: its type, its header with this number, and its other fields. None where the
+/// text is no message.
 pub fn frame_of(
     alloc: Global,
     who: Who,

@@ -92,7 +92,7 @@ fn queued(world: &Outcome, who: Who) -> Answer {
     Answer::Count(world.queued(who))
 }
 
-// The frame of a message comes, which is told behind its number.
+// The frame of a message comes: its number, and then its fields.
 fn hear(
     alloc: Global,
     world: &mut Outcome,
@@ -184,7 +184,7 @@ fn row_count(world: &Outcome) -> usize {
     world.keeper().rows().len()
 }
 
-/// What the call of a line gives. A call to which a growth is refused, which changes nothing, is made once more.
+/// The answer to the call of a line. A call that fails to allocate changes nothing, and is made again.
 pub fn scenario(
     alloc: Global,
     world: &mut Outcome,
