@@ -1,10 +1,12 @@
 #!/usr/bin/env python3
-"""tools/prove_program.py PROGRAM..: proves programs and the crates that they stand on, and builds them, so many side by side as the
-machine allows. (rt keeps all of a crate's libraries to itself while it checks the crate, so that it works on one at a time.)
+"""tools/prove_program.py PROGRAM..: proves programs and the crates that they depend on, and builds them, as many at
+once as the machine allows. (rt itself locks a crate's libraries while it checks the crate, so that it works on one at a
+time.)
 
-A line for each crate when it is proved: how much of the whole that was, by the bytes of what the prover reads, and, once there is
-something to judge it by, how long the rest may take. What was built of this very text stays as it is. What the prover says goes to
-out/proving.log. The status is 1 where a crate is refused; then the others that were begun come to their end, and no more are begun.
+Prints a line for each crate when it is proved: the share of the whole that is proved, by the bytes that the prover
+reads, and, after the first tenth, an estimate of the time that is left. What was built of this very text stays as it
+is. The prover's output goes to out/proving.log. The status is 1 where a crate is refused; then the checks that run are
+completed, and no more are started.
 """
 import contextlib
 import functools
@@ -20,8 +22,8 @@ import repository
 
 LOG = f"{repository.ROOT}/out/proving.log"
 
-# The share of the whole before which no guess of the rest is told.
-FIRST_GUESS = 0.1
+# The share of the whole before which the time that is left is not estimated.
+FIRST_ESTIMATE = 0.1
 
 USES = repository.crates()
 
@@ -35,7 +37,7 @@ def wanted(programs):
 
 
 def files_read(crate):
-    """The files that the prover reads of a crate, in order."""
+    """The files that the prover reads of a crate, sorted."""
     found = []
     for part in repository.PARTS:
         for folder, _, names in os.walk(f"{repository.folder_of(crate)}/{part}"):
@@ -44,7 +46,7 @@ def files_read(crate):
 
 
 def bytes_read(crate):
-    """The bytes of what the prover reads of a crate."""
+    """The bytes that the prover reads of a crate."""
     return sum(os.path.getsize(file) for file in files_read(crate))
 
 
@@ -54,7 +56,7 @@ def toolchain():
 
 
 def own_sum(crate):
-    """A sum of what the prover reads of a crate, as it stands now."""
+    """A sum of what the prover reads of a crate, in its present text."""
     seen = hashlib.sha256(f"{crate}: {USES[crate]}".encode())
     for file in files_read(crate):
         text = repository.text_of(file)
@@ -63,7 +65,8 @@ def own_sum(crate):
 
 
 def text_sum(crate, own=own_sum):
-    """A sum of the toolchain and of what the prover reads of a crate and of those below it, by a sum of each of them."""
+    """A sum of the toolchain and of what the prover reads of a crate and of those below it, by a sum of each of
+    them."""
     parts = [own(each) for each in [*repository.crates_below(crate, USES), crate]]
     return hashlib.sha256(f"{toolchain()} {parts}".encode()).hexdigest()
 
@@ -77,13 +80,15 @@ def built(crate):
     return f"{repository.folder_of(crate)}/out/{crate}" if is_program(crate) else repository.library_of(crate)
 
 
-def mark(crate):
-    """The file beside what is built that has the sum of its text."""
+def stamp(crate):
+    """The file next to what is built that has the sum of its text."""
     return f"{os.path.dirname(built(crate))}/{crate}.of"
 
 
 def is_up_to_date(crate, own):
-    return os.path.exists(built(crate)) and os.path.isfile(mark(crate)) and repository.text_of(mark(crate)) == text_sum(crate, own)
+    if not os.path.exists(built(crate)) or not os.path.isfile(stamp(crate)):
+        return False
+    return repository.text_of(stamp(crate)) == text_sum(crate, own)
 
 
 def build_words(crate, jobs):
@@ -97,10 +102,10 @@ def build_words(crate, jobs):
 
 
 def link(crate, log):
-    """Links a program that was built, and tells whether that went well."""
+    """Links a program that was built, and returns whether that went well."""
     kit = os.path.dirname(os.path.dirname(prover.command(crate, USES, "")[0]))
-    words = [f"{kit}/bin/rattle-link", "--target", "x86_64-unknown-linux-gnu", "--toolchain", f"{kit}/toolchain", "-o", built(crate)]
-    words += [f"{built(crate)}.o", f"{kit}/c/libos_c.a", f"{kit}/c/liblibc_c.a"]
+    words = [f"{kit}/bin/rattle-link", "--target", "x86_64-unknown-linux-gnu", "--toolchain", f"{kit}/toolchain"]
+    words += ["-o", built(crate), f"{built(crate)}.o", f"{kit}/c/libos_c.a", f"{kit}/c/liblibc_c.a"]
     return subprocess.run(words, stdout=log, stderr=log, check=False).returncode == 0
 
 
@@ -109,7 +114,8 @@ def minutes(seconds):
 
 
 class Proving:
-    """What is to be proved, what is being proved, and what is. `heights` has the bytes of the longest chain of crates from each one up."""
+    """What is left to be proved, what is being proved, and what is proved. `heights` has the bytes of the longest chain
+    of crates above each."""
 
     def __init__(self, programs, log):
         crates = wanted(programs)
@@ -132,23 +138,25 @@ class Proving:
         self.log = log
         self.began = time.monotonic()
 
-    def begin(self, lanes):
-        """Begins the crates whose libraries are proved, those first on which most stands, which share the lanes that are free."""
+    def start(self, max_jobs):
+        """Starts the crates whose libraries are proved, the longest chain above first, which share the jobs that are
+        free."""
         ready = [crate for crate in self.left if self.below[crate] <= self.done and not self.failed]
         ready.sort(key=self.heights.get, reverse=True)
-        free = lanes - sum(jobs for jobs, _ in self.checks.values())
+        free = max_jobs - sum(jobs for jobs, _ in self.checks.values())
         for crate in ready[:free]:
             jobs = max(1, free // len(ready))
             self.left.remove(crate)
             os.makedirs(os.path.dirname(built(crate)), exist_ok=True)
             with contextlib.suppress(FileNotFoundError):
-                os.remove(mark(crate))
+                os.remove(stamp(crate))
             self.sums[crate] = text_sum(crate)
-            how = {"cwd": repository.folder_of(crate), "stdin": subprocess.DEVNULL, "stdout": self.log, "stderr": self.log}
-            self.checks[crate] = jobs, subprocess.Popen(build_words(crate, jobs), **how)
+            streams = {"stdin": subprocess.DEVNULL, "stdout": self.log, "stderr": self.log}
+            words = build_words(crate, jobs)
+            self.checks[crate] = jobs, subprocess.Popen(words, cwd=repository.folder_of(crate), **streams)
 
     def end(self):
-        """Tells of the crates whose check has come to its end."""
+        """Reports the crates whose check is completed."""
         for crate, (_, check) in [*self.checks.items()]:
             if check.poll() is None:
                 continue
@@ -157,9 +165,9 @@ class Proving:
                 self.failed.append(crate)
                 print(f"  {crate}: REFUSED", flush=True)
                 continue
-            # (what was altered meanwhile is not what was proved)
+            # (a text that was edited in the meantime is not the one that was proved)
             if text_sum(crate) == self.sums[crate]:
-                with open(mark(crate), "w", encoding="utf-8") as it:
+                with open(stamp(crate), "w", encoding="utf-8") as it:
                     it.write(self.sums[crate])
             self.done.add(crate)
             print(f"  {crate} proved{self.rest()}", flush=True)
@@ -168,9 +176,9 @@ class Proving:
         return sum(self.sizes[crate] for crate in self.done) / sum(self.sizes.values())
 
     def rest(self):
-        """The share of the whole that is proved, and a guess of how long the rest takes."""
+        """The share of the whole that is proved, and an estimate of the time that is left."""
         share = self.share()
-        if not FIRST_GUESS <= share - self.before < 1 - self.before:
+        if not FIRST_ESTIMATE <= share - self.before < 1 - self.before:
             return f" ({share:.0%})"
         left = (time.monotonic() - self.began) * (1 - share) / (share - self.before)
         return f" ({share:.0%}; the rest may take {minutes(left)})"
@@ -180,14 +188,14 @@ def main(programs):
     os.makedirs(os.path.dirname(LOG), exist_ok=True)
     with open(LOG, "w", encoding="utf-8") as log:
         proving = Proving(programs, log)
-        lanes = host.parallelism()
-        proving.begin(lanes)
+        max_jobs = host.parallelism()
+        proving.start(max_jobs)
         while proving.checks:
             time.sleep(0.2)
             proving.end()
-            proving.begin(lanes)
+            proving.start(max_jobs)
     if proving.failed:
-        print(f"refused: {', '.join(proving.failed)}; out/proving.log says why", file=sys.stderr)
+        print(f"refused: {', '.join(proving.failed)}; the reason is in out/proving.log", file=sys.stderr)
         return 1
     print(f"all is proved, in {minutes(time.monotonic() - proving.began)}")
     return 0

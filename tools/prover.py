@@ -1,4 +1,4 @@
-"""The prover, asked of a crate with edits, and what it says."""
+"""The prover, asked about a crate with edits, and its answer."""
 import os
 import re
 import shutil
@@ -7,17 +7,18 @@ import tempfile
 
 from repository import PARTS, crates_below, folder_of, library_of, text_of
 
-# What antt says where a proof file names something that the crate no longer has.
+# What antt prints where a proof file names something that the crate no longer has.
 NAME_IS_GONE = re.compile(r"has no field|is not in scope|has no `|was not admitted")
-# What antt says where it cannot read a text at all, so that nothing was tried. (rt's judge of must-fail edits has the same words.)
+# What antt prints where it cannot read a text at all, so that nothing was tried. (rt goes by the same words for
+# must-fail edits.)
 CANNOT_READ = re.compile(r"is not in scope|has no field|is no name|operand is missing|expected the end|cannot continue")
-# What antt says where a library's kept work does not fit this crate.
+# What antt prints where a library's kept work does not fit this crate.
 STALE = re.compile(r"module .Rattle-(\w+)-.*Run the lower steps again")
 
 
 def command(crate, uses, kept):
-    """The check of the crate whose parts stand in the current folder, in rt ci's words: over the libraries in crates/*/out/rlib, at
-    one job, over the work that earlier checks kept, to which it adds its own."""
+    """The check of the crate whose parts are in the current folder, by the command that rt ci uses: over the libraries
+    in crates/*/out/rlib, at one job, over the work that earlier checks kept, to which it adds its own."""
     kit = os.path.dirname(os.path.dirname(os.path.realpath(shutil.which("rt"))))
     top = "main" if os.path.isfile(f"{folder_of(crate)}/src/main.rt") else "lib"
     words = [f"{kit}/bin/rattle", "check", "--crate-name", crate, f"src/{top}.rt"]
@@ -38,7 +39,7 @@ def write_edited_copy(crate, edits, folder):
     changes = [change for edit in edits for change in edit.changes]
     for path in {change.path for change in changes}:
         text = text_of(f"{folder}/{path}")
-        # (from the last to the first, so that each stands where it was found)
+        # (from the last to the first, so that each is still where it was found)
         for change in sorted((it for it in changes if it.path == path), key=lambda it: -it.begin):
             text = text[: change.begin] + change.new + text[change.end :]
         with open(f"{folder}/{path}", "w", encoding="utf-8") as it:
@@ -46,8 +47,8 @@ def write_edited_copy(crate, edits, folder):
 
 
 def ask(crate, uses, kept, edits):
-    """What the prover says of the crate with these edits."""
-    with tempfile.TemporaryDirectory(prefix="wrong-bodies-") as folder:
+    """The prover's answer about the crate with these edits."""
+    with tempfile.TemporaryDirectory(prefix="mutants-") as folder:
         write_edited_copy(crate, edits, folder)
         how = {"cwd": folder, "stdin": subprocess.DEVNULL, "stdout": subprocess.PIPE, "stderr": subprocess.STDOUT}
         ran = subprocess.run(command(crate, uses, kept), errors="replace", check=False, **how)
@@ -55,35 +56,37 @@ def ask(crate, uses, kept, edits):
 
 
 class Answer:
-    """What the prover said of a crate.
+    """The prover's answer about a crate.
 
     is_proved    the crate is proved
-    was_judged   it is not, and all of it was read; where neither holds, `stopped` is the line that says why
-    refused      what it refuses for more than that functions which it calls are not proved
-    at_goals     of these, what it refuses at a goal, and not only since a proof file names what is gone, or lacks what is new
-    goals        what it says of these, or of a law, a definition or a lemma on definitions that is refused
-    first        the first line to show of what it said
+    was_read     it is not, and all of it was read; where neither holds, `stopped` is the line with the reason
+    refused      the functions that it refuses for more than that functions which they call are not proved
+    at_goals     those of them that it refuses at a goal, and not only since a proof file names what is gone, or lacks
+                 what is new
+    goals        these, and the errors of a law, a definition or a lemma on definitions that is refused
+    first        the first line of the output to show
     """
 
-    def __init__(self, status, said):
-        self.errors = re.findall(r"(?m)^(?:\./)?(\S+?):\d+:\d+: error: (.*)$", said)
-        last = said.rstrip("\n").rpartition("\n")[2]
+    def __init__(self, status, output):
+        self.errors = re.findall(r"(?m)^(?:\./)?(\S+?):\d+:\d+: error: (.*)$", output)
+        last = output.rstrip("\n").rpartition("\n")[2]
         unread = [f"{file}: {error}" for file, error in self.errors if is_unread(file, error)]
-        stale = ["the kept work of a library could not be used"] if STALE.search(said) else []
+        stale = ["the kept work of a library could not be used"] if STALE.search(output) else []
         self.is_proved = status == 0 and last.startswith("logic=proved")
-        self.was_judged = status == 1 and last.startswith("logic=not-proved") and not unread and not stale
+        self.was_read = status == 1 and last.startswith("logic=not-proved") and not unread and not stale
         self.stopped = [*stale, *unread, last][0][:200]
-        lines = re.findall(r"(?m)^(?:fn|struct|enum|impl|trait) (\S+): (.*)$", said)
-        self.refused = [name for name, told in lines if reasons_of(told)]
-        self.at_goals = [name for name, told in lines if self.is_at_goal(name, reasons_of(told))]
+        lines = re.findall(r"(?m)^(?:fn|struct|enum|impl|trait) (\S+): (.*)$", output)
+        self.refused = [name for name, verdict in lines if reasons_of(verdict)]
+        self.at_goals = [name for name, verdict in lines if self.is_at_goal(name, reasons_of(verdict))]
         statements = [f"{file}: {error}" for file, error in self.errors if file.startswith(("src/", "specs/"))]
         lemmas = [f"{file}: {error}" for file, error in self.errors if is_false_lemma(file, error)]
         self.goals = [*self.at_goals, *statements, *lemmas]
         self.first = [*(f"{file}: {error}" for file, error in self.errors), *self.refused, last][0][:200]
 
     def is_at_goal(self, name, reasons):
-        """Whether the function, refused for these reasons, is refused at a goal. Errors in its proof files that all tell of names
-        count as none, even where `search` then fails too: an invariant that cannot be read leaves its loop without one."""
+        """Whether the function, refused for these reasons, is refused at a goal. Errors in its proof files that are all
+        about names count as none, even where `search` then fails too: an invariant that cannot be read leaves its loop
+        without one."""
         folder = f"proofs/{'/'.join(name.split('::')[1:])}/"
         errors = [error for file, error in self.errors if file.startswith(folder)]
         if errors:
@@ -91,24 +94,28 @@ class Answer:
         return any("did not prove" in reason for reason in reasons)
 
 
-def reasons_of(told):
-    """The reasons, of those that the prover gives behind the name of what it refuses, that lie in the function itself: that one
-    which it calls is not proved is none, nor that an impl waits for the proof of its method. Words other than `not proved` and
-    `no proof`, as `could not tell`, are no refusal."""
-    if not re.match(r"(not proved|no proof)\b", told) or re.match("not proved; it waits for the proofs? of ", told):
+def reasons_of(verdict):
+    """Those of the prover's reasons, which follow the name of what it refuses, that lie in the function itself: that
+    one which it calls is not proved is none, nor that an impl waits for the proof of its method. A verdict other than
+    `not proved` and `no proof` is no refusal."""
+    is_refusal = re.match(r"(not proved|no proof)\b", verdict)
+    if not is_refusal or re.match("not proved; it waits for the proofs? of ", verdict):
         return []
-    reasons = re.split(r"[:;] ", told)
+    reasons = re.split(r"[:;] ", verdict)
     if reasons[0] == "no proof" and len(reasons) > 1:
         reasons = reasons[1:]
     return [reason for reason in reasons if not reason.startswith("it calls ")]
 
 
 def is_false_lemma(file, error):
-    """Whether antt refuses a lemma of a file of lemmas for what it says, as where a definition that it speaks of is turned."""
-    return bool(re.match(r"proofs/[^/]*\.antt$", file) and re.match("`[^`]*`: ", error)) and not NAME_IS_GONE.search(error)
+    """Whether antt refuses a lemma of a file of lemmas for what it states, as where a definition that it cites is
+    changed."""
+    is_of_lemma = re.match(r"proofs/[^/]*\.antt$", file) and re.match("`[^`]*`: ", error)
+    return bool(is_of_lemma) and not NAME_IS_GONE.search(error)
 
 
 def is_unread(file, error):
-    """Whether antt could not read a text of the code or the definitions; else it says of an item that it is not so."""
+    """Whether antt could not read a text of the code or the definitions; else the error is that an item does not
+    hold."""
     item = re.match(r"`[^`]*`: ", error)
     return file.startswith(("src/", "specs/")) and (not item or bool(CANNOT_READ.search(re.sub("`[^`]*`", "", error))))

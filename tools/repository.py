@@ -1,10 +1,10 @@
-"""The crates of this repository, as crates.txt names them, and where their files stand."""
+"""The crates of this repository, as crates.txt lists them, and where their files are."""
 import os
 import re
 
 ROOT = os.path.dirname(os.path.dirname(os.path.realpath(__file__)))
 
-# What of a crate the prover reads.
+# The parts of a crate that the prover reads.
 PARTS = ("src", "specs", "proofs")
 
 
@@ -28,7 +28,7 @@ def crates():
 
 
 def crates_below(crate, uses):
-    """The crates of this repository that a crate stands on, lowest first, each once."""
+    """The crates of this repository that a crate depends on, lowest first, each once."""
     found = {}
     for library in uses[crate]:
         if library in uses:
@@ -37,7 +37,7 @@ def crates_below(crate, uses):
 
 
 def source_files(crate):
-    """The files of the crate's Rattle code, in order."""
+    """The files of the crate's Rattle code, sorted."""
     found = []
     for folder, _, names in os.walk(f"{folder_of(crate)}/src"):
         found += [f"{folder}/{name}" for name in names if name.endswith(".rt")]

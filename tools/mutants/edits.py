@@ -1,4 +1,4 @@
-"""Wrong bodies: what an edit puts where, and in whose body it stands."""
+"""Mutants: what an edit changes, and in which function."""
 import os
 import re
 from dataclasses import dataclass
@@ -11,7 +11,7 @@ FOLDER = "mutants"
 
 @dataclass(frozen=True)
 class Change:
-    """The text from `begin` to `end` of a file of the crate gives way to another."""
+    """The text from `begin` to `end` of a file of the crate is replaced by another."""
 
     path: str
     begin: int
@@ -24,8 +24,8 @@ class Change:
 
 @dataclass(frozen=True)
 class Edit:
-    """A wrong body. `fault` says why it cannot be applied; `function` is the one in whose body all of it stands, as the prover names
-    it, or None for an edit of a constant, a clause, a definition or several functions."""
+    """A mutant. `fault` is why it cannot be applied; `function` is the one whose body has all its changes, by the
+    prover's name, or None for an edit of a constant, a clause, a definition or several functions."""
 
     label: str
     changes: tuple = ()
@@ -33,7 +33,8 @@ class Edit:
     fault: str = None
 
     def goes_with(self, others):
-        """Whether it can be tried beside these: each in a function of its own, and none in the text of another."""
+        """Whether it can be tried together with these: each in a function of its own, and none in the text of
+        another."""
         if self.function in [other.function for other in others]:
             return False
         return not any(mine.meets(its) for other in others for its in other.changes for mine in self.changes)
@@ -44,7 +45,7 @@ class BadEdit(Exception):
 
 
 def pairs_of(text):
-    """The edit's pairs: the file, the text that stands there and the one that is to stand there."""
+    """The edit's pairs: the file, the old text and the new one."""
     path, old, pairs = None, None, []
     for line in text.split("\n"):
         if line.startswith("file: "):
@@ -53,7 +54,7 @@ def pairs_of(text):
             old = line[len("old: ") :]
         elif line.startswith("new:"):
             if not path or not old:
-                raise BadEdit("a 'new:' line stands before any 'file:' or 'old:' line")
+                raise BadEdit("a 'new:' line comes before any 'file:' or 'old:' line")
             pairs.append((path, old, re.sub("^ ", "", line[len("new:") :])))
             old = None
     if not pairs or old:
@@ -62,7 +63,8 @@ def pairs_of(text):
 
 
 def change_of(crate, path, old, new):
-    """The change that a pair asks for, where its old text is found once in a file of the crate's code or definitions."""
+    """The change that a pair asks for, where its old text is found once in a file of the crate's code or
+    definitions."""
     if path.split("/")[0] not in ("src", "specs") or ".." in path:
         raise BadEdit(f"{path} is no file of src/ or specs/ (an edit of a proof shows nothing)")
     file = f"{folder_of(crate)}/{path}"
@@ -78,7 +80,8 @@ def change_of(crate, path, old, new):
 
 
 def prover_name(crate, path, body):
-    """The prover's name for the function of a body in a file. A method is named by the module that declares its type."""
+    """The prover's name for the function of a body in a file. A method is named by the module that declares its
+    type."""
     declaration = rf"\b(?:struct|enum|union|trait) {body.kind}\b"
     homes = [file for file in source_files(crate) if body.kind and re.search(declaration, text_of(file))]
     if len(homes) == 1:
@@ -87,19 +90,19 @@ def prover_name(crate, path, body):
 
 
 def function_of(crate, changes):
-    """The function in whose body all changes stand, as the prover names it, or None."""
+    """The function whose body has all changes, by the prover's name, or None."""
     path = changes[0].path
     if {change.path for change in changes} != {path} or not path.endswith(".rt"):
         return None
     text = text_of(f"{folder_of(crate)}/{path}")
-    # (the functions of a cycle have one proof, which does not tell whose body is wrong)
+    # (the functions of a cycle have one proof, which does not show whose body is wrong)
     if "#[cycle" in text:
         return None
     bodies = bodies_of(text)
     found = set()
     for change in changes:
         around = [body for body in bodies if body.holds(change.begin, change.end)]
-        # (a function within another has a name like that of a closure)
+        # (a nested function has a name like that of a closure)
         if len(around) != 1 or brace_shape(text[change.begin : change.end]) != brace_shape(change.new):
             return None
         found.add(around[0])
@@ -122,12 +125,14 @@ def read_edit(crate, file):
 
 
 def edits_of(crate):
-    """The crate's edits, by name. A file of the folder that is no edit is one that cannot be applied, so that none is passed over."""
+    """The crate's edits, by name. A file of the folder that is no edit counts as one that cannot be applied, so that
+    none is overlooked."""
     folder = f"{folder_of(crate)}/{FOLDER}"
     edits = []
     for name in sorted(os.listdir(folder)) if os.path.isdir(folder) else []:
         if name.endswith(".edit"):
             edits.append(read_edit(crate, f"{folder}/{name}"))
         elif not name.endswith(".md"):
-            edits.append(Edit(f"{crate}/{name}", fault="its name does not end in .edit (or in .md, if it is only to be read)"))
+            fault = "its name does not end in .edit (or in .md, if it is only to be read)"
+            edits.append(Edit(f"{crate}/{name}", fault=fault))
     return edits

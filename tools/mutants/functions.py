@@ -2,7 +2,7 @@
 import re
 from dataclasses import dataclass
 
-# Comments, strings and characters, in which braces and words mean nothing. (A lifetime is no character.)
+# Comments, strings and characters, in which braces and words have no meaning. (A lifetime is no character.)
 UNREAD = re.compile(
     r"""//[^\n]* | /\*.*?\*/ | b?r(\#*)".*?"\1 | b?"(?:[^"\\]|\\.)*" | b?'(?:[^'\\\n]|\\[^\n][^'\n]*)'""",
     re.S | re.X,
@@ -11,8 +11,8 @@ UNREAD = re.compile(
 
 @dataclass(frozen=True)
 class Body:
-    """The text from `begin` to `end` is the body of a function, whose name is led by that of its impl or trait. `kind` is the type
-    that the impl is of, or the trait, and empty where the function stands in neither."""
+    """The text from `begin` to `end` is the body of a function, whose name begins with that of its impl or trait.
+    `kind` is the type of the impl, or the trait, and empty where the function is in neither."""
 
     begin: int
     end: int
@@ -24,13 +24,13 @@ class Body:
 
 
 def blanked(text):
-    """The text with spaces where nothing is code: each place stays where it is."""
+    """The text with spaces in place of what is no code; each position stays."""
     return UNREAD.sub(lambda found: re.sub(r"[^\n]", " ", found[0]), text)
 
 
 def brace_shape(text):
-    """How many more braces the text opens than it closes, and the most that it closes of those before it. A text in the place of one
-    of the same shape leaves the bodies around it as they are."""
+    """The braces that the text opens less those that it closes, and the most that it closes of earlier ones. A text in
+    place of one of the same shape leaves the bodies around it as they are."""
     depth = lowest = 0
     for found in re.finditer(r"[{}]", blanked(text)):
         depth += 1 if found[0] == "{" else -1
@@ -39,7 +39,7 @@ def brace_shape(text):
 
 
 def ends_of_braces(code):
-    """The place of each closing brace, by that of its opening one."""
+    """The position of each closing brace, by that of its opening one."""
     ends, open_ones = {}, []
     for found in re.finditer(r"[{}]", code):
         if found[0] == "{":
@@ -50,30 +50,31 @@ def ends_of_braces(code):
 
 
 def opening_of_body(code, start, ends):
-    """The place of the brace that opens the body of the function whose name ends at `start`, or None where it has none.
-    The braces of clauses come before it, and a `;` within brackets, as in `[u8; 21]`, is a part of a type."""
-    depth, clauses_from, place = 0, start, start
-    while place < len(code):
-        mark = code[place]
-        if mark in "([":
+    """The position of the brace that opens the body of the function whose name ends at `start`, or None where it has
+    none. The braces of clauses come before it, and a `;` within brackets, as in `[u8; 21]`, is a part of a type."""
+    depth, clauses_from, at = 0, start, start
+    while at < len(code):
+        sign = code[at]
+        if sign in "([":
             depth += 1
-        elif mark in ")]":
+        elif sign in ")]":
             depth -= 1
-        elif mark == ";" and depth == 0:
+        elif sign == ";" and depth == 0:
             return None
-        elif mark == "{" and place not in ends:
+        elif sign == "{" and at not in ends:
             return None
-        elif mark == "{":
-            if not re.search(r"\b(requires|ensures|ghost)\b", code[clauses_from:place]):
-                return place
-            place = clauses_from = ends[place]
-        place += 1
+        elif sign == "{":
+            if not re.search(r"\b(requires|ensures|ghost)\b", code[clauses_from:at]):
+                return at
+            at = clauses_from = ends[at]
+        at += 1
     return None
 
 
 def names_of_impl(head):
-    """The prover's name for an impl, from the text between `impl` and its brace, and its type: `MomentOrd`, type and then trait, and
-    `Moment`. The arguments of a trait are a part of that name in some form of the prover's, for which `*` stands: `FaultFrom*`."""
+    """The prover's name for an impl, from the text between `impl` and its brace, and its type: `MomentOrd`, type and
+    then trait, and `Moment`. The arguments of a trait are a part of that name in a form of the prover's own, written
+    `*` here: `FaultFrom*`."""
     head = re.split(r"\bwhere\b", head.replace("->", "  "))[0]
     head = re.sub(r">\s+for\b", "*> for", head)
     while re.search(r"<[^<>]*>", head):
@@ -83,11 +84,12 @@ def names_of_impl(head):
 
 
 def bodies_of(text):
-    """The bodies of all functions of a source text, those within others too."""
+    """The bodies of all functions of a source text, nested ones too."""
     code = blanked(text)
     ends = ends_of_braces(code)
     owners = []
-    for found in re.finditer(r"(?m)^ *(?:unsafe )?impl\b([^{;]*)\{|^ *(?:pub(?:\([^)]*\))? )?trait (\w+)[^{;]*\{", code):
+    impls, traits = r"^ *(?:unsafe )?impl\b([^{;]*)\{", r"^ *(?:pub(?:\([^)]*\))? )?trait (\w+)[^{;]*\{"
+    for found in re.finditer(f"(?m){impls}|{traits}", code):
         opening = found.end() - 1
         name, kind = (found[2], found[2]) if found[2] else names_of_impl(found[1])
         owners.append(Body(opening, ends.get(opening, opening), name, kind))
@@ -102,7 +104,8 @@ def bodies_of(text):
 
 
 def module_of(path):
-    """The module of a source file, as `venue::orders` for `src/venue/orders.rt`, and an empty one for the crate's root."""
+    """The module of a source file, as `venue::orders` for `src/venue/orders.rt`, and an empty one for the crate's
+    root."""
     words = re.sub(r"\.rt$", "", path).split("/")[1:]
     return "::".join(word for word in words if word not in ("lib", "main", "mod"))
 

@@ -1,8 +1,9 @@
-"""The crates whose wrong bodies were all refused before, in a text as it stands now: tools/mutants/killed.txt, a fingerprint a crate.
+"""The killed-mutants cache, tools/mutants/killed.txt: a fingerprint for each crate whose mutants were all killed in its
+present text.
 
-A wrong body is refused by its crate's own text and by what the crates below state: their definitions, their types and their
-contracts. Bodies and proofs below are not read, so a fingerprint does not change with them. It changes with the crate, its edits,
-what is stated below, the judge, and the toolchain."""
+A mutant is killed by its crate's own text and by what the crates below state: their definitions, their types and their
+contracts. The prover does not read their bodies and proofs, so a fingerprint does not depend on these. It depends on
+the crate, its mutants, what is stated below, the mutation runner, and the toolchain."""
 import functools
 import hashlib
 import os
@@ -13,12 +14,12 @@ from functions import bodies_of
 from repository import PARTS, ROOT, crates_below, folder_of, text_of
 
 FILE = f"{ROOT}/tools/mutants/killed.txt"
-JUDGE = ("mutants/edits.py", "mutants/functions.py", "mutants/runner.py", "prover.py", "repository.py")
-HEAD = "# The wrong bodies of these crates were all refused, in the text that has this fingerprint. tools/mutants/killed.py says what it is of.\n"
+RUNNER = ("mutants/edits.py", "mutants/functions.py", "mutants/runner.py", "prover.py", "repository.py")
+HEAD = "# The mutants of these crates were all killed in the text with this fingerprint (tools/mutants/killed.py).\n"
 
 
 def files_below(folder):
-    """The files below a folder, in order."""
+    """The files below a folder, sorted."""
     return sorted(f"{at}/{name}" for at, _, names in os.walk(folder) for name in names)
 
 
@@ -26,7 +27,7 @@ def without_bodies(text):
     """A source text without the bodies of its functions."""
     stated, end = [], 0
     for body in sorted(bodies_of(text), key=lambda body: body.begin):
-        # (a function within another goes with it)
+        # (a nested function is a part of its outer one)
         if body.begin >= end:
             stated.append(text[end : body.begin])
             end = body.end
@@ -44,7 +45,7 @@ def sum_of(texts):
 
 @functools.cache
 def stated(crate):
-    """A sum of what a crate states for those above it."""
+    """A sum of what a crate states for the crates above it."""
     source, folder = folder_of(crate), os.path.dirname(folder_of(crate))
     texts = [(file, without_bodies(text_of(file))) for file in files_below(f"{source}/src")]
     texts += [(file, text_of(file)) for file in files_below(f"{source}/specs")]
@@ -52,19 +53,19 @@ def stated(crate):
 
 
 @functools.cache
-def judge():
-    """A sum of the judge and the toolchain."""
+def runner():
+    """A sum of the mutation runner and the toolchain."""
     kit = subprocess.run(["rt", "version"], stdout=subprocess.PIPE, text=True, check=True).stdout
-    return sum_of([("kit", kit), *((name, text_of(f"{ROOT}/tools/{name}")) for name in JUDGE)])
+    return sum_of([("kit", kit), *((name, text_of(f"{ROOT}/tools/{name}")) for name in RUNNER)])
 
 
 def fingerprint(crate, uses):
-    """The fingerprint of a crate as it stands."""
+    """The fingerprint of a crate in its present text."""
     source = folder_of(crate)
     own = [file for part in (*PARTS, FOLDER) for file in files_below(f"{source}/{part}")]
     return sum_of(
         [
-            ("judge", judge()),
+            ("runner", runner()),
             *((below, stated(below)) for below in crates_below(crate, uses)),
             *((os.path.relpath(file, source), text_of(file)) for file in own),
         ]
@@ -72,13 +73,13 @@ def fingerprint(crate, uses):
 
 
 def killed():
-    """The fingerprints that are kept, by crate."""
+    """The fingerprints of the cache, by crate."""
     lines = text_of(FILE).split("\n") if os.path.isfile(FILE) else []
     return dict(line.split() for line in lines if line and not line.startswith("#"))
 
 
 def keep(crate, sum_of_it):
-    """Keeps a crate's fingerprint."""
+    """Puts a crate's fingerprint into the cache."""
     kept = {**killed(), crate: sum_of_it}
     with open(FILE, "w", encoding="utf-8") as it:
         it.write(HEAD + "".join(f"{name} {kept[name]}\n" for name in sorted(kept)))

@@ -1,4 +1,4 @@
-"""The judge of wrong bodies: which are tried at once, and what the prover's answer tells of each."""
+"""The mutation runner: which mutants are tried at once, and what the prover's answer means for each."""
 import os
 import shutil
 import tempfile
@@ -11,7 +11,8 @@ from repository import folder_of
 
 
 def groups_of(edits):
-    """The edits that stand in one function each, in groups that can be tried at once: as few as the first that has room gives."""
+    """The edits that lie in one function each, in groups that can be tried at once: each edit joins the first group
+    that it fits."""
     groups = []
     for edit in edits:
         if edit.function:
@@ -23,9 +24,9 @@ def groups_of(edits):
     return groups
 
 
-def told_by_group(group, answer):
-    """What the answer to a group tells of its edits: of some that they are refused, and of the others nothing."""
-    if not answer.was_judged:
+def verdicts_of_group(group, answer):
+    """The verdicts that the answer to a group gives: some edits are refused, and of the others nothing is known."""
+    if not answer.was_read:
         return {}
     is_edited = lambda name: any(is_of(name, edit.function) for edit in group)
     if not all(is_edited(name) for name in answer.refused):
@@ -34,56 +35,57 @@ def told_by_group(group, answer):
     return {edit: f"refused: {edit.function}" for edit in group if at_goal(edit)}
 
 
-def told_alone(answer):
-    """What the answer to one edit tells of it."""
+def verdict_alone(answer):
+    """The verdict that the answer to one edit gives."""
     if answer.is_proved:
         return "NOT REFUSED: the crate is still proved with this edit"
-    if not answer.was_judged:
-        return f"BAD EDIT: the prover did not judge it: {answer.stopped}"
+    if not answer.was_read:
+        return f"BAD EDIT: the prover gave no verdict: {answer.stopped}"
     if not answer.goals:
         return f"NO GOAL: it is refused, but at no goal: {answer.first}"
     return f"refused alone: {', '.join(answer.goals[:3])}"
 
 
-def told_of(edits, groups, is_proved, ask_with):
-    """What is told of each of these edits, and how many were tried alone. `ask_with` asks the prover of the crate with some edits.
-    Nothing is a refusal where the crate as it stands is not proved: that is asked first, unless it was seen just before, and always
-    before an edit is tried alone."""
+def verdicts_of(edits, groups, is_proved, ask_with):
+    """The verdict on each edit, and the number of those that were tried alone. `ask_with` asks the prover about the
+    crate with some edits. Nothing is a refusal where the crate without edits is not proved: that is asked first, unless
+    it was proved just before, and always before an edit is tried alone."""
     whole = None if is_proved else ask_with([])
-    told = {}
+    verdicts = {}
     if not whole or whole.is_proved:
         for group in groups:
-            told.update(told_by_group(group, ask_with(group)))
-    alone = [edit for edit in edits if edit not in told]
+            verdicts.update(verdicts_of_group(group, ask_with(group)))
+    alone = [edit for edit in edits if edit not in verdicts]
     if alone and not whole:
         whole = ask_with([])
     for edit in alone:
         if whole.is_proved:
-            told[edit] = told_alone(ask_with([edit]))
+            verdicts[edit] = verdict_alone(ask_with([edit]))
         else:
-            told[edit] = f"NOT TRIED: the crate as it stands is not proved: {whole.first}"
-    return told, len(alone)
+            verdicts[edit] = f"NOT TRIED: the crate without edits is not proved: {whole.first}"
+    return verdicts, len(alone)
 
 
 def try_crate(crate, uses, is_quick, is_proved):
-    """Tries the edits of a crate, prints what came of it, and returns how many are refused, how many are not, and how many of these at no goal."""
+    """Tries the edits of a crate, prints the verdicts, and returns how many are refused, how many are not, and how many
+    of these at no goal."""
     began = time.monotonic()
     edits = edits_of(crate)
     good = [edit for edit in edits if not edit.fault]
     groups = groups_of(good)
-    with tempfile.TemporaryDirectory(prefix="wrong-bodies-kept-") as room:
-        kept, before = f"{room}/kept", f"{folder_of(crate)}/out/incremental"
+    with tempfile.TemporaryDirectory(prefix="mutants-kept-") as folder:
+        kept, before = f"{folder}/kept", f"{folder_of(crate)}/out/incremental"
         if is_quick and os.path.isdir(before):
             shutil.copytree(before, kept)
         else:
             os.mkdir(kept)
-        told, alone = told_of(good, groups, is_proved, lambda some: ask(crate, uses, kept, some))
-    told.update({edit: f"BAD EDIT: {edit.fault}" for edit in edits if edit.fault})
-    refused = sum(told[edit].startswith("refused") for edit in edits)
+        verdicts, alone = verdicts_of(good, groups, is_proved, lambda some: ask(crate, uses, kept, some))
+    verdicts.update({edit: f"BAD EDIT: {edit.fault}" for edit in edits if edit.fault})
+    refused = sum(verdicts[edit].startswith("refused") for edit in edits)
     how = f"{len(groups)} group{'s' * (len(groups) != 1)}, {alone} alone, {minutes_since(began)}"
-    lines = [f"{edit.label}: {told[edit]}" for edit in edits]
+    lines = [f"{edit.label}: {verdicts[edit]}" for edit in edits]
     print("\n".join([*lines, f"== {crate}: {refused} of {len(edits)} refused ({how})"]), flush=True)
-    return refused, len(edits) - refused, sum(told[edit].startswith("NO GOAL") for edit in edits)
+    return refused, len(edits) - refused, sum(verdicts[edit].startswith("NO GOAL") for edit in edits)
 
 
 def minutes_since(began):

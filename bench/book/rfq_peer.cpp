@@ -1,6 +1,7 @@
-// The work of `test_scenarios rooms` in C++: rooms and quotes by the identifiers that the venue gives them in std::unordered_map,
-// used identifiers in std::unordered_set, the open rooms by their ends in a std::set. A request, a quote or a hit is checked, planned and
-// then done. rooms GONE TIMED prints the nanoseconds of each, the middle one of those timed.
+// The work of `test_scenarios rooms` in C++: rooms and quotes by the identifiers that the venue gives them in
+// std::unordered_map, used identifiers in std::unordered_set, the open rooms by their ends in a std::set. A request, a
+// quote or a hit is checked, planned and then applied. rfq_peer CLOSED TIMED prints the nanoseconds of each, the median
+// of those timed.
 #include <algorithm>
 #include <chrono>
 #include <cstdint>
@@ -101,7 +102,8 @@ struct Trade {
 
 class Market {
   public:
-    Market(const std::vector<std::string> &names, std::set<std::pair<uint32_t, uint32_t>> related, std::vector<Instrument> instruments)
+    Market(const std::vector<std::string> &names, std::set<std::pair<uint32_t, uint32_t>> related,
+           std::vector<Instrument> instruments)
         : related_(std::move(related)), instruments_(std::move(instruments)) {
         for (const auto &name : names) names_.emplace(name, names_.size());
         for (const auto &instrument : instruments_) symbols_.emplace(instrument.symbol, symbols_.size());
@@ -125,7 +127,8 @@ class Market {
         for (const auto a : recipients)
             for (const auto b : recipients)
                 for (const auto c : recipients)
-                    if (apart(who, a) && apart(who, b) && apart(who, c) && apart(a, b) && apart(a, c) && apart(b, c)) return true;
+                    if (apart(who, a) && apart(who, b) && apart(who, c) && apart(a, b) && apart(a, c) && apart(b, c))
+                        return true;
         return false;
     }
 
@@ -137,7 +140,9 @@ class Market {
     std::vector<Instrument> instruments_;
 };
 
-bool is_among(const std::vector<uint32_t> &all, uint32_t one) { return std::find(all.begin(), all.end(), one) != all.end(); }
+bool is_among(const std::vector<uint32_t> &all, uint32_t one) {
+    return std::find(all.begin(), all.end(), one) != all.end();
+}
 
 class Rooms {
   public:
@@ -204,14 +209,17 @@ class Rooms {
                 moment + 1000 * listed.life, false, {}};
     }
 
-    RoomQuote plan_quote(const Market &market, const Room &room, uint32_t who, const Quote &quote, uint64_t moment) const {
+    RoomQuote plan_quote(const Market &market, const Room &room, uint32_t who, const Quote &quote,
+                         uint64_t moment) const {
         if (!is_among(room.recipients, who)) refuse("not asked");
         if (room.traded || room.end < moment) refuse("room over");
         const Instrument &instrument = market.instrument(room.instrument);
         if (instrument.symbol != quote.symbol) refuse("another instrument");
         if (used_quotes_.count({who, quote.id}) != 0) refuse("duplicate quote");
         if (quote.type && *quote.type != '1') refuse("not tradeable");
-        if (!room.side ? !quote.bid && !quote.offer : room.side == Side::Buy ? !quote.offer : !quote.bid) refuse("price missing");
+        const bool has_one = room.side == Side::Buy ? quote.offer.has_value() : quote.bid.has_value();
+        const bool missing = room.side ? !has_one : !quote.bid && !quote.offer;
+        if (missing) refuse("price missing");
         for (const auto &price : {quote.bid, quote.offer})
             if (price && static_cast<uint64_t>(std::llabs(*price)) % instrument.tick != 0) refuse("off tick");
         if (quote.bid && quote.offer && *quote.offer < *quote.bid) refuse("crossed");
@@ -222,7 +230,8 @@ class Rooms {
         return {quotes_.size() + 1, room.number, who, quote.id, quote.bid, quote.offer, end, false, false};
     }
 
-    static Trade plan_hit(const Room &room, const RoomQuote &quote, uint32_t who, const Response &response, uint64_t moment) {
+    static Trade plan_hit(const Room &room, const RoomQuote &quote, uint32_t who, const Response &response,
+                          uint64_t moment) {
         if (room.requester != who) refuse("not yours");
         if (room.traded || quote.replaced) refuse("over");
         if (quote.withdrawn) refuse("withdrawn");
@@ -233,8 +242,8 @@ class Rooms {
         const auto price = *side == Side::Buy ? quote.offer : quote.bid;
         if (!price) refuse("no price");
         const bool buys = *side == Side::Buy;
-        return {room.instrument, room.quantity, *price, buys ? who : quote.maker, buys ? quote.maker : who, room.number, quote.number,
-                moment};
+        const uint32_t buyer = buys ? who : quote.maker, seller = buys ? quote.maker : who;
+        return {room.instrument, room.quantity, *price, buyer, seller, room.number, quote.number, moment};
     }
 
     std::unordered_map<std::string, Room> rooms_;
@@ -258,7 +267,8 @@ uint64_t since(Clock::time_point start) {
 }
 
 uint64_t time_request(const Market &market, Rooms &rooms, uint64_t n) {
-    const Request request{id_of(n), "IRS5Y", Side::Buy, 50, {{"BETA", 'D', 35}, {"DELTA", 'D', 35}, {"EPSILON", 'D', 35}}};
+    const std::vector<Party> parties{{"BETA", 'D', 35}, {"DELTA", 'D', 35}, {"EPSILON", 'D', 35}};
+    const Request request{id_of(n), "IRS5Y", Side::Buy, 50, parties};
     const auto start = Clock::now();
     rooms.ask(market, 0, request, kMoment);
     return since(start);
@@ -291,16 +301,18 @@ unsigned long long median(std::vector<uint64_t> &times) {
 
 int main(int count, char **words) {
     if (count != 3) return 2;
-    const uint64_t gone = std::strtoull(words[1], nullptr, 10), timed = std::strtoull(words[2], nullptr, 10);
-    const Market market({"ALPHA", "BETA", "GAMMA", "DELTA", "EPSILON"}, {{1, 2}}, {{"IRS5Y", 2500, 1, 30}, {"BASIS1Y", 2500, 1, 30}});
+    const uint64_t closed = std::strtoull(words[1], nullptr, 10), timed = std::strtoull(words[2], nullptr, 10);
+    const Market market({"ALPHA", "BETA", "GAMMA", "DELTA", "EPSILON"}, {{1, 2}},
+                        {{"IRS5Y", 2500, 1, 30}, {"BASIS1Y", 2500, 1, 30}});
     Rooms rooms;
     std::vector<uint64_t> request, quote, hit;
-    // each request, the quote in the room of the second before it, and the hit that ends the room of the fourth before it
-    for (uint64_t n = 1; n <= gone + kOpen + timed; ++n) {
+    // each request, the quote in the room of the second before it, and the hit that ends the room of the fourth before
+    // it
+    for (uint64_t n = 1; n <= closed + kOpen + timed; ++n) {
         const uint64_t asked = time_request(market, rooms, n);
         const uint64_t quoted = kOpen / 2 < n ? time_quote(market, rooms, n - kOpen / 2) : 0;
         const uint64_t ended = kOpen < n ? time_hit(rooms, n - kOpen) : 0;
-        if (n <= gone + kOpen) continue;
+        if (n <= closed + kOpen) continue;
         request.push_back(asked);
         quote.push_back(quoted);
         hit.push_back(ended);

@@ -1,4 +1,5 @@
-"""Writes what a counterparty sends, and times test_scenarios, which feeds it to a session, and cksum over it in turn."""
+"""Writes what a counterparty sends, and times test_scenarios, which feeds it to a session, and cksum over it,
+alternately."""
 
 import os
 import subprocess
@@ -13,7 +14,7 @@ OTHERS = (
     lambda n: ("1", f"112=test-{n}|"),
     lambda n: ("D", f"11=order-{n}|55=IRS5Y|54=1|38=100|40=2|44=2.5|"),
 )
-TURNS = 3
+SAMPLES = 3
 
 
 def frame(number, kind, fields):
@@ -23,37 +24,37 @@ def frame(number, kind, fields):
 
 
 def stream(frames):
-    """A Logon, then Heartbeats, TestRequests and orders in turn: so many frames, and how many orders are among them."""
+    """A Logon, then Heartbeats, TestRequests and orders, cyclically, this many frames in all; and how many of them are
+    orders."""
     kinds = [LOGON] + [OTHERS[(n - 2) % 3](n) for n in range(2, frames + 1)]
     orders = sum(kind == "D" for kind, _ in kinds)
     return b"".join(frame(n + 1, *kinds[n]) for n in range(frames)), orders
 
 
 def timed(words, path):
+    """The seconds that a program takes for the bytes of a file, and what it prints."""
     with open(path, "rb") as file:
         start = time.monotonic()
-        said = subprocess.run(words, stdin=file, check=True, capture_output=True, text=True).stdout
-        return time.monotonic() - start, said
+        output = subprocess.run(words, stdin=file, check=True, capture_output=True, text=True).stdout
+        return time.monotonic() - start, output
 
 
 def main():
-    frames, place = int(sys.argv[1]), sys.argv[2]
-    path = os.path.join(place, "session.fix")
+    frames, directory = int(sys.argv[1]), sys.argv[2]
+    path = os.path.join(directory, "session.fix")
     sent, orders = stream(frames)
     with open(path, "wb") as file:
         file.write(sent)
-    # builds it where it is not built, and plays its transcript
-    with open("crates/test_scenarios/stdin", "rb") as file:
-        subprocess.run(["rt", "run"], cwd="crates/test_scenarios", check=True, stdin=file, capture_output=True)
     best = {}
-    for _ in range(TURNS):
+    for _ in range(SAMPLES):
         for name, words in (("session", [PROGRAM, "feed"]), ("cksum", ["cksum"])):
-            seconds, said = timed(words, path)
-            if name == "session":
-                assert said.startswith(f"frames: {frames}, orders: {orders}, "), said
+            seconds, output = timed(words, path)
+            if name == "session" and not output.startswith(f"frames: {frames}, orders: {orders}, "):
+                raise SystemExit(f"bench/session: the session received otherwise: {output}")
             best[name] = min(seconds, best.get(name, seconds))
-            print(f"{name}: {frames / seconds:.0f} frames a second, {len(sent) / seconds / 1e6:.1f} MB a second", flush=True)
-    print(f"ratio of the best turns, time of the session to time of cksum: {best['session'] / best['cksum']:.1f}")
+            megabytes = len(sent) / 1e6
+            print(f"{name}: {frames / seconds:.0f} frames a second, {megabytes / seconds:.1f} MB a second", flush=True)
+    print(f"ratio of the best samples, time of the session to time of cksum: {best['session'] / best['cksum']:.1f}")
     os.remove(path)
 
 

@@ -1,7 +1,7 @@
-// The work of `test_scenarios book` in C++: for each instrument and side a std::map of prices to lists of orders, each list by entry,
-// and std::unordered_map and std::unordered_set for identifiers. A request is checked for a used identifier, planned (its fills, linked
-// orders, room on the side) and then done. book RESTING GONE INSTRUMENTS TIMED prints the nanoseconds of a request
-// of each kind, the middle one of those timed.
+// The work of `test_scenarios book` in C++: for each instrument and side a std::map of prices to lists of orders, each
+// list by entry, and std::unordered_map and std::unordered_set for identifiers. A request is checked for a used
+// identifier, planned (its fills, linked orders, capacity of the side) and then applied. book_peer RESTING CLOSED
+// INSTRUMENTS TIMED prints the nanoseconds of a request of each kind, the median of those timed.
 #include <algorithm>
 #include <chrono>
 #include <cstdint>
@@ -48,7 +48,7 @@ struct Fill {
     int64_t price;
 };
 
-struct Shown {
+struct SnapshotEntry {
     Side side;
     int64_t price;
     uint64_t left, order;
@@ -65,7 +65,7 @@ struct Place {
 };
 
 constexpr uint64_t kDelay = 1000;
-constexpr size_t kRoom = 200;
+constexpr size_t kMaxPerSide = 200;
 
 class Book {
   public:
@@ -108,18 +108,21 @@ class Book {
         return fills;
     }
 
-    std::vector<Shown> picture(uint32_t instrument) const {
-        std::vector<Shown> shown;
+    std::vector<SnapshotEntry> snapshot(uint32_t instrument) const {
+        std::vector<SnapshotEntry> shown;
         for (const auto *ladder : {&bids_[instrument], &offers_[instrument]})
             for (const auto &level : *ladder)
-                for (const auto &order : level.second) shown.push_back({order.side, order.price, order.left, order.number});
+                for (const auto &order : level.second)
+                    shown.push_back({order.side, order.price, order.left, order.number});
         return shown;
     }
 
   private:
     static int64_t key(Side side, int64_t price) { return side == Side::Buy ? -price : price; }
 
-    Ladder &ladder(uint32_t instrument, Side side) { return side == Side::Buy ? bids_[instrument] : offers_[instrument]; }
+    Ladder &ladder(uint32_t instrument, Side side) {
+        return side == Side::Buy ? bids_[instrument] : offers_[instrument];
+    }
 
     size_t &count(const Order &order) { return counts_[2 * order.instrument + (order.side == Side::Buy ? 0 : 1)]; }
 
@@ -137,10 +140,12 @@ class Book {
             if (wanted == 0 || (order.side == Side::Buy ? order.price < price : price < order.price)) break;
             for (auto &resting : level.second) {
                 if (wanted == 0) break;
-                if (linked(order, resting) && order.moment < resting.moment + delay) throw std::runtime_error("too soon");
+                if (linked(order, resting) && order.moment < resting.moment + delay)
+                    throw std::runtime_error("too soon");
                 const uint64_t quantity = std::min(wanted, resting.left);
                 const uint64_t left = resting.left - quantity;
-                fills.push_back({resting.number, resting.name, quantity, left, resting.filled_before + resting.quantity - left, price});
+                const uint64_t filled = resting.filled_before + resting.quantity - left;
+                fills.push_back({resting.number, resting.name, quantity, left, filled, price});
                 wanted -= quantity;
             }
         }
@@ -151,7 +156,7 @@ class Book {
         auto fills = share(order, delay);
         uint64_t filled = 0;
         for (const auto &fill : fills) filled += fill.quantity;
-        if (filled < order.quantity && kRoom <= count(order)) throw std::runtime_error("full");
+        if (filled < order.quantity && kMaxPerSide <= count(order)) throw std::runtime_error("full");
         return fills;
     }
 
@@ -223,7 +228,7 @@ unsigned long long median(std::vector<uint64_t> &times) {
 
 int main(int count, char **words) {
     if (count != 5) return 2;
-    const uint64_t resting = std::strtoull(words[1], nullptr, 10), gone = std::strtoull(words[2], nullptr, 10);
+    const uint64_t resting = std::strtoull(words[1], nullptr, 10), closed = std::strtoull(words[2], nullptr, 10);
     const uint32_t instruments = static_cast<uint32_t>(std::strtoul(words[3], nullptr, 10));
     const uint64_t timed = std::strtoull(words[4], nullptr, 10);
     Book book(instruments);
@@ -234,8 +239,8 @@ int main(int count, char **words) {
             const int64_t away = static_cast<int64_t>(n % 50);
             book.enter(order_of(next++, 0, instrument, side, side == Side::Buy ? 499 - away : 501 + away));
         }
-    for (uint64_t n = 0; n < gone / 2; ++n, next += 2) pass(book, next, 0);
-    std::vector<uint64_t> rest, replace, cancel, fill, picture;
+    for (uint64_t n = 0; n < closed / 2; ++n, next += 2) pass(book, next, 0);
+    std::vector<uint64_t> rest, replace, cancel, fill, snapshot;
     uint64_t shown = 0;
     for (uint64_t turn = 0; turn < timed; ++turn, next += 6) {
         const uint32_t instrument = static_cast<uint32_t>(turn % instruments);
@@ -253,11 +258,11 @@ int main(int count, char **words) {
         cancel.push_back(since(start));
         fill.push_back(pass(book, next + 3, instrument));
         start = Clock::now();
-        const auto entries = book.picture(instrument);
-        picture.push_back(since(start));
+        const auto entries = book.snapshot(instrument);
+        snapshot.push_back(since(start));
         shown += entries.size();
     }
     if (shown != timed * 2 * resting) return 1;
-    std::printf("rest %llu\nreplace %llu\ncancel %llu\nfill %llu\npicture %llu\n", median(rest), median(replace), median(cancel),
-                median(fill), median(picture));
+    std::printf("rest %llu\nreplace %llu\ncancel %llu\n", median(rest), median(replace), median(cancel));
+    std::printf("fill %llu\nsnapshot %llu\n", median(fill), median(snapshot));
 }

@@ -1,9 +1,9 @@
-// A counterparty that times a venue over TCP. load PORT NAME SYMBOL MESSAGES at-once|in-turn|hold RUN logs NAME on at 127.0.0.1:PORT by a
-// Logon that begins the numbers anew, sends so many messages, an order for SYMBOL and its cancel by turns, and counts the answers (one
-// ExecutionReport or OrderCancelReject each).
-//   at-once   all messages as fast as the socket takes them: the seconds to the last answer
-//   in-turn   each message once the answer to the one before was heard: the round trips
-//   hold      nothing: the line is held until the program is ended
+// A client that times a venue over TCP. load PORT NAME SYMBOL MESSAGES at-once|one-by-one|hold RUN logs NAME on at
+// 127.0.0.1:PORT by a Logon that resets the sequence numbers, sends MESSAGES messages, alternately an order for SYMBOL
+// and its cancel, and counts the answers (one ExecutionReport or OrderCancelReject each).
+//   at-once      all messages as fast as the socket takes them: the throughput up to the last answer
+//   one-by-one   each message after the answer to the previous one: the round trips
+//   hold         nothing: the connection is held until the program is ended
 // RUN is put into the identifiers, which a venue takes once a day. Prints one line of words and numbers.
 #include <algorithm>
 #include <arpa/inet.h>
@@ -23,9 +23,9 @@
 
 namespace {
 
-// without a report for so long the run is given up
-constexpr int PATIENCE_MS = 10'000;
-// how many bytes stand before the number of a BodyLength, and how many behind the body
+// the time without an answer after which the run is given up
+constexpr int MAX_WAIT_MS = 10'000;
+// the bytes before the number of a BodyLength, and those after the body
 constexpr size_t BEFORE_LENGTH = sizeof "8=FIXT.1.1|9=" - 1, TRAILER = sizeof "10=000|" - 1;
 
 double now() {
@@ -60,11 +60,13 @@ struct Client {
         return std::string("35=") + type + "|49=" + name + "|56=SEF|34=" + std::to_string(number) + "|52=" + at + "|";
     }
 
-    // The k-th message: an order to buy, or the cancel of the one before it.
+    // The k-th message: an order to buy, or the cancel of the previous one.
     std::string message(long k) const {
         std::string id = "|11=r" + run + "n" + std::to_string(k);
-        if (k % 2 == 0) return frame(header("D", k + 2) + id.substr(1) + "|55=" + symbol + "|54=1|38=10|40=2|44=2.5|60=" + at + "|");
-        return frame(header("F", k + 2) + id.substr(1) + "|41=r" + run + "n" + std::to_string(k - 1) + "|55=" + symbol + "|54=1|60=" + at + "|");
+        std::string order = "|55=" + symbol + "|54=1";
+        if (k % 2 == 0) return frame(header("D", k + 2) + id.substr(1) + order + "|38=10|40=2|44=2.5|60=" + at + "|");
+        std::string previous = "|41=r" + run + "n" + std::to_string(k - 1);
+        return frame(header("F", k + 2) + id.substr(1) + previous + order + "|60=" + at + "|");
     }
 
     void connect_to(int port) {
@@ -75,22 +77,23 @@ struct Client {
         address.sin_family = AF_INET;
         address.sin_port = htons(port);
         address.sin_addr.s_addr = htonl(INADDR_LOOPBACK);
-        if (connect(socket, reinterpret_cast<sockaddr *>(&address), sizeof address)) throw std::runtime_error("nobody listens");
+        if (connect(socket, reinterpret_cast<sockaddr *>(&address), sizeof address))
+            throw std::runtime_error("nobody listens");
     }
 
     void send_all(std::string_view text) const {
         while (!text.empty()) {
             ssize_t sent = write(socket, text.data(), text.size());
-            if (sent <= 0) throw std::runtime_error("the venue closed the line");
+            if (sent <= 0) throw std::runtime_error("the venue closed the connection");
             text.remove_prefix(sent);
         }
     }
 
-    // Reads what there is, and counts the messages of these types among it, each of which is as long as its BodyLength says.
-    long heard(const char *types) {
+    // Reads what there is, and counts the messages of these types among it, each as long as its BodyLength.
+    long received(const char *types) {
         char bytes[65536];
         ssize_t count = read(socket, bytes, sizeof bytes);
-        if (count == 0 || (count < 0 && errno != EAGAIN)) throw std::runtime_error("the venue closed the line");
+        if (count == 0 || (count < 0 && errno != EAGAIN)) throw std::runtime_error("the venue closed the connection");
         unread.append(bytes, std::max<ssize_t>(count, 0));
         long found = 0;
         size_t at = 0;
@@ -104,19 +107,19 @@ struct Client {
         return found;
     }
 
-    // Waits until the line can be read (or written, where that is asked for).
+    // Waits until the connection can be read (or written, where that is asked for).
     short ready(bool writing) const {
-        pollfd line{socket, static_cast<short>(writing ? POLLIN | POLLOUT : POLLIN), 0};
-        if (poll(&line, 1, PATIENCE_MS) == 0) throw std::runtime_error("no answer");
-        return line.revents;
+        pollfd connection{socket, static_cast<short>(writing ? POLLIN | POLLOUT : POLLIN), 0};
+        if (poll(&connection, 1, MAX_WAIT_MS) == 0) throw std::runtime_error("no answer");
+        return connection.revents;
     }
 
     void log_on() {
         send_all(frame(header("A", 1) + "98=0|108=3600|1137=9|141=Y|"));
-        while (!heard("A")) {}
+        while (!received("A")) {}
     }
 
-    // (all are written down before the clock starts, so that the client takes as little of the processors as it can)
+    // (all are made before the clock starts, so that the client takes as little processor time as it can)
     double at_once(long messages, long &answers) {
         std::string text;
         for (long k = 0; k < messages; k++) text += message(k);
@@ -124,7 +127,7 @@ struct Client {
         double begun = now();
         for (std::string_view waiting = text; answers < messages;) {
             short events = ready(!waiting.empty());
-            if (events & (POLLIN | POLLHUP | POLLERR)) answers += heard("89");
+            if (events & (POLLIN | POLLHUP | POLLERR)) answers += received("89");
             if (events & POLLOUT) {
                 ssize_t sent = write(socket, waiting.data(), std::min<size_t>(waiting.size(), 65536));
                 waiting.remove_prefix(std::max<ssize_t>(sent, 0));
@@ -133,7 +136,7 @@ struct Client {
         return now() - begun;
     }
 
-    std::vector<double> in_turn(long messages, long &answers) {
+    std::vector<double> one_by_one(long messages, long &answers) {
         std::vector<double> trips;
         for (long k = 0; k < messages; k++) {
             std::string text = message(k);
@@ -141,7 +144,7 @@ struct Client {
             send_all(text);
             for (long before = answers; answers == before;) {
                 ready(false);
-                answers += heard("89");
+                answers += received("89");
             }
             trips.push_back(now() - begun);
         }
@@ -154,7 +157,7 @@ struct Client {
 
 int main(int count, char **words) {
     if (count != 7) {
-        fprintf(stderr, "load PORT NAME SYMBOL MESSAGES at-once|in-turn|hold RUN\n");
+        fprintf(stderr, "load PORT NAME SYMBOL MESSAGES at-once|one-by-one|hold RUN\n");
         return 2;
     }
     try {
@@ -167,8 +170,9 @@ int main(int count, char **words) {
             double seconds = client.at_once(messages, answers);
             printf("messages %ld answers %ld per_second %.0f\n", messages, answers, messages / seconds);
         } else {
-            std::vector<double> trips = client.in_turn(messages, answers);
-            printf("messages %ld answers %ld p50_us %.0f p99_us %.0f\n", messages, answers, trips[messages / 2] * 1e6, trips[messages * 99 / 100] * 1e6);
+            std::vector<double> trips = client.one_by_one(messages, answers);
+            double p50 = trips[messages / 2] * 1e6, p99 = trips[messages * 99 / 100] * 1e6;
+            printf("messages %ld answers %ld p50_us %.0f p99_us %.0f\n", messages, answers, p50, p99);
         }
         return 0;
     } catch (const std::exception &fault) {

@@ -1,6 +1,7 @@
-// What a desk would build from stock parts: QuickFIX's engine (FIXT 1.1, FIX 5.0 SP2), a session and a port for each participant, and
-// a book of prices to orders by entry. quickfix_venue SETTINGS [TRAIL] says "ready" once it listens. With TRAIL, where it was compiled
-// with WITH_SQLITE, each message is a row of that SQLite file (WAL, synchronous FULL, a transaction each) before it is answered.
+// A venue of stock parts: QuickFIX's engine (FIXT 1.1, FIX 5.0 SP2), a session and a port for each participant, and a
+// book of prices to orders by entry. quickfix_venue SETTINGS [TRAIL] prints "ready" once it listens. With TRAIL, where
+// it was compiled with WITH_SQLITE, each message is a row of that SQLite file (WAL, synchronous FULL, a transaction
+// each) before it is answered.
 #include <quickfix/Application.h>
 #include <quickfix/MessageStore.h>
 #include <quickfix/Session.h>
@@ -87,15 +88,20 @@ class Venue : public FIX::Application, public FIX50SP2::MessageCracker {
     void onLogout(const FIX::SessionID &) override {}
     void toAdmin(FIX::Message &, const FIX::SessionID &) override {}
     void toApp(FIX::Message &, const FIX::SessionID &) throw(FIX::DoNotSend) override {}
-    void fromAdmin(const FIX::Message &, const FIX::SessionID &) throw(FIX::FieldNotFound, FIX::IncorrectDataFormat, FIX::IncorrectTagValue, FIX::RejectLogon) override {}
-    void fromApp(const FIX::Message &message, const FIX::SessionID &from) throw(FIX::FieldNotFound, FIX::IncorrectDataFormat, FIX::IncorrectTagValue, FIX::UnsupportedMessageType) override {
+    void fromAdmin(const FIX::Message &, const FIX::SessionID &)
+        throw(FIX::FieldNotFound, FIX::IncorrectDataFormat, FIX::IncorrectTagValue, FIX::RejectLogon) override {}
+    void fromApp(const FIX::Message &message, const FIX::SessionID &from)
+        throw(FIX::FieldNotFound, FIX::IncorrectDataFormat, FIX::IncorrectTagValue,
+              FIX::UnsupportedMessageType) override {
         std::lock_guard<std::mutex> held(lock);
         if (trail) trail->record(from.getTargetCompID().getValue(), message.toString());
         crack(message, from);
     }
 
     void report(const Order &order, char type, char status, long quantity = 0, double price = 0) {
-        FIX50SP2::ExecutionReport report(FIX::OrderID(order.number), FIX::ExecID("E" + std::to_string(++reports)), FIX::ExecType(type), FIX::OrdStatus(status), FIX::Side(order.side), FIX::LeavesQty(order.left), FIX::CumQty(order.filled));
+        FIX50SP2::ExecutionReport report(
+            FIX::OrderID(order.number), FIX::ExecID("E" + std::to_string(++reports)), FIX::ExecType(type),
+            FIX::OrdStatus(status), FIX::Side(order.side), FIX::LeavesQty(order.left), FIX::CumQty(order.filled));
         report.set(FIX::ClOrdID(order.id));
         report.set(FIX::Symbol(order.symbol));
         if (quantity) {
@@ -153,7 +159,8 @@ class Venue : public FIX::Application, public FIX50SP2::MessageCracker {
         message.get(id), message.get(of);
         auto found = resting.find(of);
         if (found == resting.end()) {
-            FIX50SP2::OrderCancelReject reject(FIX::OrderID("NONE"), id, FIX::OrdStatus('8'), FIX::CxlRejResponseTo('1'));
+            FIX50SP2::OrderCancelReject reject(
+                FIX::OrderID("NONE"), id, FIX::OrdStatus('8'), FIX::CxlRejResponseTo('1'));
             reject.set(of);
             FIX::Session::sendToTarget(reject, from);
             return;
@@ -182,7 +189,7 @@ int main(int count, char **words) {
         FIX::ThreadedSocketAcceptor acceptor(venue, stores, settings);
         acceptor.start();
         std::cout << "ready" << std::endl;
-        // until it is ended
+        // (until it is ended)
         pause();
     } catch (const std::exception &fault) {
         std::cerr << "quickfix_venue: " << fault.what() << std::endl;
