@@ -2,6 +2,8 @@
 use Rattle.std.proofs.Common.{◌≡◌, refl, sym, ap, subst, ◌∙◌, ◌⊎◌, inl, inr, ℕ, ◌+◌, ◌-◌, ◌<◌, ◌==◌, Bool, true, false, cond, List, [], ◌∷◌, ◌++◌, map, filter, filter_map, find, length, Option, Some, append-nil, eq-eqb, ne_eqb, arith}
 use Rattle.std.specs.List.{cons_option, flat_map}
 use Rattle.std.proofs.lemmas.List.Elements.{filter-append}
+use Rattle.participants.specs.Relations.{three_unrelated}
+use Rattle.participants.proofs.Unrelated.{test-from_ThreeUnrelated}
 use Rattle.venue_rules.specs.declared.facts.Fact.{Fact}
 use Rattle.venue_rules.specs.declared.facts.Fact.TheVariants as fact
 use Rattle.venue_rules.specs.declared.facts.TradeSource.{TradeSource}
@@ -19,8 +21,11 @@ use Rattle.trade_reconstruction.specs.declared.evidence_event.Asked.{Asked}
 use Rattle.trade_reconstruction.specs.declared.evidence_event.EventKind.{EventKind}
 use Rattle.trade_reconstruction.specs.declared.evidence_event.EventKind.TheVariants as said
 use Rattle.trade_reconstruction.specs.declared.evidence_event.EvidenceEvent.{EvidenceEvent}
+use Rattle.trade_reconstruction.specs.declared.unrelated.Three.{Three}
 use Rattle.trade_reconstruction.specs.Found.{HasRequest}
-use Rattle.trade_reconstruction.specs.Lines.{evidence, is_asked, is_asked_said, is_sought, lines_in, request_line, room_found_said, room_of as lines_of_room, room_word, trade_line, trade_row}
+use Rattle.trade_reconstruction.specs.Unrelated.{three_of}
+use Rattle.trade_reconstruction.proofs.Threes.{recipients_are, three_found}
+use Rattle.trade_reconstruction.specs.Lines.{evidence, is_asked, is_asked_said, is_sought, last_lines, lines_in, request_line, room_found_said, room_of as lines_of_room, room_word, three_if, three_line, three_text, trade_row, recipients_of}
 use Rattle.venue_core.specs.Replay.{AreEmitted}
 use Rattle.trade_reconstruction.specs.Emitted.{trade_numbered, words_emitted}
 use Rattle.trade_reconstruction.proofs.Members.{Contains-from_In, In, In-append_cases, In-append_left, In-filter_map, In-from_Contains, In-map, Places, Places-above, Places-from, Places-unmap, found_first, found_past, found_picked, kept_all, kept_none, none_is_some, picked_from, picked_passes, same_some}
@@ -167,18 +172,26 @@ one_of [] many = absurd (omega (arith, many))
 one_of (to ∷ others) many = (to, others, refl)
 
 -- the evidence for a room trade is that of the room of this request
-room_evidence : (m : Market) (words : List EvidenceEvent) (t : TradeFact) (room : ℕ) (w : EvidenceEvent) (a : Asked) → t.room ≡ Some room → find (is_sought (Request room)) words ≡ Some w → w.said ≡ said.Asked a
-    → evidence m words t ≡ (request_line m.participants w a ++ flat_map (room_word m.participants words a) words) ++ trade_line m t (trade_row words t)
+room_evidence : (m : Market) (words : List EvidenceEvent) (noted : List ℕ) (t : TradeFact) (room : ℕ) (w : EvidenceEvent) (a : Asked) → t.room ≡ Some room → find (is_sought (Request room)) words ≡ Some w → w.said ≡ said.Asked a
+    → evidence m words noted t ≡ (request_line m.participants w a ++ (three_line m.participants words w a ++ flat_map (room_word m.participants words a) words)) ++ (noted ++ last_lines m t (trade_row words t))
 unfolding evidence
-room_evidence m words t room w a placed found says =
+room_evidence m words noted t room w a placed found says =
     let file = m.participants in
     let row = trade_row words t in
-    ap (λ (o : Option ℕ). lines_in file words t.number o row ++ trade_line m t row) placed
-    ∙ ap (λ (l : List ℕ). l ++ trade_line m t row) (ap (lines_of_room file words) found ∙ ap (room_found_said file words w) says)
+    ap (λ (o : Option ℕ). lines_in file words t.number o row ++ (noted ++ last_lines m t row)) placed
+    ∙ ap (λ (l : List ℕ). l ++ (noted ++ last_lines m t row)) (ap (lines_of_room file words) found ∙ ap (room_found_said file words w) says)
+
+-- the line of three recipients names these three
+named_three : (m : Market) (words : List EvidenceEvent) (w : EvidenceEvent) (a : Asked) (requester room : ℕ) (rs : List ℕ) (x : Three) → a.requester ≡ requester → a.room ≡ room → recipients_of room words ≡ rs → three_of m.participants requester rs ≡ Some x
+    → three_line m.participants words w a ≡ three_text m.participants requester x w.row
+named_three m words w a requester room rs x asked_by in_room recipients is =
+    (λ k. three_if m.participants (asked_by k) (three_of m.participants (asked_by k) (recipients_of (in_room k) words)) w.row)
+    ∙ ap (λ (l : List ℕ). three_if m.participants requester (three_of m.participants requester l) w.row) recipients
+    ∙ ap (λ (o : Option Three). three_if m.participants requester o w.row) is
 
 has_request : (m : Market) (rs : List TrailRow) (is : List Input) (number : ℕ) (t : TradeFact) → AreEmitted rs is → (p : Opened) → In p (added room_in_fact m no_history rs is) → Places number_of 0 (added room_in_fact m no_history rs is)
-    → 0 < length p.2.recipients → t.room ≡ Some (number_of p) → HasRequest m rs is (words_emitted m number rs is) t (number_of p)
-has_request m rs is number t emitted p i places many placed =
+    → 0 < length p.2.recipients → three_unrelated m.participants p.2.requester p.2.recipients ≡ true → t.room ≡ Some (number_of p) → HasRequest m rs is (words_emitted m number rs is) t (number_of p)
+has_request m rs is number t emitted p i places many there_are placed =
     let words = words_emitted m number rs is in
     let all = added room_in_fact m no_history rs is in
     let room = number_of p in
@@ -190,13 +203,17 @@ has_request m rs is number t emitted p i places many placed =
     let at = is_added room_in_fact m no_history rs is emitted p i in
     let answered = (answer_input m (run m at.earlier).history p.1).facts in
     let trigger = picked_from room_in_fact answered p.2 at.made in
+    let asked_by : a.0.requester ≡ p.2.requester = ap (λ (y : HeardAsked). y.requester) a.2 in
+    let in_room : a.0.room ≡ room = ap (λ (y : HeardAsked). y.room) a.2 in
+    let all_are = to_all room words ∙ (ap (λ l. heard_by (filter test l)) listed ∙ all_asked m 0 all places p i) in
+    let three = three_found m.participants p.2.requester p.2.recipients there_are in
     record {
       word = w.0;
       asked = a.0;
       found = w.1;
       says = a.1;
       here = ap (λ (y : HeardAsked). y.room) a.2;
-      lines = room_evidence m words t room w.0 a.0 placed w.1 a.1;
+      lines = λ noted. room_evidence m words noted t room w.0 a.0 placed w.1 a.1;
       opened = p.2;
       row = p.0;
       input = p.1;
@@ -210,12 +227,16 @@ has_request m rs is number t emitted p i places many placed =
       number = refl;
       at_row = ap (λ (y : HeardAsked). y.row) a.2;
       moment = ap (λ (y : HeardAsked). y.moment) a.2;
-      requester = ap (λ (y : HeardAsked). y.requester) a.2;
+      requester = asked_by;
       request = ap (λ (y : HeardAsked). y.request) a.2;
       symbol = ap (λ (y : HeardAsked). y.symbol) a.2;
       side = ap (λ (y : HeardAsked). y.side) a.2;
       quantity = ap (λ (y : HeardAsked). y.quantity) a.2;
-      recipients = to_all room words ∙ (ap (λ l. heard_by (filter test l)) listed ∙ all_asked m 0 all places p i);
+      recipients = all_are;
+      three = three.three;
+      named = named_three m words w.0 a.0 p.2.requester room p.2.recipients three.three asked_by in_room (recipients_are room words ∙ all_are) three.is;
+      are_asked = (three.first, three.second, three.third);
+      unrelated = three.apart;
     }
 
 abbrev pub RoomTradesLaw : Type 0
@@ -238,8 +259,10 @@ room_trades_have_requests law numbers m rs is number room t emitted numbered pla
     let p = In-map it all lawful.asked (subst (In lawful.asked) same asked_in_it) in
     let many : 0 < length lawful.asked.recipients = let c = lawful.three_unrelated.3 in omega (arith, c.1) in
     let some : 0 < length p.0.2.recipients = subst (λ (r : Room). 0 < length r.recipients) (sym p.2) many in
+    let there_are : three_unrelated m.participants p.0.2.requester p.0.2.recipients ≡ true =
+    subst (λ (r : Room). three_unrelated m.participants r.requester r.recipients ≡ true) (sym p.2) (test-from_ThreeUnrelated m.participants lawful.asked.requester lawful.asked.recipients lawful.three_unrelated) in
     let same_room : number_of p.0 ≡ room = ap (λ (r : Room). r.number) p.2 ∙ lawful.number in
-    subst (HasRequest m rs is (words_emitted m number rs is) t) same_room (has_request m rs is number t emitted p.0 p.1 places some (placed ∙ ap (λ (n : ℕ). Some n) (sym same_room)))
+    subst (HasRequest m rs is (words_emitted m number rs is) t) same_room (has_request m rs is number t emitted p.0 p.1 places some there_are (placed ∙ ap (λ (n : ℕ). Some n) (sym same_room)))
   where
     from_zero : (k : ℕ) → k + 1 ≡ 0 + k + 1
     from_zero k = omega arith

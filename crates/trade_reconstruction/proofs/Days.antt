@@ -1,6 +1,6 @@
 -- The events of a day state which orders entered on it, which trades were made and which sides were held, each at its
 -- row.
-use Rattle.std.proofs.Common.{◌≡◌, refl, sym, ap, subst, ◌∙◌, ◌⊎◌, inl, inr, ℕ, suc, ◌+◌, List, [], ◌∷◌, ◌++◌, map, filter_map, length, slice_get, Option, Some, append-nil, append_assoc, length-append, arith}
+use Rattle.std.proofs.Common.{◌≡◌, refl, sym, ap, subst, ◌∙◌, ◌⊎◌, inl, inr, ℕ, ℤ, suc, ◌+◌, List, [], ◌∷◌, ◌++◌, map, filter_map, length, slice_get, Option, Some, append-nil, append_assoc, length-append, arith}
 use Rattle.std.specs.List.{flat_map}
 use Rattle.std.proofs.lemmas.List.{map-append, length-map}
 use Rattle.std.proofs.lemmas.List.Elements.{filter_map-append}
@@ -165,9 +165,9 @@ day_fills m number h rs is emitted = day_says fill_in (λ k xs ys. fills_emitted
 
 -- and hits
 
-hits_of_more : (n trade : ℕ) (x : TradeSource) (xs ys : List HeardHit) → hits_of n trade x (xs ++ ys) ≡ hits_of n trade x xs ++ ys
-hits_of_more n trade (InBook old new) xs ys = refl
-hits_of_more n trade (InRoom room quote) xs ys = refl
+hits_of_more : (n trade : ℕ) (price : ℤ) (x : TradeSource) (xs ys : List HeardHit) → hits_of n trade price x (xs ++ ys) ≡ hits_of n trade price x xs ++ ys
+hits_of_more n trade price (InBook old new) xs ys = refl
+hits_of_more n trade price (InRoom room quote) xs ys = refl
 
 hits_more : (trade : ℕ) (xs ys : List (ℕ × Trade)) → hits_emitted trade xs ++ hits_emitted (trade + length xs) ys ≡ hits_emitted trade (xs ++ ys)
 hits_more trade [] ys = ap (λ k. hits_emitted k ys) (from_zero trade)
@@ -175,8 +175,8 @@ hits_more trade [] ys = ap (λ k. hits_emitted k ys) (from_zero trade)
     from_zero : (k : ℕ) → k + 0 ≡ k
     from_zero k = omega arith
 hits_more trade (x ∷ xs) ys =
-    sym (hits_of_more x.0 trade x.1.place (hits_emitted (trade + 1) xs) (hits_emitted (trade + suc (length xs)) ys))
-    ∙ ap (hits_of x.0 trade x.1.place) (ap (λ k. hits_emitted (trade + 1) xs ++ hits_emitted k ys) (next trade (length xs)) ∙ hits_more (trade + 1) xs ys)
+    sym (hits_of_more x.0 trade x.1.price x.1.place (hits_emitted (trade + 1) xs) (hits_emitted (trade + suc (length xs)) ys))
+    ∙ ap (hits_of x.0 trade x.1.price x.1.place) (ap (λ k. hits_emitted (trade + 1) xs ++ hits_emitted k ys) (next trade (length xs)) ∙ hits_more (trade + 1) xs ys)
   where
     next : (k l : ℕ) → k + suc l ≡ k + 1 + l
     next k l = omega arith

@@ -15,7 +15,9 @@ use Rattle.trade_reconstruction.specs.declared.evidence.EvidenceFault.{EvidenceF
 use Rattle.trade_reconstruction.specs.declared.evidence.EvidenceFault.TheVariants.{Memory, NoTrade, Output}
 use Rattle.trade_reconstruction.specs.declared.evidence_event.EvidenceEvent.{EvidenceEvent}
 use Rattle.trade_reconstruction.specs.Laws.{BookTradesHaveOrders, RoomTradesHaveRequests, TradesHaveRows}
+use Rattle.trade_reconstruction.specs.declared.quote_note.QuoteNote.{QuoteNote}
 use Rattle.trade_reconstruction.specs.Lines.{evidence}
+use Rattle.trade_reconstruction.specs.NoteLines.{note_lines}
 use Rattle.trade_reconstruction.specs.Emitted.{AreOf, HasNoTrade, IsEvidence, IsHeard, EmitsTrade, UnlessWriting, trade_numbered}
 
 -- rows of inputs record these inputs
@@ -25,22 +27,22 @@ EmitTheirInputs = (rs : List TrailRow) (is emitted : List Input) → rs ≡ rows
 are_of : EmitTheirInputs → (rs : List TrailRow) (items : List Input) → AreEmitted rs items → AreOf rs items
 are_of law rs items emitted = record { emitted = emitted; of_run = λ is same fits. law rs is items same fits emitted }
 
-pub trade_emitted : EmitTheirInputs → RoomTradesHaveRequests → BookTradesHaveOrders → TradesHaveRows → (m : Market) (rs : List TrailRow) (s : State) (words : List EvidenceEvent) (number : ℕ) (trade : TradeFact) (text : List ℕ) → IsHeard m number rs s words
-    → ((h : History) → IsHistory s h → Some trade ≡ trade_numbered h number) → text ≡ evidence s.market words trade → IsEvidence m rs number text
-trade_emitted law requests orders rows_made m rs s words number trade text heard numbered is = let found = sym (numbered (run m heard.items).history heard.stands.history) in record {
+pub trade_emitted : EmitTheirInputs → RoomTradesHaveRequests → BookTradesHaveOrders → TradesHaveRows → (m : Market) (rs : List TrailRow) (s : State) (words : List EvidenceEvent) (notes : List QuoteNote) (number : ℕ) (trade : TradeFact) (text : List ℕ) → IsHeard m number rs s words notes
+    → ((h : History) → IsHistory s h → Some trade ≡ trade_numbered h number) → text ≡ evidence s.market words (note_lines words notes trade) trade → IsEvidence m rs number text
+trade_emitted law requests orders rows_made m rs s words notes number trade text heard numbered is = let found = sym (numbered (run m heard.items).history heard.stands.history) in record {
   items = heard.items;
   emitted = are_of law rs heard.items heard.emitted;
   trade = trade;
   numbered = found;
-  is = is ∙ (λ k. evidence (heard.stands.market k) (heard.said k) trade);
+  is = is ∙ (λ k. evidence (heard.stands.market k) (heard.said k) (note_lines (heard.said k) (heard.noted k) trade) trade);
   made = rows_made m rs heard.items number trade heard.emitted found;
   requested = λ room placed. requests m rs heard.items number room trade heard.emitted found placed;
   ordered = λ placed. orders m rs heard.items number trade heard.emitted found placed;
 }
 
-pub no_trade : EmitTheirInputs → (m : Market) (rs : List TrailRow) (s : State) (words : List EvidenceEvent) (number : ℕ) → IsHeard m number rs s words
+pub no_trade : EmitTheirInputs → (m : Market) (rs : List TrailRow) (s : State) (words : List EvidenceEvent) (notes : List QuoteNote) (number : ℕ) → IsHeard m number rs s words notes
     → ((h : History) → IsHistory s h → None ≡ trade_numbered h number) → HasNoTrade m rs number
-no_trade law m rs s words number heard numbered = record {
+no_trade law m rs s words notes number heard numbered = record {
   items = heard.items;
   emitted = are_of law rs heard.items heard.emitted;
   none = sym (numbered (run m heard.items).history heard.stands.history);

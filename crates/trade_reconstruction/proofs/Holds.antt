@@ -47,7 +47,7 @@ any_In p [] f i t = absurd i
 any_In p (g ∷ gs) f (inl e) t = ap (λ (b : Bool). b || list_any p gs) (ap p e ∙ t)
 any_In p (g ∷ gs) f (inr i) t = elim (p g) as (λ b. (b || list_any p gs) ≡ true) [ true ↦ refl | false ↦ any_In p gs f i t ]
 
-held_fact : (f : Fact) (k : HeldSide) → held_in_fact f ≡ Some k → f ≡ fact.Held k
+pub held_fact : (f : Fact) (k : HeldSide) → held_in_fact f ≡ Some k → f ≡ fact.Held k
 held_fact (fact.Held x) k e = ap (λ (y : HeldSide). fact.Held y) (same_some x k e)
 held_fact (fact.Entered x) k e = absurd (none_is_some k e)
 held_fact (fact.Traded x) k e = absurd (none_is_some k e)

@@ -10,4 +10,8 @@ pub mod Holds
 pub mod Links
 pub mod Stood
 pub mod Orders
+pub mod Threes
+pub mod Fates
+pub mod Quoting
+pub mod Picturing
 pub mod Asking

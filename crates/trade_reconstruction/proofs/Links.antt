@@ -107,7 +107,7 @@ linking_by c r = linking_what c r.to r.what
 
 asked_linking : (n t : ℕ) (c : Trigger) (to : ℕ) (r : RequestSent) → filter_map linking_in (said_by n t to (asked_in c r) ++ []) ≡ []
 asked_linking n t (trigger.Request x) to r = refl
-asked_linking n t trigger.Quote to r = refl
+asked_linking n t (trigger.Quote x) to r = refl
 asked_linking n t (trigger.Response x) to r = refl
 asked_linking n t (trigger.Order x) to r = refl
 asked_linking n t (trigger.Cross x) to r = refl
@@ -116,7 +116,7 @@ asked_linking n t trigger.Other to r = refl
 
 hit_linking : (n t : ℕ) (c : Trigger) (to : ℕ) (r : RoomReport) → filter_map linking_in (said_by n t to (hit_in c r) ++ []) ≡ []
 hit_linking n t (trigger.Request x) to r = refl
-hit_linking n t trigger.Quote to r = refl
+hit_linking n t (trigger.Quote x) to r = refl
 hit_linking n t (trigger.Response x) to r = refl
 hit_linking n t (trigger.Order x) to r = refl
 hit_linking n t (trigger.Cross x) to r = refl
@@ -125,7 +125,7 @@ hit_linking n t trigger.Other to r = refl
 
 prices_linking : (n t : ℕ) (c : Trigger) (to : ℕ) (p : BookSnapshot) → filter_map linking_in (said_by n t to (pictured_in c p) ++ prices_words n t to c p) ≡ []
 prices_linking n t (trigger.Request x) to p = refl
-prices_linking n t trigger.Quote to p = shown_silent linking_in linking-deaf n t to p.request_id p.entries
+prices_linking n t (trigger.Quote x) to p = shown_silent linking_in linking-deaf n t to p.request_id p.entries
 prices_linking n t (trigger.Response x) to p = refl
 prices_linking n t (trigger.Order x) to p = refl
 prices_linking n t (trigger.Cross x) to p = refl
@@ -134,7 +134,7 @@ prices_linking n t trigger.Other to p = refl
 
 held_linking : (n t : ℕ) (c : Trigger) (to : ℕ) (r : OrderReport) → filter_map linking_in (said_by n t to (held_by c r) ++ []) ≡ []
 held_linking n t (trigger.Request x) to r = refl
-held_linking n t trigger.Quote to r = refl
+held_linking n t (trigger.Quote x) to r = refl
 held_linking n t (trigger.Response x) to r = refl
 held_linking n t (trigger.Order x) to r = refl
 held_linking n t (trigger.Cross x) to r = refl

@@ -1,5 +1,5 @@
 -- The events of a day have both orders of each trade in the book, and its lines are theirs.
-use Rattle.std.proofs.Common.{◌≡◌, refl, sym, ap, subst, ◌∙◌, ℕ, zero, suc, ◌+◌, ◌-◌, min, ◌==◌, ◌⊎◌, inl, inr, Bool, true, false, not, ◌&&◌, nat_lt, if◌then◌else◌, List, [], ◌∷◌, ◌++◌, map, filter_map, find, slice_get, Option, Some, None, eq-eqb, ne_eqb, arith}
+use Rattle.std.proofs.Common.{◌≡◌, refl, sym, ap, subst, ◌∙◌, ℕ, ℤ, zero, suc, ◌+◌, ◌-◌, min, ◌==◌, ◌⊎◌, inl, inr, Bool, true, false, not, ◌&&◌, nat_lt, if◌then◌else◌, List, [], ◌∷◌, ◌++◌, map, filter_map, find, slice_get, Option, Some, None, eq-eqb, ne_eqb, arith}
 use Rattle.std.specs.Prelude.{bytes_eq}
 use Rattle.std.specs.List.{enumerate_from, flat_map}
 use Rattle.std.proofs.lemmas.Bool.{true≢false}
@@ -21,25 +21,28 @@ use Rattle.venue_rules.specs.Facts.{History, entries, entry_in as entry_in_fact,
 use Rattle.venue_rules.specs.Lawful.{BestOrderTrades, HappenedAfter, NumbersArePlaces}
 use Rattle.venue_rules.specs.Market.{Market}
 use Rattle.venue_rules.specs.Readings.{room_of, trade_fact, trade_facts}
+use Rattle.venue_rules.specs.Rooms.{printed}
 use Rattle.venue_rules.specs.Run.{Input, Message, Tick, after, answer_input, run}
 use Rattle.trade_reconstruction.specs.declared.entry.Entry.{Entry as OrderEntry}
 use Rattle.trade_reconstruction.specs.declared.finding.Query.TheVariants.{Fill, HeldSide as SideHeld, Hit, Order, OtherFill}
 use Rattle.trade_reconstruction.specs.declared.evidence_event.Entered.{Entered}
+use Rattle.trade_reconstruction.specs.declared.evidence_event.Held.{Held as HeldEvent}
+use Rattle.trade_reconstruction.specs.declared.evidence_event.Hit.{Hit as HitEvent}
 use Rattle.trade_reconstruction.specs.declared.evidence_event.EventKind.{EventKind}
 use Rattle.trade_reconstruction.specs.declared.evidence_event.EventKind.TheVariants as said
 use Rattle.trade_reconstruction.specs.declared.evidence_event.EvidenceEvent.{EvidenceEvent}
-use Rattle.trade_reconstruction.specs.Found.{HasOrders, HasRow, EmitsOrder, met_emitted, moment_emitted, price_emitted}
-use Rattle.trade_reconstruction.specs.Lines.{are_linked, both_lines, enters_said, entry_moment, entry_of, entry_said, evidence, filled_of, fills_other_said, fills_said, held_until, held_until_said, hits_said, holds_said, is_sought, lines_in, moment_of, order_of, order_said, orders_lines, other_of, row_in, row_of, standing_line, trade_line, trade_row, two_orders}
+use Rattle.trade_reconstruction.specs.Found.{HasOrders, HasRow, HeldAs, EmitsOrder, met_emitted, moment_emitted, price_emitted}
+use Rattle.trade_reconstruction.specs.Lines.{are_linked, both_lines, enters_said, entry_moment, entry_of, entry_said, evidence, filled_of, fills_other_said, fills_said, held_until, held_until_said, hits_said, holds_said, is_sought, lines_in, moment_of, order_of, order_said, orders_lines, other_of, row_in, row_of, standing_line, last_lines, trade_row, two_orders}
 use Rattle.venue_core.specs.Replay.{AreEmitted}
 use Rattle.trade_reconstruction.specs.Standing.{prices_of, stood_words}
 use Rattle.trade_reconstruction.specs.Emitted.{numbered_in, trade_numbered, words_emitted}
 use Rattle.trade_reconstruction.proofs.Members.{Contains-from_In, In, In-append_cases, In-append_left, In-append_right, In-filter_map, In-from_Contains, In-map, Places, Places-found, Places-from, Places-same, Places-unmap, found_first, found_later, found_map, found_picked, map_In, none_is_some, picked_from, picked_passes, same_some, slice_In, slice_map, slice_unmap}
 use Rattle.trade_reconstruction.proofs.Says.{HeardEntry, HeardFill, HeardHit, HeardHold, entry_in, entry_of_said, fill_in, fill_of_said, hold_in, hold_of_said, trade_of_said, traded_in}
-use Rattle.trade_reconstruction.proofs.Replies.{AreOf, IsOf, fills_emitted, hits_of, hits_emitted, input-Says, is_tick_input, moment_at, pair_emitted, price_at, emitted_hold}
+use Rattle.trade_reconstruction.proofs.Replies.{AreOf, IsOf, fills_emitted, hit_emitted, hits_of, hits_emitted, input-Says, is_tick_input, moment_at, pair_emitted, price_at, emitted_hold}
 use Rattle.trade_reconstruction.proofs.Days.{IsAdded, added, added_are, day_entries, day_fills, day_hits, day_holds, entry_at, is_added, it, map_map, trade_at}
 use Rattle.trade_reconstruction.proofs.Links.{link_found}
 use Rattle.trade_reconstruction.proofs.Stood.{standing_emitted}
-use Rattle.trade_reconstruction.proofs.Holds.{day_apart, holds_stay, tick_entry}
+use Rattle.trade_reconstruction.proofs.Holds.{day_apart, held_fact, holds_stay, tick_entry}
 
 -- A trade as it is read back is a fact of the day.
 
@@ -146,8 +149,8 @@ filled_in w (said.Held x) y h = absurd (none_is_some y h)
 filled_in w (said.RestedBefore x) y h = absurd (none_is_some y h)
 filled_in w (said.RestedCount x) y h = absurd (none_is_some y h)
 
-held_in : (w : EvidenceEvent) (s : EventKind) (y : HeardHold) → hold_of_said w s ≡ Some y → held_until_said w s ≡ min y.until greatest
-held_in w (said.Held x) y h = ap (λ (o : HeardHold). min o.until greatest) (same_some _ y h)
+held_in : (w : EvidenceEvent) (s : EventKind) (y : HeardHold) → hold_of_said w s ≡ Some y → (held_until_said w s ≡ min y.until greatest) × (x : HeldEvent) × (s ≡ said.Held x) × (x.cross ≡ y.cross)
+held_in w (said.Held x) y h = (ap (λ (o : HeardHold). min o.until greatest) (same_some _ y h), x, refl, ap (λ (o : HeardHold). o.cross) (same_some _ y h))
 held_in w (said.Asked x) y h = absurd (none_is_some y h)
 held_in w (said.SnapshotSent x) y h = absurd (none_is_some y h)
 held_in w (said.Shown x) y h = absurd (none_is_some y h)
@@ -211,7 +214,7 @@ hold_test who id w (said.RestedCount x) = refl
 -- A held side's event is found by its identifier.
 
 hold_found : (m : Market) (number : ℕ) (rs : List TrailRow) (is : List Input) → AreEmitted rs is → (k : HeldSide) → In k (held_sides (run m is).history.facts)
-    → (w : EvidenceEvent) × (find (is_sought (SideHeld k.order.who k.order.id)) (words_emitted m number rs is) ≡ Some w) × (held_until w ≡ min k.due greatest)
+    → (w : EvidenceEvent) × (find (is_sought (SideHeld k.order.who k.order.id)) (words_emitted m number rs is) ≡ Some w) × (held_until w ≡ min k.due greatest) × (x : HeldEvent) × (w.said ≡ said.Held x) × (x.cross ≡ k.cross)
 hold_found m number rs is emitted k i =
     let words = words_emitted m number rs is in
     let test : HeardHold → Bool = λ y. y.who == k.order.who && bytes_eq y.id k.order.id in
@@ -219,7 +222,8 @@ hold_found m number rs is emitted k i =
     let listed : filter_map hold_in words ≡ map emitted_hold held = day_holds m number no_history rs is emitted ∙ (sym (map_map it emitted_hold (added held_in_fact m no_history rs is)) ∙ ap (map emitted_hold) (sym (added_are held_in_fact m no_history rs is emitted))) in
     let first : find test (filter_map hold_in words) ≡ Some (emitted_hold k) = ap (find test) listed ∙ found_map emitted_hold test held k (day_apart m no_history rs is emitted (λ x j. absurd j) k i) in
     let w = found_picked hold_in test (is_sought (SideHeld k.order.who k.order.id)) (λ x. hold_test k.order.who k.order.id x x.said) words (emitted_hold k) first in
-    (w.0, w.1, held_in w.0 w.0.said (emitted_hold k) w.2)
+    let x = held_in w.0 w.0.said (emitted_hold k) w.2 in
+    (w.0, w.1, x.0, x.1, x.2, x.3)
 
 -- An order's entry is found by its number.
 
@@ -243,12 +247,34 @@ entered_when m number rs is emitted r (Tick t) e at w x whose id moment tick =
     ap (λ (b : Bool). if b then moment_of w.moment (find (is_sought (SideHeld w.to x.id)) words) else w.moment) tick
     ∙ (ap (moment_of w.moment) named ∙ (hold.2 ∙ ap (λ (t : ℕ). min t greatest) (sym of.moment)))
 
+-- and as which side of which cross
+held_as : (m : Market) (number : ℕ) (rs : List TrailRow) (is : List Input) → AreEmitted rs is → (r : TrailRow) (i : Input) (e : Entry) → IsAdded entry_in_fact m no_history rs is (r, i, e) → (x : OrderEntry) → x.to ≡ e.order.who → x.entered.id ≡ e.order.id
+    → x.entered.at_tick ≡ is_tick_input i → HeldAs m is (words_emitted m number rs is) i e x
+held_as m number rs is emitted r (Message taken t) e at x whose id tick = tick
+held_as m number rs is emitted r (Tick t) e at x whose id tick =
+    let words = words_emitted m number rs is in
+    let facts = (run m is).history.facts in
+    let of = tick_entry m (run m at.earlier).history t e at.made in
+    let known : In of.side (held_sides facts) = subst (λ (l : List Input). In of.side (held_sides (run m l).history.facts)) (sym at.taken) (holds_stay m no_history at.earlier (Tick t ∷ at.later) of.side of.held) in
+    let hold = hold_found m number rs is emitted of.side known in
+    let there = picked_from held_in_fact facts of.side known in
+    record {
+      side = of.side;
+      held = Contains-from_In facts (fact.Held of.side) (subst (λ (f : Fact). In f facts) (held_fact there.0 of.side there.2) there.1);
+      order = of.order;
+      hold = hold.0;
+      reported = hold.3;
+      found = (λ j. find (is_sought (SideHeld (whose j) (id j))) words) ∙ ((λ j. find (is_sought (SideHeld (of.order j).who (of.order j).id)) words) ∙ hold.1);
+      says = hold.4;
+      cross = hold.5;
+    }
+
 -- an entry that is found
 pub record EntryFound (m : Market) (rs : List TrailRow) (is : List Input) (words : List EvidenceEvent) (p : TrailRow × Input × Entry) : Type 0 where
   pub entry : OrderEntry
   pub found : entry_of words (find (is_sought (Order p.2.number)) words) ≡ Some entry
   pub at_row : entry.row ≡ p.0.n
-  pub emits : EmitsOrder m rs is p.2 entry
+  pub emits : EmitsOrder m rs is words p.2 entry
 
 found_map_back : (all : List (TrailRow × Input × Entry)) (p : TrailRow × Input × Entry) → find (λ (q : TrailRow × Input × Entry). q.2.number == p.2.number) all ≡ Some p → find (λ (y : Entry). y.number == p.2.number) (map it all) ≡ Some p.2
 found_map_back all p e = found_map it (λ (y : Entry). y.number == p.2.number) all p e
@@ -291,6 +317,7 @@ entry_found m number rs is emitted places p i =
         quantity = ap (λ (y : HeardEntry). y.quantity) x.2;
         price = ap (λ (y : HeardEntry). y.price) x.2 ∙ at_its_price p.1 p.2;
         original = ap (λ (y : HeardEntry). y.original) x.2;
+        held = held_as m number rs is emitted p.0 p.1 p.2 at entry (ap (λ (y : HeardEntry). y.to) x.2) (ap (λ (y : HeardEntry). y.id) x.2) (ap (λ (y : HeardEntry). y.at_tick) x.2);
         link = link_found m number rs is emitted p.2 (ap (find (λ (y : Entry). y.number == n)) same ∙ found_map_back all p (Places-found (λ (q : TrailRow × Input × Entry). q.2.number) 0 all places p i)) w.0 x.0 w.1 x.1;
       };
     }
@@ -453,16 +480,16 @@ BestOrdersLaw = (m : Market) (is : List Input) → BestOrderTrades (run m is).hi
 abbrev pub PlacesLaw : Type 0
 PlacesLaw = (m : Market) (is : List Input) → NumbersArePlaces (run m is).history.facts
 
-lines_of : (m : Market) (words : List EvidenceEvent) (t : TradeFact) (number old new : ℕ) (resting entering : OrderEntry) → t.number ≡ number → t.room ≡ None → row_of (find (is_sought (Fill number)) words) ≡ entering.row
+lines_of : (m : Market) (words : List EvidenceEvent) (noted : List ℕ) (t : TradeFact) (number old new : ℕ) (resting entering : OrderEntry) → t.number ≡ number → t.room ≡ None → row_of (find (is_sought (Fill number)) words) ≡ entering.row
     → order_of (find (is_sought (Fill number)) words) ≡ Some new → order_of (find (is_sought (OtherFill number new)) words) ≡ Some old → entry_of words (find (is_sought (Order old)) words) ≡ Some resting
     → entry_of words (find (is_sought (Order new)) words) ≡ Some entering
-    → evidence m words t ≡ both_lines m.participants words (record { resting = resting; entering = entering; row = entering.row }) ++ trade_line m t entering.row
+    → evidence m words noted t ≡ both_lines m.participants words (record { resting = resting; entering = entering; row = entering.row }) ++ (noted ++ last_lines m t entering.row)
 unfolding evidence orders_lines
-lines_of m words t number old new resting entering numbered placed at first second found_old found_new =
+lines_of m words noted t number old new resting entering numbered placed at first second found_old found_new =
     let file = m.participants in
     let row : trade_row words t ≡ entering.row = (λ j. row_in words (numbered j) (placed j)) ∙ at in
-    (λ j. lines_in file words (numbered j) (placed j) (row j) ++ trade_line m t (row j))
-    ∙ ap (λ (l : List ℕ). l ++ trade_line m t entering.row)
+    (λ j. lines_in file words (numbered j) (placed j) (row j) ++ (noted ++ last_lines m t (row j)))
+    ∙ ap (λ (l : List ℕ). l ++ (noted ++ last_lines m t entering.row))
     (ap (λ (o : Option ℕ). filled_of file words number o entering.row) first
     ∙ (ap (λ (o : Option ℕ). other_of file words new o entering.row) second
     ∙ (λ j. two_orders file words (found_old j) (found_new j) entering.row)))
@@ -531,9 +558,9 @@ book_trades_have_orders best numbers m rs is number t emitted numbered placed =
           emitted = stood.0.emitted;
           made = Contains-from_In answered (fact.Traded x.trade) (subst (λ (f : Fact). In f answered) (traded_fact trigger.0 q.0.2 trigger.2 ∙ ap (λ (y : Trade). fact.Traded y) q.2) trigger.1);
         };
-        lines = stood.1 ∙ ap (λ (e : Entry). flat_map standing_line (stood_words q.0.0.n q.0.0.moment (met_emitted m e) (prices_of m (run m stood.0.earlier).history (symbol_of m.instruments e.order.instrument)))) (met_one ∙ sym rested.2);
+        lines = stood.1 ∙ ap (λ (e : Entry). flat_map (standing_line words) (stood_words q.0.0.n q.0.0.moment (met_emitted m e) (prices_of m (run m stood.0.earlier).history (symbol_of m.instruments e.order.instrument)))) (met_one ∙ sym rested.2);
       };
-      lines = lines_of m words t number old new found_old.entry found_new.entry (ap (λ (y : TradeFact). y.number) (sym read)) placed
+      lines = λ noted. lines_of m words noted t number old new found_old.entry found_new.entry (ap (λ (y : TradeFact). y.number) (sym read)) placed
           (ap row_of first.1 ∙ (by_first.1 ∙ (ap (λ (p : TrailRow × Input × Entry). p.0.n) together ∙ sym found_new.at_row))) (ap order_of first.1 ∙ by_first.0) (ap order_of second.1 ∙ by_second.0)
           (ap (λ (n : ℕ). entry_of words (find (is_sought (Order n)) words)) (sym old_is) ∙ found_old.found) (ap (λ (n : ℕ). entry_of words (find (is_sought (Order n)) words)) (sym new_is) ∙ found_new.found);
     }
@@ -567,34 +594,76 @@ hit_test n w (said.Filled x) = refl
 hit_test n w (said.RestedBefore x) = refl
 hit_test n w (said.RestedCount x) = refl
 
-hits_over : (number r n : ℕ) (x : TradeSource) (rest : List HeardHit) → (n == number) ≡ false → find (λ (y : HeardHit). y.trade == number) (hits_of r n x rest) ≡ find (λ (y : HeardHit). y.trade == number) rest
-hits_over number r n (InBook a b) rest e = refl
-hits_over number r n (InRoom room quote) rest e =
+hits_over : (number r n : ℕ) (price : ℤ) (x : TradeSource) (rest : List HeardHit) → (n == number) ≡ false → find (λ (y : HeardHit). y.trade == number) (hits_of r n price x rest) ≡ find (λ (y : HeardHit). y.trade == number) rest
+hits_over number r n price (InBook a b) rest e = refl
+hits_over number r n price (InRoom room quote) rest e =
     let test : HeardHit → Bool = λ y. y.trade == number in
-    let emitted : HeardHit = record { row = r; room = room; trade = n } in
+    let emitted = hit_emitted r n price room quote in
     found_later test emitted (emitted ∷ rest) e ∙ found_later test emitted rest e
 
 hit_found : (number room quote n k : ℕ) (ps : List (ℕ × Trade)) (p : ℕ × Trade) → slice_get ps k ≡ Some p → p.1.place ≡ InRoom room quote → number ≡ n + k
-    → find (λ (y : HeardHit). y.trade == number) (hits_emitted n ps) ≡ Some (record { row = p.0; room = room; trade = number })
+    → find (λ (y : HeardHit). y.trade == number) (hits_emitted n ps) ≡ Some (hit_emitted p.0 number p.1.price room quote)
 hit_found number room quote n k [] p e at is = absurd (none_is_some p e)
 hit_found number room quote n zero (x ∷ xs) p e at is =
     let test : HeardHit → Bool = λ y. y.trade == number in
     let rest = hits_emitted (n + 1) xs in
-    let emitted : HeardHit = record { row = p.0; room = room; trade = number } in
+    let emitted = hit_emitted p.0 number p.1.price room quote in
     let same : n ≡ number = start number n is in
     let first = same_some x p e in
-    (λ j. find test (hits_of (first j).0 (same j) (first j).1.place rest)) ∙ (ap (λ (y : TradeSource). find test (hits_of p.0 number y rest)) at ∙ found_first test emitted (emitted ∷ rest) (eq-eqb number number refl))
+    (λ j. find test (hits_of (first j).0 (same j) (first j).1.price (first j).1.place rest)) ∙ (ap (λ (y : TradeSource). find test (hits_of p.0 number p.1.price y rest)) at ∙ found_first test emitted (emitted ∷ rest) (eq-eqb number number refl))
   where
     start : (a b : ℕ) → a ≡ b + 0 → b ≡ a
     start a b h = omega (arith, h)
 hit_found number room quote n (suc k) (x ∷ xs) p e at is =
-    hits_over number x.0 n x.1.place (hits_emitted (n + 1) xs) (ne_eqb n number (λ same. apart number n k is same)) ∙ hit_found number room quote (n + 1) k xs p e at (next number n k is)
+    hits_over number x.0 n x.1.price x.1.place (hits_emitted (n + 1) xs) (ne_eqb n number (λ same. apart number n k is same)) ∙ hit_found number room quote (n + 1) k xs p e at (next number n k is)
   where
     apart : (a b c : ℕ) → a ≡ b + suc c → b ≡ a → ⊥
     apart a b c h q = omega (arith, h, q)
 
     next : (a b c : ℕ) → a ≡ b + suc c → a ≡ b + 1 + c
     next a b c h = omega (arith, h)
+
+-- the hit of a trade in a room is found, with its quote and its price
+record HitFound (words : List EvidenceEvent) (number quote : ℕ) (q : TrailRow × Input × Trade) : Type 0 where
+  pub event : EvidenceEvent
+  pub found : find (is_sought (Hit number)) words ≡ Some event
+  pub at_row : event.row ≡ q.0.n
+  pub hit : HitEvent
+  pub says : event.said ≡ said.Hit hit
+  pub quote_is : hit.quote ≡ printed 81 quote
+  pub price_is : hit.price ≡ q.2.price
+
+hit_in : (w : EvidenceEvent) (s : EventKind) (y : HeardHit) → trade_of_said w s ≡ Some y → (x : HitEvent) × (s ≡ said.Hit x) × (x.quote ≡ y.quote) × (x.price ≡ y.price)
+hit_in w (said.Hit x) y h = (x, refl, ap (λ (o : HeardHit). o.quote) (same_some _ y h), ap (λ (o : HeardHit). o.price) (same_some _ y h))
+hit_in w (said.Asked x) y h = absurd (none_is_some y h)
+hit_in w (said.SnapshotSent x) y h = absurd (none_is_some y h)
+hit_in w (said.Shown x) y h = absurd (none_is_some y h)
+hit_in w (said.Quoted x) y h = absurd (none_is_some y h)
+hit_in w (said.Entered x) y h = absurd (none_is_some y h)
+hit_in w (said.Held x) y h = absurd (none_is_some y h)
+hit_in w (said.Filled x) y h = absurd (none_is_some y h)
+hit_in w (said.RestedBefore x) y h = absurd (none_is_some y h)
+hit_in w (said.RestedCount x) y h = absurd (none_is_some y h)
+
+hit_of : (m : Market) (number : ℕ) (rs : List TrailRow) (is : List Input) → AreEmitted rs is → number ≡ 1 + (number - 1) → (q : TrailRow × Input × Trade) → slice_get (added trade_in_fact m no_history rs is) (number - 1) ≡ Some q
+    → (room quote : ℕ) → q.2.place ≡ InRoom room quote → HitFound (words_emitted m number rs is) number quote q
+hit_of m number rs is emitted from q e room quote at =
+    let words = words_emitted m number rs is in
+    let made = added trade_in_fact m no_history rs is in
+    let test : HeardHit → Bool = λ y. y.trade == number in
+    let y = hit_emitted q.0.n number q.2.price room quote in
+    let first = found_picked traded_in test (is_sought (Hit number)) (λ w. hit_test number w w.said) words y
+    (ap (find test) (day_hits m number no_history rs is emitted) ∙ hit_found number room quote 1 (number - 1) (map trade_at made) (trade_at q) (slice_map trade_at made (number - 1) q e) at from) in
+    let x = hit_in first.0 first.0.said y first.2 in
+    record {
+      event = first.0;
+      found = first.1;
+      at_row = hit_row first.0 first.0.said y first.2;
+      hit = x.0;
+      says = x.1;
+      quote_is = x.2;
+      price_is = x.3;
+    }
 
 -- the row of the first event of a trade, by where it was made
 row_found : (m : Market) (number : ℕ) (rs : List TrailRow) (is : List Input) → AreEmitted rs is → number ≡ 1 + (number - 1) → (q : TrailRow × Input × Trade) → slice_get (added trade_in_fact m no_history rs is) (number - 1) ≡ Some q
@@ -606,13 +675,7 @@ row_found m number rs is emitted from q e (InBook old new) at =
     let first = found_picked fill_in test (is_sought (Fill number)) (λ w. fill_test number w w.said) words (record { row = q.0.n; order = new; trade = number })
     (ap (find test) (day_fills m number no_history rs is emitted) ∙ fill_found test number old new new (finds_entering number old new) 1 (number - 1) (map trade_at made) (trade_at q) (slice_map trade_at made (number - 1) q e) at from) in
     ap row_of first.1 ∙ (filled_in first.0 first.0.said _ first.2).1
-row_found m number rs is emitted from q e (InRoom room quote) at =
-    let words = words_emitted m number rs is in
-    let made = added trade_in_fact m no_history rs is in
-    let test : HeardHit → Bool = λ y. y.trade == number in
-    let first = found_picked traded_in test (is_sought (Hit number)) (λ w. hit_test number w w.said) words (record { row = q.0.n; room = room; trade = number })
-    (ap (find test) (day_hits m number no_history rs is emitted) ∙ hit_found number room quote 1 (number - 1) (map trade_at made) (trade_at q) (slice_map trade_at made (number - 1) q e) at from) in
-    ap row_of first.1 ∙ hit_row first.0 first.0.said _ first.2
+row_found m number rs is emitted from q e (InRoom room quote) at = let hit = hit_of m number rs is emitted from q e room quote at in ap row_of hit.found ∙ hit.at_row
 
 pub trades_have_rows : (m : Market) (rs : List TrailRow) (is : List Input) (number : ℕ) (t : TradeFact) → AreEmitted rs is → trade_numbered (run m is).history number ≡ Some t → HasRow m rs is (words_emitted m number rs is) number t
 trades_have_rows m rs is number t emitted numbered =
@@ -639,5 +702,8 @@ trades_have_rows m rs is number t emitted numbered =
         emitted = at.emitted;
         made = Contains-from_In answered (fact.Traded x.trade) (subst (λ (f : Fact). In f answered) (traded_fact trigger.0 q.0.2 trigger.2 ∙ ap (λ (y : Trade). fact.Traded y) q.2) trigger.1);
       };
+      hit = λ room quote placed.
+          let found = hit_of m number rs is emitted from q.0 q.1 room quote (ap (λ (y : Trade). y.place) q.2 ∙ placed) in
+          record { event = found.event; found = found.found; hit = found.hit; says = found.says; quote_is = found.quote_is; price_is = found.price_is ∙ ap (λ (y : Trade). y.price) q.2 };
       at_row = ap (trade_row words) (sym read) ∙ row_found m number rs is emitted from q.0 q.1 x.trade.place (ap (λ (y : Trade). y.place) q.2);
     }

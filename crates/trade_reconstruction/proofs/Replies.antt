@@ -43,14 +43,14 @@ use Rattle.venue_rules.specs.Changes.{Named, IsResting, IsHeld, IsUnknown, named
 use Rattle.venue_rules.specs.Crosses.{answer_cross, answer_due, cross_accepted, cross_refusals, side_order, first_side, is_first, second_side, due_refusals}
 use Rattle.venue_rules.specs.Delay.{due, find_held}
 use Rattle.venue_rules.specs.Entering.{entering, entry_facts, entry_reports, fill_report, fill_reports, order_report, trade_of, unfilled_reports}
-use Rattle.venue_rules.specs.Facts.{History, entries, entry_in as entry_in_fact, held_in as held_in_fact, held_sides, is_order_id_used, next_trade, room_in as room_in_fact, rooms, trade_in as trade_in_fact, trades}
+use Rattle.venue_rules.specs.Facts.{History, entries, entry_in as entry_in_fact, held_in as held_in_fact, held_sides, is_order_id_used, next_trade, room_in as room_in_fact, rooms, trade_in as trade_in_fact, trades, quotes}
 use Rattle.venue_rules.specs.Market.{Market}
 use Rattle.venue_rules.specs.MarketData.{answer_market_data, market_data_refusals, market_data}
 use Rattle.venue_rules.specs.Orders.{accepted, answer_order, order_asked, order_refusals}
 use Rattle.venue_rules.specs.Quotes.{answer_quote_of, quote_refusals, quote_accepted, quote_sent, quote_status, quoted, shown_with}
 use Rattle.venue_rules.specs.Requests.{answer_request, request_accepted, request_refusals, request_sent, opened}
 use Rattle.venue_rules.specs.Responses.{answer_response, answer_response_to, answer_response_in, answer_hit, answer_hit_at, response_refusals, kind_refusals, room_traded, taken_side, price_for}
-use Rattle.venue_rules.specs.Rooms.{find_room, find_quote, first_quote, room_by_number}
+use Rattle.venue_rules.specs.Rooms.{find_room, find_quote, first_quote, printed, room_by_number}
 use Rattle.venue_rules.specs.Run.{Input, Message, Tick, answer_input, answer_due_of}
 use Rattle.venue_rules.specs.Withdrawals.{answer_withdrawal_of, withdraw_one, withdrawn_or, not_found, both_emitted, to_maker, to_requester}
 use Rattle.trade_reconstruction.specs.declared.trigger.Trigger.{Trigger}
@@ -93,19 +93,22 @@ fills_emitted trade [] = []
 fills_emitted trade (p ∷ ps) = pair_emitted p.0 trade p.1.place (fills_emitted (trade + 1) ps)
 
 -- of a room trade, its number twice: to the requester and to the maker
-abbrev pub hits_of : ℕ → ℕ → TradeSource → List HeardHit → List HeardHit
-hits_of n trade (InRoom room quote) rest = record { row = n; room = room; trade = trade } ∷ record { row = n; room = room; trade = trade } ∷ rest
-hits_of n trade (InBook old new) rest = rest
+abbrev pub hit_emitted : ℕ → ℕ → ℤ → ℕ → ℕ → HeardHit
+hit_emitted n trade price room quote = record { row = n; room = room; trade = trade; quote = printed 81 quote; price = price }
+
+abbrev pub hits_of : ℕ → ℕ → ℤ → TradeSource → List HeardHit → List HeardHit
+hits_of n trade price (InRoom room quote) rest = hit_emitted n trade price room quote ∷ hit_emitted n trade price room quote ∷ rest
+hits_of n trade price (InBook old new) rest = rest
 
 abbrev pub hits_emitted : ℕ → List (ℕ × Trade) → List HeardHit
 hits_emitted trade [] = []
-hits_emitted trade (p ∷ ps) = hits_of p.0 trade p.1.place (hits_emitted (trade + 1) ps)
+hits_emitted trade (p ∷ ps) = hits_of p.0 trade p.1.price p.1.place (hits_emitted (trade + 1) ps)
 
 abbrev pub at_row : ℕ → List Trade → List (ℕ × Trade)
 at_row n ts = map (λ (x : Trade). (n, x)) ts
 
 abbrev pub emitted_hold : HeldSide → HeardHold
-emitted_hold k = record { who = k.order.who; id = k.order.id; until = k.due }
+emitted_hold k = record { who = k.order.who; id = k.order.id; cross = k.cross; until = k.due }
 
 -- a trade in the book is of one of these entries
 abbrev pub IsOf : List Entry → TradeSource → Type 0
@@ -565,7 +568,7 @@ second_unused facts who d one other = elim (is_first d d.first) as (λ b. is_ord
 
 -- the trigger of a cross
 abbrev crossed : Market → CrossMessage → Trigger
-crossed m d = trigger.Cross (record { first = d.first.order_id; second = d.second.order_id; price = d.price; delay = delay_of m.instruments (instrument_of m.instruments d.symbol) })
+crossed m d = trigger.Cross (record { cross = d.cross_id; first = d.first.order_id; second = d.second.order_id; price = d.price; delay = delay_of m.instruments (instrument_of m.instruments d.symbol) })
 
 crossed_hold : (w : Here) (h : History) (s : Sender) (d : CrossMessage) (t : ℕ) → w.trigger ≡ crossed w.market d → w.moment ≡ t → bytes_eq d.first.order_id d.second.order_id ≡ false → (k : ℕ)
     → (let o = side_order w.market s.who d (first_side d) in
@@ -573,7 +576,7 @@ crossed_hold : (w : Here) (h : History) (s : Sender) (d : CrossMessage) (t : ℕ
 crossed_hold w h s d t is moment apart k =
     let o = side_order w.market s.who d (first_side d) in
     ap (hold_from w.moment o.who (order_report w.market (entering h.facts o 0 t) o.quantity 0 k)) is
-    ∙ (λ j. Some (record { who = s.who; id = other_side d apart j; until = moment j + delay_of w.market.instruments (instrument_of w.market.instruments d.symbol) }))
+    ∙ (λ j. Some (record { who = s.who; id = other_side d apart j; cross = d.cross_id; until = moment j + delay_of w.market.instruments (instrument_of w.market.instruments d.symbol) }))
 
 cross_accepted-Says : (w : Here) (h : History) (s : Sender) (d : CrossMessage) (t : ℕ) → IsMessage w None t → w.trigger ≡ crossed w.market d → is_none d.price ≡ false → is_order_id_used h.facts s.who d.first.order_id ≡ false
     → is_order_id_used h.facts s.who d.second.order_id ≡ false → bytes_eq d.first.order_id d.second.order_id ≡ false → Says w h (cross_accepted w.market h s d t)
@@ -724,29 +727,31 @@ withdrawal-Says w h s d t false false = (refl, (refl, (refl, (tt, (inl refl, (re
 
 -- Answers to quotes.
 
--- a response came
-abbrev IsResponse : Here → Type 0
-IsResponse w = (quote : List ℕ) × (w.trigger ≡ trigger.Response quote)
+-- a response to a quote came
+abbrev IsResponse : Here → RoomQuote → Type 0
+IsResponse w q = w.trigger ≡ trigger.Response (printed 81 q.number)
 
-hit_at-Says : (w : Here) (h : History) (s : Sender) (r : Room) (q : RoomQuote) (d : ResponseMessage) (t : ℕ) (side : Side) (p : Option ℤ) → IsResponse w → Says w h (answer_hit_at w.market h s r q d t side p)
+hit_at-Says : (w : Here) (h : History) (s : Sender) (r : Room) (q : RoomQuote) (d : ResponseMessage) (t : ℕ) (side : Side) (p : Option ℤ) → IsResponse w q → Says w h (answer_hit_at w.market h s r q d t side p)
 hit_at-Says w h s r q d t side None is = (refl, (refl, (refl, (tt, (inl refl, (refl, (tt, refl)))))))
-hit_at-Says w h s r q d t side (Some p) is = (refl, (refl, (refl, ((tt, tt), (inl refl, (ap (λ (c : Trigger). filter_map (hit_by w.row c) (room_traded w.market h s r q d side p t).replies) is.1, (tt, refl)))))))
+hit_at-Says w h s r q d t side (Some p) is = (refl, (refl, (refl, ((tt, tt), (inl refl, (ap (λ (c : Trigger). filter_map (hit_by w.row c) (room_traded w.market h s r q d side p t).replies) is, (tt, refl)))))))
 
-hit-Says : (w : Here) (h : History) (s : Sender) (r : Room) (q : RoomQuote) (d : ResponseMessage) (t : ℕ) (side : Option Side) → IsResponse w → Says w h (answer_hit w.market h s r q d t side)
+hit-Says : (w : Here) (h : History) (s : Sender) (r : Room) (q : RoomQuote) (d : ResponseMessage) (t : ℕ) (side : Option Side) → IsResponse w q → Says w h (answer_hit w.market h s r q d t side)
 hit-Says w h s r q d t None is = (refl, (refl, (refl, (tt, (inl refl, (refl, (tt, refl)))))))
 hit-Says w h s r q d t (Some side) is = hit_at-Says w h s r q d t side (price_for side q) is
 
-response_in-Says : (w : Here) (h : History) (s : Sender) (q : RoomQuote) (d : ResponseMessage) (t : ℕ) (r : Option Room) → IsResponse w → Says w h (answer_response_in w.market h s q d t r)
+response_in-Says : (w : Here) (h : History) (s : Sender) (q : RoomQuote) (d : ResponseMessage) (t : ℕ) (r : Option Room) → IsResponse w q → Says w h (answer_response_in w.market h s q d t r)
 response_in-Says w h s q d t None is = (refl, (refl, (refl, (tt, (inl refl, (refl, (tt, refl)))))))
 response_in-Says w h s q d t (Some r) is =
     first_of-Says w h (response_refusals w.market h s r q d t) (answer_hit w.market h s r q d t (taken_side r.side d.side)) ((refl, (refl, (refl, (tt, (inl refl, (refl, (tt, refl))))))), ((refl, (refl, (refl, (tt, (inl refl, (refl, (tt, refl))))))), ((refl, (refl, (refl, (tt, (inl refl, (refl, (tt, refl))))))), ((refl, (refl, (refl, (tt, (inl refl, (refl, (tt, refl))))))), ((refl, (refl, (refl, (tt, (inl refl, (refl, (tt, refl))))))), ((refl, (refl, (refl, (tt, (inl refl, (refl, (tt, refl))))))), tt)))))) (λ n. hit-Says w h s r q d t (taken_side r.side d.side) is)
 
-response_to-Says : (w : Here) (h : History) (s : Sender) (d : ResponseMessage) (t : ℕ) (q : Option RoomQuote) → IsResponse w → Says w h (answer_response_to w.market h s d t q)
+response_to-Says : (w : Here) (h : History) (s : Sender) (d : ResponseMessage) (t : ℕ) (q : Option RoomQuote) → ((x : RoomQuote) → q ≡ Some x → IsResponse w x) → Says w h (answer_response_to w.market h s d t q)
 response_to-Says w h s d t None is = (refl, (refl, (refl, (tt, (inl refl, (refl, (tt, refl)))))))
-response_to-Says w h s d t (Some q) is = response_in-Says w h s q d t (room_by_number h.facts q.room) is
+response_to-Says w h s d t (Some q) is = response_in-Says w h s q d t (room_by_number h.facts q.room) (is q refl)
 
-response-Says : (w : Here) (h : History) (s : Sender) (d : ResponseMessage) (t : ℕ) → IsResponse w → Says w h (answer_response w.market h s d t)
-response-Says w h s d t is = first_of-Says w h (kind_refusals s d) _ ((refl, (refl, (refl, (tt, (inl refl, (refl, (tt, refl))))))), tt) (λ n. response_to-Says w h s d t (find_quote h.facts d.quote_id) is)
+response-Says : (w : Here) (h : History) (s : Sender) (d : ResponseMessage) (t : ℕ) → w.trigger ≡ trigger.Response d.quote_id → Says w h (answer_response w.market h s d t)
+response-Says w h s d t is = first_of-Says w h (kind_refusals s d) _ ((refl, (refl, (refl, (tt, (inl refl, (refl, (tt, refl))))))), tt) (λ n.
+    response_to-Says w h s d t (find_quote h.facts d.quote_id)
+    (λ x e. is ∙ ap (λ (id : List ℕ). trigger.Response id) (sym ((bytes_eq-Decides (printed 81 x.number) d.quote_id).0 (found_passes (λ (y : RoomQuote). bytes_eq (printed 81 y.number) d.quote_id) (quotes h.facts) x e).1))))
 
 market_data-Says : (w : Here) (h : History) (s : Sender) (d : MarketDataMessage) → Says w h (answer_market_data w.market h s d)
 market_data-Says w h s d = first_of-Says w h (market_data_refusals w.market s d) (market_data w.market h s d) ((refl, (refl, (refl, (tt, (inl refl, (refl, (tt, refl))))))), ((refl, (refl, (refl, (tt, (inl refl, (refl, (tt, refl))))))), ((refl, (refl, (refl, (tt, (inl refl, (refl, (tt, refl))))))), tt))) (λ n. (refl, (refl, (refl, (tt, (inl refl, (refl, (tt, refl))))))))
@@ -762,7 +767,7 @@ unfolding trigger_in
 app-Says m h words n moment s (QuoteRequest d) t e = request-Says (message_here m words n moment s (QuoteRequest d)) h s d t refl
 app-Says m h words n moment s (Quote d) t e = quote-Says (message_here m words n moment s (Quote d)) h s d t (find_room h.facts d.request_id)
 app-Says m h words n moment s (QuoteCancel d) t e = withdrawal-Says (message_here m words n moment s (QuoteCancel d)) h s d t (d.cancel_type == 5) (d.cancel_type == 4)
-app-Says m h words n moment s (QuoteResponse d) t e = response-Says (message_here m words n moment s (QuoteResponse d)) h s d t (d.quote_id, refl)
+app-Says m h words n moment s (QuoteResponse d) t e = response-Says (message_here m words n moment s (QuoteResponse d)) h s d t refl
 app-Says m h words n moment s (NewOrderSingle d) t e = order-Says (message_here m words n moment s (NewOrderSingle d)) h s d t (record { from = refl; tick = refl; same = refl; moment = e }) refl (λ to r. refl)
 app-Says m h words n moment s (OrderCancelRequest d) t e = cancel-Says (message_here m words n moment s (OrderCancelRequest d)) h s d (named h s.who d.original_id)
 app-Says m h words n moment s (OrderCancelReplaceRequest d) t e =

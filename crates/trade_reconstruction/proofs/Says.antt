@@ -52,6 +52,7 @@ pub record HeardFill : Type 0 where
 pub record HeardHold : Type 0 where
   pub who : ℕ
   pub id : List ℕ
+  pub cross : List ℕ
   pub until : ℕ
 
 -- a trade that was made by a hit
@@ -59,6 +60,8 @@ pub record HeardHit : Type 0 where
   pub row : ℕ
   pub room : ℕ
   pub trade : ℕ
+  pub quote : List ℕ
+  pub price : ℤ
 
 -- a recipient who is asked
 pub record HeardAsked : Type 0 where
@@ -89,14 +92,14 @@ abbrev pub fill_in : EvidenceEvent → Option HeardFill
 fill_in w = fill_of_said w w.said
 
 abbrev pub hold_of_said : EvidenceEvent → EventKind → Option HeardHold
-hold_of_said w (said.Held x) = Some (record { who = w.to; id = x.id; until = w.moment + x.delay })
+hold_of_said w (said.Held x) = Some (record { who = w.to; id = x.id; cross = x.cross; until = w.moment + x.delay })
 hold_of_said w _ = None
 
 abbrev pub hold_in : EvidenceEvent → Option HeardHold
 hold_in w = hold_of_said w w.said
 
 abbrev pub trade_of_said : EvidenceEvent → EventKind → Option HeardHit
-trade_of_said w (said.Hit x) = Some (record { row = w.row; room = x.room; trade = x.trade })
+trade_of_said w (said.Hit x) = Some (record { row = w.row; room = x.room; trade = x.trade; quote = x.quote; price = x.price })
 trade_of_said w _ = None
 
 abbrev pub traded_in : EvidenceEvent → Option HeardHit
@@ -135,7 +138,7 @@ abbrev pub fill_by : ℕ → Reply → Option HeardFill
 fill_by n r = fill_what n r.what
 
 abbrev pub hold_from : ℕ → ℕ → OrderReport → Trigger → Option HeardHold
-hold_from t to r (trigger.Cross x) = Some (record { who = to; id = if bytes_eq r.id x.first then x.second else x.first; until = t + x.delay })
+hold_from t to r (trigger.Cross x) = Some (record { who = to; id = if bytes_eq r.id x.first then x.second else x.first; cross = x.cross; until = t + x.delay })
 hold_from t to r _ = None
 
 abbrev pub hold_what : ℕ → Trigger → ℕ → ReplyBody → Option HeardHold
@@ -146,7 +149,7 @@ abbrev pub hold_by : ℕ → Trigger → Reply → Option HeardHold
 hold_by t c r = hold_what t c r.to r.what
 
 abbrev pub hit_from : ℕ → RoomReport → Trigger → Option HeardHit
-hit_from n r (trigger.Response quote) = Some (record { row = n; room = r.room; trade = r.trade })
+hit_from n r (trigger.Response quote) = Some (record { row = n; room = r.room; trade = r.trade; quote = quote; price = r.price })
 hit_from n r _ = None
 
 abbrev pub hit_what : ℕ → Trigger → ReplyBody → Option HeardHit
@@ -198,7 +201,7 @@ shown_silent pick deaf n t to request (e ∷ es) =
 
 prices_silent : {Y : Type 0} (pick : EvidenceEvent → Option Y) → IsDeaf pick → (n t to : ℕ) (c : Trigger) (p : BookSnapshot) → filter_map pick (prices_words n t to c p) ≡ []
 prices_silent pick deaf n t to (trigger.Request x) p = refl
-prices_silent pick deaf n t to trigger.Quote p = shown_silent pick deaf n t to p.request_id p.entries
+prices_silent pick deaf n t to (trigger.Quote x) p = shown_silent pick deaf n t to p.request_id p.entries
 prices_silent pick deaf n t to (trigger.Response x) p = refl
 prices_silent pick deaf n t to (trigger.Order x) p = refl
 prices_silent pick deaf n t to (trigger.Cross x) p = refl
@@ -212,7 +215,7 @@ what_words n t c to x = said_by n t to (said_in c x) ++ (said_by n t to (held_in
 
 asked_entry : (n t : ℕ) (c : Trigger) (to : ℕ) (r : RequestSent) → filter_map entry_in (said_by n t to (asked_in c r) ++ []) ≡ []
 asked_entry n t (trigger.Request x) to r = refl
-asked_entry n t trigger.Quote to r = refl
+asked_entry n t (trigger.Quote x) to r = refl
 asked_entry n t (trigger.Response x) to r = refl
 asked_entry n t (trigger.Order x) to r = refl
 asked_entry n t (trigger.Cross x) to r = refl
@@ -221,7 +224,7 @@ asked_entry n t trigger.Other to r = refl
 
 hit_entry : (n t : ℕ) (c : Trigger) (to : ℕ) (r : RoomReport) → filter_map entry_in (said_by n t to (hit_in c r) ++ []) ≡ []
 hit_entry n t (trigger.Request x) to r = refl
-hit_entry n t trigger.Quote to r = refl
+hit_entry n t (trigger.Quote x) to r = refl
 hit_entry n t (trigger.Response x) to r = refl
 hit_entry n t (trigger.Order x) to r = refl
 hit_entry n t (trigger.Cross x) to r = refl
@@ -230,7 +233,7 @@ hit_entry n t trigger.Other to r = refl
 
 prices_entry : (n t : ℕ) (c : Trigger) (to : ℕ) (p : BookSnapshot) → filter_map entry_in (said_by n t to (pictured_in c p) ++ prices_words n t to c p) ≡ []
 prices_entry n t (trigger.Request x) to p = refl
-prices_entry n t trigger.Quote to p = shown_silent entry_in entry-deaf n t to p.request_id p.entries
+prices_entry n t (trigger.Quote x) to p = shown_silent entry_in entry-deaf n t to p.request_id p.entries
 prices_entry n t (trigger.Response x) to p = refl
 prices_entry n t (trigger.Order x) to p = refl
 prices_entry n t (trigger.Cross x) to p = refl
@@ -239,7 +242,7 @@ prices_entry n t trigger.Other to p = refl
 
 held_entry : (n t : ℕ) (c : Trigger) (to : ℕ) (r : OrderReport) → filter_map entry_in (said_by n t to (held_by c r) ++ []) ≡ []
 held_entry n t (trigger.Request x) to r = refl
-held_entry n t trigger.Quote to r = refl
+held_entry n t (trigger.Quote x) to r = refl
 held_entry n t (trigger.Response x) to r = refl
 held_entry n t (trigger.Order x) to r = refl
 held_entry n t (trigger.Cross x) to r = refl
@@ -277,7 +280,7 @@ what_entry n t c to (what.BusinessReject r) = refl
 
 asked_fill : (n t : ℕ) (c : Trigger) (to : ℕ) (r : RequestSent) → filter_map fill_in (said_by n t to (asked_in c r) ++ []) ≡ []
 asked_fill n t (trigger.Request x) to r = refl
-asked_fill n t trigger.Quote to r = refl
+asked_fill n t (trigger.Quote x) to r = refl
 asked_fill n t (trigger.Response x) to r = refl
 asked_fill n t (trigger.Order x) to r = refl
 asked_fill n t (trigger.Cross x) to r = refl
@@ -286,7 +289,7 @@ asked_fill n t trigger.Other to r = refl
 
 hit_fill : (n t : ℕ) (c : Trigger) (to : ℕ) (r : RoomReport) → filter_map fill_in (said_by n t to (hit_in c r) ++ []) ≡ []
 hit_fill n t (trigger.Request x) to r = refl
-hit_fill n t trigger.Quote to r = refl
+hit_fill n t (trigger.Quote x) to r = refl
 hit_fill n t (trigger.Response x) to r = refl
 hit_fill n t (trigger.Order x) to r = refl
 hit_fill n t (trigger.Cross x) to r = refl
@@ -295,7 +298,7 @@ hit_fill n t trigger.Other to r = refl
 
 prices_fill : (n t : ℕ) (c : Trigger) (to : ℕ) (p : BookSnapshot) → filter_map fill_in (said_by n t to (pictured_in c p) ++ prices_words n t to c p) ≡ []
 prices_fill n t (trigger.Request x) to p = refl
-prices_fill n t trigger.Quote to p = shown_silent fill_in fill-deaf n t to p.request_id p.entries
+prices_fill n t (trigger.Quote x) to p = shown_silent fill_in fill-deaf n t to p.request_id p.entries
 prices_fill n t (trigger.Response x) to p = refl
 prices_fill n t (trigger.Order x) to p = refl
 prices_fill n t (trigger.Cross x) to p = refl
@@ -304,7 +307,7 @@ prices_fill n t trigger.Other to p = refl
 
 held_fill : (n t : ℕ) (c : Trigger) (to : ℕ) (r : OrderReport) → filter_map fill_in (said_by n t to (held_by c r) ++ []) ≡ []
 held_fill n t (trigger.Request x) to r = refl
-held_fill n t trigger.Quote to r = refl
+held_fill n t (trigger.Quote x) to r = refl
 held_fill n t (trigger.Response x) to r = refl
 held_fill n t (trigger.Order x) to r = refl
 held_fill n t (trigger.Cross x) to r = refl
@@ -341,7 +344,7 @@ what_fill n t c to (what.BusinessReject r) = refl
 
 asked_asking : (n t : ℕ) (c : Trigger) (to : ℕ) (r : RequestSent) → filter_map asking_in (said_by n t to (asked_in c r) ++ []) ≡ cons_option (asking_from n t to r c) []
 asked_asking n t (trigger.Request x) to r = refl
-asked_asking n t trigger.Quote to r = refl
+asked_asking n t (trigger.Quote x) to r = refl
 asked_asking n t (trigger.Response x) to r = refl
 asked_asking n t (trigger.Order x) to r = refl
 asked_asking n t (trigger.Cross x) to r = refl
@@ -350,7 +353,7 @@ asked_asking n t trigger.Other to r = refl
 
 hit_asking : (n t : ℕ) (c : Trigger) (to : ℕ) (r : RoomReport) → filter_map asking_in (said_by n t to (hit_in c r) ++ []) ≡ []
 hit_asking n t (trigger.Request x) to r = refl
-hit_asking n t trigger.Quote to r = refl
+hit_asking n t (trigger.Quote x) to r = refl
 hit_asking n t (trigger.Response x) to r = refl
 hit_asking n t (trigger.Order x) to r = refl
 hit_asking n t (trigger.Cross x) to r = refl
@@ -359,7 +362,7 @@ hit_asking n t trigger.Other to r = refl
 
 prices_asking : (n t : ℕ) (c : Trigger) (to : ℕ) (p : BookSnapshot) → filter_map asking_in (said_by n t to (pictured_in c p) ++ prices_words n t to c p) ≡ []
 prices_asking n t (trigger.Request x) to p = refl
-prices_asking n t trigger.Quote to p = shown_silent asking_in asking-deaf n t to p.request_id p.entries
+prices_asking n t (trigger.Quote x) to p = shown_silent asking_in asking-deaf n t to p.request_id p.entries
 prices_asking n t (trigger.Response x) to p = refl
 prices_asking n t (trigger.Order x) to p = refl
 prices_asking n t (trigger.Cross x) to p = refl
@@ -368,7 +371,7 @@ prices_asking n t trigger.Other to p = refl
 
 held_asking : (n t : ℕ) (c : Trigger) (to : ℕ) (r : OrderReport) → filter_map asking_in (said_by n t to (held_by c r) ++ []) ≡ []
 held_asking n t (trigger.Request x) to r = refl
-held_asking n t trigger.Quote to r = refl
+held_asking n t (trigger.Quote x) to r = refl
 held_asking n t (trigger.Response x) to r = refl
 held_asking n t (trigger.Order x) to r = refl
 held_asking n t (trigger.Cross x) to r = refl
@@ -405,7 +408,7 @@ what_asking n t c to (what.BusinessReject r) = refl
 
 asked_traded : (n t : ℕ) (c : Trigger) (to : ℕ) (r : RequestSent) → filter_map traded_in (said_by n t to (asked_in c r) ++ []) ≡ []
 asked_traded n t (trigger.Request x) to r = refl
-asked_traded n t trigger.Quote to r = refl
+asked_traded n t (trigger.Quote x) to r = refl
 asked_traded n t (trigger.Response x) to r = refl
 asked_traded n t (trigger.Order x) to r = refl
 asked_traded n t (trigger.Cross x) to r = refl
@@ -414,7 +417,7 @@ asked_traded n t trigger.Other to r = refl
 
 hit_traded : (n t : ℕ) (c : Trigger) (to : ℕ) (r : RoomReport) → filter_map traded_in (said_by n t to (hit_in c r) ++ []) ≡ cons_option (hit_from n r c) []
 hit_traded n t (trigger.Request x) to r = refl
-hit_traded n t trigger.Quote to r = refl
+hit_traded n t (trigger.Quote x) to r = refl
 hit_traded n t (trigger.Response x) to r = refl
 hit_traded n t (trigger.Order x) to r = refl
 hit_traded n t (trigger.Cross x) to r = refl
@@ -423,7 +426,7 @@ hit_traded n t trigger.Other to r = refl
 
 prices_traded : (n t : ℕ) (c : Trigger) (to : ℕ) (p : BookSnapshot) → filter_map traded_in (said_by n t to (pictured_in c p) ++ prices_words n t to c p) ≡ []
 prices_traded n t (trigger.Request x) to p = refl
-prices_traded n t trigger.Quote to p = shown_silent traded_in traded-deaf n t to p.request_id p.entries
+prices_traded n t (trigger.Quote x) to p = shown_silent traded_in traded-deaf n t to p.request_id p.entries
 prices_traded n t (trigger.Response x) to p = refl
 prices_traded n t (trigger.Order x) to p = refl
 prices_traded n t (trigger.Cross x) to p = refl
@@ -432,7 +435,7 @@ prices_traded n t trigger.Other to p = refl
 
 held_traded : (n t : ℕ) (c : Trigger) (to : ℕ) (r : OrderReport) → filter_map traded_in (said_by n t to (held_by c r) ++ []) ≡ []
 held_traded n t (trigger.Request x) to r = refl
-held_traded n t trigger.Quote to r = refl
+held_traded n t (trigger.Quote x) to r = refl
 held_traded n t (trigger.Response x) to r = refl
 held_traded n t (trigger.Order x) to r = refl
 held_traded n t (trigger.Cross x) to r = refl
@@ -469,7 +472,7 @@ what_traded n t c to (what.BusinessReject r) = refl
 
 asked_hold : (n t : ℕ) (c : Trigger) (to : ℕ) (r : RequestSent) → filter_map hold_in (said_by n t to (asked_in c r) ++ []) ≡ []
 asked_hold n t (trigger.Request x) to r = refl
-asked_hold n t trigger.Quote to r = refl
+asked_hold n t (trigger.Quote x) to r = refl
 asked_hold n t (trigger.Response x) to r = refl
 asked_hold n t (trigger.Order x) to r = refl
 asked_hold n t (trigger.Cross x) to r = refl
@@ -478,7 +481,7 @@ asked_hold n t trigger.Other to r = refl
 
 hit_hold : (n t : ℕ) (c : Trigger) (to : ℕ) (r : RoomReport) → filter_map hold_in (said_by n t to (hit_in c r) ++ []) ≡ []
 hit_hold n t (trigger.Request x) to r = refl
-hit_hold n t trigger.Quote to r = refl
+hit_hold n t (trigger.Quote x) to r = refl
 hit_hold n t (trigger.Response x) to r = refl
 hit_hold n t (trigger.Order x) to r = refl
 hit_hold n t (trigger.Cross x) to r = refl
@@ -487,7 +490,7 @@ hit_hold n t trigger.Other to r = refl
 
 prices_hold : (n t : ℕ) (c : Trigger) (to : ℕ) (p : BookSnapshot) → filter_map hold_in (said_by n t to (pictured_in c p) ++ prices_words n t to c p) ≡ []
 prices_hold n t (trigger.Request x) to p = refl
-prices_hold n t trigger.Quote to p = shown_silent hold_in hold-deaf n t to p.request_id p.entries
+prices_hold n t (trigger.Quote x) to p = shown_silent hold_in hold-deaf n t to p.request_id p.entries
 prices_hold n t (trigger.Response x) to p = refl
 prices_hold n t (trigger.Order x) to p = refl
 prices_hold n t (trigger.Cross x) to p = refl
@@ -496,7 +499,7 @@ prices_hold n t trigger.Other to p = refl
 
 held_hold : (n t : ℕ) (c : Trigger) (to : ℕ) (r : OrderReport) → filter_map hold_in (said_by n t to (held_by c r) ++ []) ≡ cons_option (hold_from t to r c) []
 held_hold n t (trigger.Request x) to r = refl
-held_hold n t trigger.Quote to r = refl
+held_hold n t (trigger.Quote x) to r = refl
 held_hold n t (trigger.Response x) to r = refl
 held_hold n t (trigger.Order x) to r = refl
 held_hold n t (trigger.Cross x) to r = refl

@@ -52,21 +52,21 @@ abbrev pub stands_in : EvidenceEvent → Option EvidenceEvent
 stands_in w = stands_said w w.said
 
 -- the lines are of these events alone
-standing_step : (w : EvidenceEvent) (s : EventKind) (ws : List EvidenceEvent) → s ≡ w.said → standing_said w s ++ flat_map standing_line ws ≡ flat_map standing_line (cons_option (stands_said w s) ws)
-standing_step w (said.RestedBefore x) ws e = ap (λ (y : EventKind). standing_said w y ++ flat_map standing_line ws) e
-standing_step w (said.RestedCount x) ws e = ap (λ (y : EventKind). standing_said w y ++ flat_map standing_line ws) e
-standing_step w (said.Asked x) ws e = refl
-standing_step w (said.SnapshotSent x) ws e = refl
-standing_step w (said.Shown x) ws e = refl
-standing_step w (said.Quoted x) ws e = refl
-standing_step w (said.Hit x) ws e = refl
-standing_step w (said.Entered x) ws e = refl
-standing_step w (said.Held x) ws e = refl
-standing_step w (said.Filled x) ws e = refl
+standing_step : (all : List EvidenceEvent) (w : EvidenceEvent) (s : EventKind) (ws : List EvidenceEvent) → s ≡ w.said → standing_said all w s ++ flat_map (standing_line all) ws ≡ flat_map (standing_line all) (cons_option (stands_said w s) ws)
+standing_step all w (said.RestedBefore x) ws e = ap (λ (y : EventKind). standing_said all w y ++ flat_map (standing_line all) ws) e
+standing_step all w (said.RestedCount x) ws e = ap (λ (y : EventKind). standing_said all w y ++ flat_map (standing_line all) ws) e
+standing_step all w (said.Asked x) ws e = refl
+standing_step all w (said.SnapshotSent x) ws e = refl
+standing_step all w (said.Shown x) ws e = refl
+standing_step all w (said.Quoted x) ws e = refl
+standing_step all w (said.Hit x) ws e = refl
+standing_step all w (said.Entered x) ws e = refl
+standing_step all w (said.Held x) ws e = refl
+standing_step all w (said.Filled x) ws e = refl
 
-lines_of_standing : (ws : List EvidenceEvent) → standing_lines ws ≡ flat_map standing_line (filter_map stands_in ws)
-lines_of_standing [] = refl
-lines_of_standing (w ∷ ws) = ap (λ l. standing_line w ++ l) (lines_of_standing ws) ∙ standing_step w w.said (filter_map stands_in ws) refl
+lines_of_standing : (all ws : List EvidenceEvent) → flat_map (standing_line all) ws ≡ flat_map (standing_line all) (filter_map stands_in ws)
+lines_of_standing all [] = refl
+lines_of_standing all (w ∷ ws) = ap (λ l. standing_line all w ++ l) (lines_of_standing all ws) ∙ standing_step all w w.said (filter_map stands_in ws) refl
 
 -- no event of the kind
 abbrev none_of : Reply → Option EvidenceEvent
@@ -80,7 +80,7 @@ shown_not_standing n t to request (e ∷ es) = shown_not_standing n t to request
 
 asked_standing : (n t : ℕ) (c : Trigger) (to : ℕ) (r : RequestSent) → filter_map stands_in (said_by n t to (asked_in c r) ++ []) ≡ []
 asked_standing n t (trigger.Request x) to r = refl
-asked_standing n t trigger.Quote to r = refl
+asked_standing n t (trigger.Quote x) to r = refl
 asked_standing n t (trigger.Response x) to r = refl
 asked_standing n t (trigger.Order x) to r = refl
 asked_standing n t (trigger.Cross x) to r = refl
@@ -89,7 +89,7 @@ asked_standing n t trigger.Other to r = refl
 
 hit_standing : (n t : ℕ) (c : Trigger) (to : ℕ) (r : RoomReport) → filter_map stands_in (said_by n t to (hit_in c r) ++ []) ≡ []
 hit_standing n t (trigger.Request x) to r = refl
-hit_standing n t trigger.Quote to r = refl
+hit_standing n t (trigger.Quote x) to r = refl
 hit_standing n t (trigger.Response x) to r = refl
 hit_standing n t (trigger.Order x) to r = refl
 hit_standing n t (trigger.Cross x) to r = refl
@@ -98,7 +98,7 @@ hit_standing n t trigger.Other to r = refl
 
 prices_standing : (n t : ℕ) (c : Trigger) (to : ℕ) (p : BookSnapshot) → filter_map stands_in (said_by n t to (pictured_in c p) ++ prices_words n t to c p) ≡ []
 prices_standing n t (trigger.Request x) to p = refl
-prices_standing n t trigger.Quote to p = shown_not_standing n t to p.request_id p.entries
+prices_standing n t (trigger.Quote x) to p = shown_not_standing n t to p.request_id p.entries
 prices_standing n t (trigger.Response x) to p = refl
 prices_standing n t (trigger.Order x) to p = refl
 prices_standing n t (trigger.Cross x) to p = refl
@@ -107,7 +107,7 @@ prices_standing n t trigger.Other to p = refl
 
 held_standing : (n t : ℕ) (c : Trigger) (to : ℕ) (r : OrderReport) → filter_map stands_in (said_by n t to (held_by c r) ++ []) ≡ []
 held_standing n t (trigger.Request x) to r = refl
-held_standing n t trigger.Quote to r = refl
+held_standing n t (trigger.Quote x) to r = refl
 held_standing n t (trigger.Response x) to r = refl
 held_standing n t (trigger.Order x) to r = refl
 held_standing n t (trigger.Cross x) to r = refl
@@ -467,7 +467,7 @@ stood_once m number h (r ∷ rs) (i ∷ is) emitted k old new q at place from =
 pub standing_emitted : (m : Market) (number : ℕ) (rs : List TrailRow) (is : List Input) → AreEmitted rs is → (old new : ℕ) (q : TrailRow × Input × Trade) → slice_get (added trade_in_fact m no_history rs is) (number - 1) ≡ Some q → q.2.place ≡ InBook old new
     → number ≡ 1 + (number - 1)
     → (s : StoodAt m number no_history rs is q old)
-    × (standing_lines (words_emitted m number rs is) ≡ flat_map standing_line (stood_words q.0.n q.0.moment (met_emitted m s.of) (prices_of m (run_from m no_history s.earlier).history (symbol_of m.instruments s.of.order.instrument))))
+    × (standing_lines (words_emitted m number rs is) ≡ flat_map (standing_line (words_emitted m number rs is)) (stood_words q.0.n q.0.moment (met_emitted m s.of) (prices_of m (run_from m no_history s.earlier).history (symbol_of m.instruments s.of.order.instrument))))
 standing_emitted m number rs is emitted old new q at place from =
     let s = stood_once m number no_history rs is emitted (number - 1) old new q at place from in
-    (s, lines_of_standing (words_emitted m number rs is) ∙ ap (λ (ws : List EvidenceEvent). flat_map standing_line ws) (day_says stands_in (λ h xs ys. stood_on m number h xs ys) m number (λ h. refl) (stood_step m number) no_history [] rs is emitted ∙ s.said))
+    (s, lines_of_standing (words_emitted m number rs is) (words_emitted m number rs is) ∙ ap (λ (ws : List EvidenceEvent). flat_map (standing_line (words_emitted m number rs is)) ws) (day_says stands_in (λ h xs ys. stood_on m number h xs ys) m number (λ h. refl) (stood_step m number) no_history [] rs is emitted ∙ s.said))

@@ -20,7 +20,10 @@ use Rattle.trade_reconstruction.specs.declared.evidence.EvidenceFault.{EvidenceF
 use Rattle.trade_reconstruction.specs.declared.evidence.EvidenceFault.TheVariants as fault
 use Rattle.trade_reconstruction.specs.declared.evidence_event.EvidenceEvent.{EvidenceEvent}
 use Rattle.trade_reconstruction.specs.Found.{HasOrders, HasRequest, HasRow}
+use Rattle.trade_reconstruction.specs.declared.quote_note.QuoteNote.{QuoteNote}
 use Rattle.trade_reconstruction.specs.Lines.{evidence}
+use Rattle.trade_reconstruction.specs.NoteLines.{note_lines}
+use Rattle.trade_reconstruction.specs.QuoteNotes.{notes_at}
 use Rattle.trade_reconstruction.specs.EventKinds.{trigger_in, words_of}
 use Rattle.trade_reconstruction.specs.Standing.{stood_at}
 
@@ -49,20 +52,32 @@ words_from m h number words (r ∷ rs) (i ∷ is) = words_from m (after h (answe
 abbrev pub words_emitted : Market → ℕ → List TrailRow → List Input → List EvidenceEvent
 words_emitted m number rs is = words_from m no_history number [] rs is
 
--- a venue processes the input of a row, and its events there were added
-pub record HearsRow (number : ℕ) (r : TrailRow) (s s' : State) (words words' : List EvidenceEvent) : Type 0 where
+-- the notes on quotes at the rows, one after another, after these events
+abbrev pub notes_from : Market → History → ℕ → List EvidenceEvent → List TrailRow → List Input → List QuoteNote
+notes_from m h number words [] is = []
+notes_from m h number words (r ∷ rs) [] = []
+notes_from m h number words (r ∷ rs) (i ∷ is) = notes_at m h number words r i ++ notes_from m (after h (answer_input m h i)) number (words ++ words_at m h number words r i) rs is
+
+-- the notes of a day with regard to the trade with a number
+abbrev pub notes_emitted : Market → ℕ → List TrailRow → List Input → List QuoteNote
+notes_emitted m number rs is = notes_from m no_history number [] rs is
+
+-- a venue processes the input of a row, and its events and notes there were added
+pub record HearsRow (number : ℕ) (r : TrailRow) (s s' : State) (words words' : List EvidenceEvent) (notes notes' : List QuoteNote) : Type 0 where
   pub input : Input
   pub answer : Answer
   pub emits : Emits r input
   pub takes : Takes s input answer s'
   pub hears : (h : History) → IsHistory s h → words' ≡ words ++ words_at s.market h number words r input
+  pub noted : (h : History) → IsHistory s h → notes' ≡ notes ++ notes_at s.market h number words r input
 
--- a venue stands where the inputs of these rows lead, and these are the events at the rows
-pub record IsHeard (m : Market) (number : ℕ) (rs : List TrailRow) (s : State) (words : List EvidenceEvent) : Type 0 where
+-- a venue stands where the inputs of these rows lead, and these are the events and the notes at the rows
+pub record IsHeard (m : Market) (number : ℕ) (rs : List TrailRow) (s : State) (words : List EvidenceEvent) (notes : List QuoteNote) : Type 0 where
   pub items : List Input
   pub emitted : AreEmitted rs items
   pub stands : Stands m items s
   pub said : words ≡ words_emitted m number rs items
+  pub noted : notes ≡ notes_emitted m number rs items
 
 -- the trade with this number, counted from 1
 abbrev pub numbered_in : List TradeFact → ℕ → Option TradeFact
@@ -84,7 +99,7 @@ pub record IsEvidence (m : Market) (rs : List TrailRow) (number : ℕ) (text : L
   pub emitted : AreOf rs items
   pub trade : TradeFact
   pub numbered : trade_numbered (run m items).history number ≡ Some trade
-  pub is : text ≡ evidence m (words_emitted m number rs items) trade
+  pub is : text ≡ evidence m (words_emitted m number rs items) (note_lines (words_emitted m number rs items) (notes_emitted m number rs items) trade) trade
   pub made : HasRow m rs items (words_emitted m number rs items) number trade
   pub requested : (room : ℕ) → trade.room ≡ Some room → HasRequest m rs items (words_emitted m number rs items) trade room
   pub ordered : trade.room ≡ None → HasOrders m rs items (words_emitted m number rs items) number trade

@@ -37,11 +37,11 @@ link_known words who id = link_of (find (is_sought (Entry who id)) words)
 -- has the link of the order it replaces, with the row of the message that carried it.
 unfoldable pub trigger_in : List Instrument → List EvidenceEvent → ℕ → ℕ → App → Trigger
 trigger_in xs words row who (QuoteRequest d) = trigger.Request (record { requester = who; request = d.request_id })
-trigger_in xs words row who (Quote d) = trigger.Quote
+trigger_in xs words row who (Quote d) = trigger.Quote d.quote_id
 trigger_in xs words row who (QuoteResponse d) = trigger.Response d.quote_id
 trigger_in xs words row who (NewOrderSingle d) = trigger.Order (record { price = d.price; link = link_at row d.link_id })
 trigger_in xs words row who (OrderCancelReplaceRequest d) = trigger.Order (record { price = d.price; link = link_known words who d.original_id })
-trigger_in xs words row who (NewOrderCross d) = trigger.Cross (record { first = d.first.order_id; second = d.second.order_id; price = d.price; delay = delay_of xs (instrument_of xs d.symbol) })
+trigger_in xs words row who (NewOrderCross d) = trigger.Cross (record { cross = d.cross_id; first = d.first.order_id; second = d.second.order_id; price = d.price; delay = delay_of xs (instrument_of xs d.symbol) })
 trigger_in xs words row who (QuoteCancel d) = trigger.Other
 trigger_in xs words row who (QuoteStatusReport d) = trigger.Other
 trigger_in xs words row who (QuoteRequestReject d) = trigger.Other
@@ -65,6 +65,11 @@ abbrev pub link_in : Trigger → Option Linked
 link_in (trigger.Order o) = o.link
 link_in _ = None
 
+-- the maker's own identifier of its quote (117)
+abbrev pub quote_id_in : Trigger → Option (List ℕ)
+quote_id_in (trigger.Quote id) = Some id
+quote_id_in _ = None
+
 abbrev pub is_tick : Trigger → Bool
 is_tick trigger.Tick = true
 is_tick _ = false
@@ -78,12 +83,12 @@ asked_in _ r = None
 
 -- a requester is shown a count of resting orders, with the first response
 abbrev pub pictured_in : Trigger → BookSnapshot → Option EventKind
-pictured_in trigger.Quote p = Some (said.SnapshotSent (record { request = p.request_id; count = length p.entries }))
+pictured_in (trigger.Quote id) p = Some (said.SnapshotSent (record { request = p.request_id; count = length p.entries }))
 pictured_in _ p = None
 
 -- a quote was hit
 abbrev pub hit_in : Trigger → RoomReport → Option EventKind
-hit_in (trigger.Response quote) r = Some (said.Hit (record { room = r.room; trade = r.trade; quote = quote }))
+hit_in (trigger.Response quote) r = Some (said.Hit (record { room = r.room; trade = r.trade; quote = quote; side = r.side; price = r.price; response = r.response_id }))
 hit_in _ r = None
 
 -- an order was filled by a trade
@@ -105,7 +110,7 @@ entered_in c original r = entered_of c original r r.order
 abbrev pub said_in : Trigger → ReplyBody → Option EventKind
 said_in c (what.RequestSent r) = asked_in c r
 said_in c (what.BookSnapshot p) = pictured_in c p
-said_in c (what.QuoteSent q) = Some (said.Quoted (record { request = q.request_id; quote = q.quote; maker = q.maker; bid = q.bid; offer = q.offer; end = q.end }))
+said_in c (what.QuoteSent q) = Some (said.Quoted (record { request = q.request_id; quote = q.quote; maker = q.maker; bid = q.bid; offer = q.offer; end = q.end; id = quote_id_in c }))
 said_in c (what.OrderEntered r) = entered_in c None r
 said_in c (what.OrderReplaced r) = entered_in c (Some r.original_id) r.order
 said_in c (what.OrderFilled f) = filled_in f
@@ -114,7 +119,7 @@ said_in c _ = None
 
 -- with the first side of a cross, its other side is held
 abbrev pub held_of : Crossed → OrderReport → EventKind
-held_of x r = said.Held (record { id = if bytes_eq r.id x.first then x.second else x.first; delay = x.delay })
+held_of x r = said.Held (record { id = if bytes_eq r.id x.first then x.second else x.first; cross = x.cross; delay = x.delay })
 
 abbrev pub held_by : Trigger → OrderReport → Option EventKind
 held_by (trigger.Cross x) r = Some (held_of x r)
@@ -137,7 +142,7 @@ abbrev pub shown_word : ℕ → ℕ → ℕ → List ℕ → SnapshotEntry → E
 shown_word row moment to request e = word row moment to (said.Shown (record { request = request; side = e.side; price = e.price; left = e.left; order = e.order }))
 
 abbrev pub prices_words : ℕ → ℕ → ℕ → Trigger → BookSnapshot → List EvidenceEvent
-prices_words row moment to trigger.Quote p = map (shown_word row moment to p.request_id) p.entries
+prices_words row moment to (trigger.Quote id) p = map (shown_word row moment to p.request_id) p.entries
 prices_words row moment to _ p = []
 
 abbrev pub picture_of : ℕ → ℕ → ℕ → Trigger → ReplyBody → List EvidenceEvent

@@ -1,13 +1,15 @@
 -- What is found of a trade among the events of its day, so that its lines are complete.
-use Rattle.std.specs.Prelude.{◌≡◌, ℕ, ℤ, ◌-◌, min, List, ◌∷◌, ◌++◌, Contains, Option, None, Some, filter, find, flat_map, length, map, slice_get}
+use Rattle.std.specs.Prelude.{◌≡◌, ℕ, ℤ, ◌-◌, min, true, false, List, ◌∷◌, ◌++◌, Contains, Option, None, Some, filter, find, flat_map, length, map, slice_get}
 use Rattle.fix_dictionary.specs.declared.messages.App.{App}
 use Rattle.fix_dictionary.specs.declared.messages.App.TheVariants.{OrderCancelReplaceRequest}
+use Rattle.participants.specs.Relations.{are_unrelated}
 use Rattle.instruments.specs.Listing.{symbol_of}
 use Rattle.sef_moment.specs.Utc.{greatest}
 use Rattle.venue_rules.specs.declared.facts.Entry.{Entry}
 use Rattle.venue_rules.specs.declared.facts.Fact.{Fact}
-use Rattle.venue_rules.specs.declared.facts.Fact.TheVariants.{Asked as RoomAsked, Entered, Traded}
-use Rattle.venue_rules.specs.declared.facts.TradeSource.TheVariants.{Book as InBook}
+use Rattle.venue_rules.specs.declared.facts.Fact.TheVariants.{Asked as RoomAsked, Entered, Held, Traded}
+use Rattle.venue_rules.specs.declared.facts.HeldSide.{HeldSide}
+use Rattle.venue_rules.specs.declared.facts.TradeSource.TheVariants.{Book as InBook, Room as InRoom}
 use Rattle.venue_rules.specs.declared.facts.Room.{Room}
 use Rattle.venue_rules.specs.declared.facts.Trade.{Trade}
 use Rattle.venue_rules.specs.declared.trail.TradeFact.{TradeFact}
@@ -16,14 +18,18 @@ use Rattle.venue_rules.specs.Book.{is_linked}
 use Rattle.venue_rules.specs.Facts.{trades}
 use Rattle.venue_rules.specs.Market.{Market}
 use Rattle.venue_rules.specs.Readings.{trade_fact}
+use Rattle.venue_rules.specs.Rooms.{printed}
 use Rattle.venue_rules.specs.Run.{Input, Message, Tick, answer_input, run}
 use Rattle.trade_reconstruction.specs.declared.entry.Entry.{Entry as OrderEntry}
-use Rattle.trade_reconstruction.specs.declared.finding.Query.TheVariants.{Request}
+use Rattle.trade_reconstruction.specs.declared.finding.Query.TheVariants.{HeldSide as SideHeld, Hit, Request}
 use Rattle.trade_reconstruction.specs.declared.standing.Met.{Met}
+use Rattle.trade_reconstruction.specs.declared.unrelated.Three.{Three}
 use Rattle.trade_reconstruction.specs.declared.evidence_event.Asked.{Asked}
+use Rattle.trade_reconstruction.specs.declared.evidence_event.Held.{Held as HeldEvent}
+use Rattle.trade_reconstruction.specs.declared.evidence_event.Hit.{Hit as HitEvent}
 use Rattle.trade_reconstruction.specs.declared.evidence_event.EventKind.TheVariants as said
 use Rattle.trade_reconstruction.specs.declared.evidence_event.EvidenceEvent.{EvidenceEvent}
-use Rattle.trade_reconstruction.specs.Lines.{both_lines, entries_linked, evidence, is_asked, is_sought, link_id, request_line, room_word, standing_line, standing_lines, trade_line, trade_row}
+use Rattle.trade_reconstruction.specs.Lines.{both_lines, entries_linked, evidence, is_asked, is_sought, last_lines, link_id, request_line, room_word, standing_line, standing_lines, three_line, three_text, trade_row}
 use Rattle.trade_reconstruction.specs.Standing.{prices_of, stood_words}
 
 -- a row, and its input, whose answer added this fact
@@ -34,16 +40,17 @@ pub record CameAt (m : Market) (rs : List TrailRow) (is : List Input) (row : Tra
   pub emitted : slice_get rs (length earlier) ≡ Some row
   pub made : Contains (answer_input m (run m earlier).history input).facts fact
 
--- the request of a trade's room is found: the trade's evidence is the line of this request, the other lines of its
--- room, and the line of the trade at its row; it states what was asked for when the room was opened, and by whom, at
--- the row and the moment of that message; and the recipients in the events are the room's
+-- the request of a trade's room is found: the trade's evidence is the line of this request, the line that names three
+-- recipients, the other lines of its room, and the line of the trade at its row; it states what was asked for when the
+-- room was opened, and by whom, at the row and the moment of that message; the recipients in the events are the room's;
+-- and the three that are named are recipients, unrelated to the requester and to each other
 pub record HasRequest (m : Market) (rs : List TrailRow) (is : List Input) (words : List EvidenceEvent) (t : TradeFact) (room : ℕ) : Type 0 where
   pub word : EvidenceEvent
   pub asked : Asked
   pub found : find (is_sought (Request room)) words ≡ Some word
   pub says : word.said ≡ said.Asked asked
   pub here : asked.room ≡ room
-  pub lines : evidence m words t ≡ (request_line m.participants word asked ++ flat_map (room_word m.participants words asked) words) ++ trade_line m t (trade_row words t)
+  pub lines : (noted : List ℕ) → evidence m words noted t ≡ (request_line m.participants word asked ++ (three_line m.participants words word asked ++ flat_map (room_word m.participants words asked) words)) ++ (noted ++ last_lines m t (trade_row words t))
   pub opened : Room
   pub row : TrailRow
   pub input : Input
@@ -57,8 +64,21 @@ pub record HasRequest (m : Market) (rs : List TrailRow) (is : List Input) (words
   pub side : asked.side ≡ opened.side
   pub quantity : asked.quantity ≡ opened.quantity
   pub recipients : map (λ (w : EvidenceEvent). w.to) (filter (is_asked room) words) ≡ opened.recipients
+  pub three : Three
+  pub named : three_line m.participants words word asked ≡ three_text m.participants opened.requester three word.row
+  pub are_asked : Contains opened.recipients three.first × Contains opened.recipients three.second × Contains opened.recipients three.third
+  pub unrelated : are_unrelated m.participants opened.requester three.first three.second three.third ≡ true
 
--- a trade is reported at the row of the input that made it
+-- the hit that made a trade in a room is found, with its quote and its price
+pub record HasHit (words : List EvidenceEvent) (number quote : ℕ) (trade : Trade) : Type 0 where
+  pub event : EvidenceEvent
+  pub found : find (is_sought (Hit number)) words ≡ Some event
+  pub hit : HitEvent
+  pub says : event.said ≡ said.Hit hit
+  pub quote_is : hit.quote ≡ printed 81 quote
+  pub price_is : hit.price ≡ trade.price
+
+-- a trade is reported at the row of the input that made it, in a room with the hit of its quote
 pub record HasRow (m : Market) (rs : List TrailRow) (is : List Input) (words : List EvidenceEvent) (number : ℕ) (t : TradeFact) : Type 0 where
   pub trade : Trade
   pub numbered : slice_get (trades (run m is).history.facts) (number - 1) ≡ Some trade
@@ -66,6 +86,7 @@ pub record HasRow (m : Market) (rs : List TrailRow) (is : List Input) (words : L
   pub row : TrailRow
   pub input : Input
   pub made : CameAt m rs is row input (Traded trade)
+  pub hit : (room quote : ℕ) → trade.place ≡ InRoom room quote → HasHit words number quote trade
   pub at_row : trade_row words t ≡ row.n
 
 -- the price in an order's line: a held side, which enters at a tick, is reported without one
@@ -87,9 +108,24 @@ abbrev pub original_emitted : Input → Option (List ℕ)
 original_emitted (Message taken t) = original_of taken.item.app
 original_emitted (Tick t) = None
 
+-- an order that enters at a tick is the second side of the cross that its line names (548)
+pub record CrossedAs (m : Market) (is : List Input) (words : List EvidenceEvent) (e : Entry) (x : OrderEntry) : Type 0 where
+  pub side : HeldSide
+  pub held : Contains (run m is).history.facts (Held side)
+  pub order : e.order ≡ side.order
+  pub hold : EvidenceEvent
+  pub reported : HeldEvent
+  pub found : find (is_sought (SideHeld x.to x.entered.id)) words ≡ Some hold
+  pub says : hold.said ≡ said.Held reported
+  pub cross : reported.cross ≡ side.cross
+
+abbrev pub HeldAs : Market → List Input → List EvidenceEvent → Input → Entry → OrderEntry → Type 0
+HeldAs m is words (Message taken t) e x = x.entered.at_tick ≡ false
+HeldAs m is words (Tick t) e x = CrossedAs m is words e x
+
 -- an order's lines state the order as it entered, at the row at which it did; the link is the one that it carries, or
 -- that of the order it replaces, which is found by the identifier that the message names
-pub record EmitsOrder (m : Market) (rs : List TrailRow) (is : List Input) (e : Entry) (x : OrderEntry) : Type 0 where
+pub record EmitsOrder (m : Market) (rs : List TrailRow) (is : List Input) (words : List EvidenceEvent) (e : Entry) (x : OrderEntry) : Type 0 where
   pub row : TrailRow
   pub input : Input
   pub trigger : CameAt m rs is row input (Entered e)
@@ -104,6 +140,7 @@ pub record EmitsOrder (m : Market) (rs : List TrailRow) (is : List Input) (e : E
   pub price : x.entered.price ≡ price_emitted input e
   pub link : link_id x.entered.link ≡ e.order.link
   pub original : x.entered.original ≡ original_emitted input
+  pub held : HeldAs m is words input e x
 
 -- an order that is filled
 abbrev pub met_emitted : Market → Entry → Met
@@ -115,7 +152,7 @@ pub record HasStanding (m : Market) (rs : List TrailRow) (is : List Input) (word
   pub row : TrailRow
   pub input : Input
   pub made : CameAt m rs is row input (Traded trade)
-  pub lines : standing_lines words ≡ flat_map standing_line (stood_words row.n row.moment (met_emitted m rested) (prices_of m (run m made.earlier).history (symbol_of m.instruments rested.order.instrument)))
+  pub lines : standing_lines words ≡ flat_map (standing_line words) (stood_words row.n row.moment (met_emitted m rested) (prices_of m (run m made.earlier).history (symbol_of m.instruments rested.order.instrument)))
 
 -- both orders of a trade in the book are found: its evidence is the lines of the resting order, of the entering one, of
 -- both together, and of the trade; what is said of both and of the trade has the row at which the second entered, and
@@ -129,8 +166,8 @@ pub record HasOrders (m : Market) (rs : List TrailRow) (is : List Input) (words 
   pub between : trade.place ≡ InBook rested.number entered.number
   pub resting : OrderEntry
   pub entering : OrderEntry
-  pub emits_rested : EmitsOrder m rs is rested resting
-  pub emits_entered : EmitsOrder m rs is entered entering
+  pub emits_rested : EmitsOrder m rs is words rested resting
+  pub emits_entered : EmitsOrder m rs is words entered entering
   pub linked : entries_linked m.participants resting entering ≡ is_linked m rested.order entered.order
-  pub lines : evidence m words t ≡ both_lines m.participants words (record { resting = resting; entering = entering; row = entering.row }) ++ trade_line m t entering.row
+  pub lines : (noted : List ℕ) → evidence m words noted t ≡ both_lines m.participants words (record { resting = resting; entering = entering; row = entering.row }) ++ (noted ++ last_lines m t entering.row)
   pub stood : HasStanding m rs is words trade rested

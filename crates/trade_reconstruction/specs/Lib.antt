@@ -2,8 +2,14 @@
 pub mod EventKinds
 -- what rested before the filled order
 pub mod Standing
+-- what had become of the quotes in a room
+pub mod QuoteNotes
+-- the lines about it
+pub mod NoteLines
 -- the events of a day, row by row
 pub mod Emitted
+-- three unrelated recipients
+pub mod Unrelated
 -- the lines of the evidence for a trade
 pub mod Lines
 -- what is found of a trade

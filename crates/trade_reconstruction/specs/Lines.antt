@@ -1,12 +1,14 @@
 -- The evidence for a trade, as lines: plain words with units, one fact each, with its row at the end.
 --
--- In a room (17 CFR 37.9(a)(2), (a)(3)): the request; each recipient, with its relation to the requester and to the
--- other recipients; the resting orders shown with the first response; each quote; the hit; the trade.
+-- In a room (17 CFR 37.9(a)(2), (a)(3)): the request; three unrelated recipients; each recipient, with its relation to
+-- the requester and to the other recipients; the resting orders shown with the first response; each quote; the hit;
+-- what had become of each quote; the trade.
 --
 -- In the book (17 CFR 37.9(b)(1)): the resting order and the entering one, each with the moment of its entry and its
--- link; the relation of their participants; whether the two are linked; the time between their entries; what rested
--- before the resting one as the other entered; the trade.
-use Rattle.std.specs.Prelude.{ℕ, ℤ, ◌+◌, ◌-◌, min, Bool, true, false, not, ◌&&◌, ◌||◌, ◌==◌, nat_lt, List, [], ◌++◌, find, Option, Some, None, codes, decimal, bytes_eq, if◌then◌else◌}
+-- link; what rested before the resting one as the other entered; the relation of their participants; whether the two
+-- are the sides of one cross; whether they are linked; the time between their entries; the delay of the instrument; the
+-- trade.
+use Rattle.std.specs.Prelude.{ℕ, ℤ, ◌+◌, ◌-◌, min, Bool, true, false, not, ◌&&◌, ◌||◌, ◌==◌, nat_lt, List, [], ◌∷◌, ◌++◌, find, Option, Some, None, codes, decimal, bytes_eq, if◌then◌else◌}
 use Rattle.std.specs.List.{flat_map}
 use Rattle.sef_moment.specs.Utc.{greatest}
 use Rattle.sef_moment.specs.Utc.{utc_text}
@@ -15,14 +17,18 @@ use Rattle.fix_dictionary.specs.declared.values.Side.TheVariants.{Buy, Sell}
 use Rattle.fix_fields.specs.Forms.{price_text}
 use Rattle.participants.specs.ParticipantFile.{ParticipantFile}
 use Rattle.participants.specs.Relations.{name_of, related}
+use Rattle.instruments.specs.declared.instruments.Instrument.{Instrument}
+use Rattle.instruments.specs.Listing.{delay_of, symbol_of}
 use Rattle.venue_rules.specs.Book.{is_same_link}
 use Rattle.venue_rules.specs.Market.{Market}
 use Rattle.venue_rules.specs.declared.trail.TradeFact.{TradeFact}
 use Rattle.trade_blotter.specs.Line.{deal}
+use Rattle.trade_reconstruction.specs.declared.unrelated.Three.{Three}
+use Rattle.trade_reconstruction.specs.Unrelated.{three_of}
 use Rattle.trade_reconstruction.specs.declared.entry.Both.{Both}
 use Rattle.trade_reconstruction.specs.declared.entry.Entry.{Entry as OrderEntry}
 use Rattle.trade_reconstruction.specs.declared.finding.Query.{Query}
-use Rattle.trade_reconstruction.specs.declared.finding.Query.TheVariants.{Request, Order, Fill, OtherFill, Hit, HeldSide, Entry}
+use Rattle.trade_reconstruction.specs.declared.finding.Query.TheVariants.{Request, Order, Fill, OtherFill, FillAt, Hit, HeldSide, Entry}
 use Rattle.trade_reconstruction.specs.declared.evidence_event.EvidenceEvent.{EvidenceEvent}
 use Rattle.trade_reconstruction.specs.declared.evidence_event.EventKind.{EventKind}
 use Rattle.trade_reconstruction.specs.declared.evidence_event.EventKind.TheVariants as said
@@ -70,6 +76,14 @@ fills_other_said trade order _ = false
 abbrev pub fills_other : ℕ → ℕ → EvidenceEvent → Bool
 fills_other trade order w = fills_other_said trade order w.said
 
+abbrev pub fills_at_said : ℕ → ℕ → ℕ → EventKind → Bool
+fills_at_said order row at (said.Filled f) = f.order == order && at == row
+fills_at_said order row at _ = false
+
+-- this order was filled at this row
+abbrev pub fills_at : ℕ → ℕ → EvidenceEvent → Bool
+fills_at order row w = fills_at_said order row w.row w.said
+
 abbrev pub hits_said : ℕ → EventKind → Bool
 hits_said trade (said.Hit x) = x.trade == trade
 hits_said trade _ = false
@@ -99,6 +113,7 @@ is_sought (Request room) w = is_asked room w
 is_sought (Order order) w = enters order w
 is_sought (Fill trade) w = fills trade w
 is_sought (OtherFill trade order) w = fills_other trade order w
+is_sought (FillAt order row) w = fills_at order row w
 is_sought (Hit trade) w = hits trade w
 is_sought (HeldSide who id) w = holds who id w
 is_sought (Entry who id) w = is_entry who id w
@@ -114,6 +129,18 @@ order_in w = order_said w.said
 abbrev pub order_of : Option EvidenceEvent → Option ℕ
 order_of None = None
 order_of (Some w) = order_in w
+
+abbrev pub trade_said : EventKind → Option ℕ
+trade_said (said.Filled f) = Some f.trade
+trade_said _ = None
+
+abbrev pub trade_in : EvidenceEvent → Option ℕ
+trade_in w = trade_said w.said
+
+-- the trade that filled an order
+abbrev pub trade_of : Option EvidenceEvent → Option ℕ
+trade_of None = None
+trade_of (Some w) = trade_in w
 
 abbrev pub link_said : EventKind → Option Linked
 link_said (said.Entered e) = e.link
@@ -154,8 +181,18 @@ asked_side None = codes " for both sides of "
 asked_side (Some Buy) = codes " to buy "
 asked_side (Some Sell) = codes " to sell "
 
+-- somebody's own identifier of an order, a room or a quote
+abbrev pub id_line : List ℕ → ℕ → List ℕ → List ℕ → ℕ → List ℕ
+id_line kind number said id row = kind ++ (decimal number ++ (said ++ (id ++ row_text row)))
+
+abbrev pub request_terms : ParticipantFile → EvidenceEvent → Asked → List ℕ
+request_terms file w a = codes "request in room R" ++ (decimal a.room ++ (codes " of " ++ (name_of file a.requester ++ (asked_side a.side ++ (decimal a.quantity ++ (codes " " ++ (a.symbol ++ (at_text w.moment ++ row_text w.row))))))))
+
+abbrev pub request_id_line : EvidenceEvent → Asked → List ℕ
+request_id_line w a = id_line (codes "R") a.room (codes " has the QuoteReqID ") a.request w.row
+
 abbrev pub request_line : ParticipantFile → EvidenceEvent → Asked → List ℕ
-request_line file w a = codes "request in room R" ++ (decimal a.room ++ (codes " of " ++ (name_of file a.requester ++ (asked_side a.side ++ (decimal a.quantity ++ (codes " " ++ (a.symbol ++ (at_text w.moment ++ row_text w.row))))))))
+request_line file w a = request_terms file w a ++ request_id_line w a
 
 -- the relation of a recipient to another recipient of the room who comes before it in the file
 abbrev pub other_line : ParticipantFile → ℕ → ℕ → ℕ → EvidenceEvent → List ℕ
@@ -181,12 +218,28 @@ abbrev pub price_or_none : Option ℤ → List ℕ
 price_or_none None = codes "none"
 price_or_none (Some price) = price_text price
 
-abbrev pub quote_line : EvidenceEvent → Quoted → List ℕ
-quote_line w q = codes "quote Q" ++ (decimal q.quote ++ (codes " of " ++ (q.maker ++ (codes " bid " ++ (price_or_none q.bid ++ (codes " offer " ++ (price_or_none q.offer
+abbrev pub quote_terms : EvidenceEvent → Quoted → List ℕ
+quote_terms w q = codes "quote Q" ++ (decimal q.quote ++ (codes " of " ++ (q.maker ++ (codes " bid " ++ (price_or_none q.bid ++ (codes " offer " ++ (price_or_none q.offer
     ++ (codes " until " ++ (utc_text q.end ++ (at_text w.moment ++ row_text w.row))))))))))
 
-abbrev pub hit_line : EvidenceEvent → HitSaid → List ℕ
-hit_line w x = codes "hit of quote " ++ (x.quote ++ (at_text w.moment ++ row_text w.row))
+abbrev pub quote_id_line : EvidenceEvent → Quoted → Option (List ℕ) → List ℕ
+quote_id_line w q None = []
+quote_id_line w q (Some id) = id_line (codes "Q") q.quote (codes " has the QuoteID ") id w.row
+
+abbrev pub quote_line : EvidenceEvent → Quoted → List ℕ
+quote_line w q = quote_terms w q ++ quote_id_line w q q.id
+
+abbrev pub hit_side : Side → List ℕ
+hit_side Buy = codes " to buy at "
+hit_side Sell = codes " to sell at "
+
+abbrev pub response_text : Option (List ℕ) → List ℕ
+response_text None = []
+response_text (Some id) = codes " with the QuoteRespID " ++ id
+
+-- who hit which quote, on which side and at what price
+abbrev pub hit_line : ParticipantFile → EvidenceEvent → HitSaid → List ℕ
+hit_line file w x = codes "hit of quote " ++ (x.quote ++ (codes " by " ++ (name_of file w.to ++ (hit_side x.side ++ (price_text x.price ++ (response_text x.response ++ (at_text w.moment ++ row_text w.row)))))))
 
 -- to the requester, on its request
 abbrev pub is_to : Asked → ℕ → List ℕ → Bool
@@ -198,7 +251,7 @@ room_said file words a w (said.Asked b) = if b.room == a.room then asked_lines f
 room_said file words a w (said.SnapshotSent p) = if is_to a w.to p.request then pictured_line w p else []
 room_said file words a w (said.Shown s) = if is_to a w.to s.request then shown_line w s else []
 room_said file words a w (said.Quoted q) = if is_to a w.to q.request then quote_line w q else []
-room_said file words a w (said.Hit x) = if x.room == a.room && w.to == a.requester then hit_line w x else []
+room_said file words a w (said.Hit x) = if x.room == a.room && w.to == a.requester then hit_line file w x else []
 room_said file words a w (said.Entered e) = []
 room_said file words a w (said.Held x) = []
 room_said file words a w (said.Filled f) = []
@@ -208,8 +261,28 @@ room_said file words a w (said.RestedCount x) = []
 unfoldable pub room_word : ParticipantFile → List EvidenceEvent → Asked → EvidenceEvent → List ℕ
 room_word file words a w = room_said file words a w w.said
 
+-- the recipients of a room's request, in the order in which they were asked
+
+abbrev pub recipient_in : ℕ → EvidenceEvent → List ℕ
+recipient_in room w = if is_asked room w then w.to ∷ [] else []
+
+abbrev pub recipients_of : ℕ → List EvidenceEvent → List ℕ
+recipients_of room words = flat_map (recipient_in room) words
+
+abbrev pub three_text : ParticipantFile → ℕ → Three → ℕ → List ℕ
+three_text file requester x row = name_of file x.first ++ (codes ", " ++ (name_of file x.second ++ (codes " and " ++ (name_of file x.third
+    ++ (codes " are unrelated to " ++ (name_of file requester ++ (codes " and to each other" ++ row_text row)))))))
+
+abbrev pub three_if : ParticipantFile → ℕ → Option Three → ℕ → List ℕ
+three_if file requester None row = []
+three_if file requester (Some x) row = three_text file requester x row
+
+-- the line that names three recipients unrelated to the requester and to each other
+abbrev pub three_line : ParticipantFile → List EvidenceEvent → EvidenceEvent → Asked → List ℕ
+three_line file words w a = three_if file a.requester (three_of file a.requester (recipients_of a.room words)) w.row
+
 abbrev pub room_found_said : ParticipantFile → List EvidenceEvent → EvidenceEvent → EventKind → List ℕ
-room_found_said file words w (said.Asked a) = request_line file w a ++ flat_map (room_word file words a) words
+room_found_said file words w (said.Asked a) = request_line file w a ++ (three_line file words w a ++ flat_map (room_word file words a) words)
 room_found_said file words w _ = []
 
 abbrev pub room_found : ParticipantFile → List EvidenceEvent → EvidenceEvent → List ℕ
@@ -261,9 +334,15 @@ abbrev pub entry_of : List EvidenceEvent → Option EvidenceEvent → Option Ord
 entry_of words None = None
 entry_of words (Some w) = entry_in words w
 
-abbrev pub order_line : ParticipantFile → OrderEntry → List ℕ
-order_line file x = codes "order O" ++ (decimal x.entered.order ++ (codes " of " ++ (name_of file x.to ++ (side_text x.entered.side ++ (decimal x.entered.quantity ++ (codes " " ++ (x.entered.symbol
+abbrev pub order_terms : ParticipantFile → OrderEntry → List ℕ
+order_terms file x = codes "order O" ++ (decimal x.entered.order ++ (codes " of " ++ (name_of file x.to ++ (side_text x.entered.side ++ (decimal x.entered.quantity ++ (codes " " ++ (x.entered.symbol
     ++ (price_if x.entered.price ++ (at_text x.moment ++ row_text x.row)))))))))
+
+abbrev pub order_id_line : OrderEntry → List ℕ
+order_id_line x = id_line (codes "O") x.entered.order (codes " has the ClOrdID ") x.entered.id x.row
+
+abbrev pub order_line : ParticipantFile → OrderEntry → List ℕ
+order_line file x = order_terms file x ++ order_id_line x
 
 -- the line of an order with an identifier
 abbrev pub named_line : ℕ → List ℕ → List ℕ → ℕ → List ℕ
@@ -280,7 +359,7 @@ original_line order None row = []
 original_line order (Some id) row = named_line order (codes " takes the place of the order with the identifier ") id row
 
 abbrev pub held_said : ℕ → EvidenceEvent → EventKind → List ℕ
-held_said order w (said.Held x) = codes "O" ++ (decimal order ++ (codes " was held as the second side of a cross for " ++ (decimal x.delay ++ (codes " ms from " ++ (utc_text w.moment ++ row_text w.row)))))
+held_said order w (said.Held x) = codes "O" ++ (decimal order ++ (codes " was held as the second side of cross " ++ (x.cross ++ (codes " for " ++ (decimal x.delay ++ (codes " ms from " ++ (utc_text w.moment ++ row_text w.row)))))))
 held_said order w _ = []
 
 abbrev pub held_line : ℕ → EvidenceEvent → List ℕ
@@ -322,28 +401,55 @@ abbrev pub stood_side : Side → List ℕ
 stood_side Buy = codes " with a bid of "
 stood_side Sell = codes " with an offer of "
 
-abbrev pub stood_line : EvidenceEvent → RestedBefore → List ℕ
-stood_line w x = codes "O" ++ (decimal x.order ++ (codes " rested before O" ++ (decimal x.resting ++ (stood_side x.side ++ (decimal x.left ++ (codes " @ " ++ (price_text x.price ++ row_text w.row)))))))
+-- the trade that filled an order
+abbrev pub filled_text : Option ℕ → List ℕ
+filled_text None = []
+filled_text (Some trade) = codes ", filled by T" ++ decimal trade
+
+-- the trade at the same row that filled an order which rested before
+abbrev pub filler_of : List EvidenceEvent → ℕ → ℕ → Option ℕ
+filler_of words order row = trade_of (find (is_sought (FillAt order row)) words)
+
+abbrev pub stood_line : List EvidenceEvent → EvidenceEvent → RestedBefore → List ℕ
+stood_line words w x = codes "O" ++ (decimal x.order ++ (codes " rested before O" ++ (decimal x.resting ++ (stood_side x.side ++ (decimal x.left ++ (codes " @ " ++ (price_text x.price ++ (filled_text (filler_of words x.order w.row) ++ row_text w.row))))))))
 
 abbrev pub counted_line : EvidenceEvent → RestedCount → List ℕ
 counted_line w x = codes "orders that rested on its side before O" ++ (decimal x.resting ++ (codes ": " ++ (decimal x.count ++ row_text w.row)))
 
-abbrev pub standing_said : EvidenceEvent → EventKind → List ℕ
-standing_said w (said.RestedBefore x) = stood_line w x
-standing_said w (said.RestedCount x) = counted_line w x
-standing_said w _ = []
+abbrev pub standing_said : List EvidenceEvent → EvidenceEvent → EventKind → List ℕ
+standing_said words w (said.RestedBefore x) = stood_line words w x
+standing_said words w (said.RestedCount x) = counted_line w x
+standing_said words w _ = []
 
 -- the line of an event about what rested before the filled order
-abbrev pub standing_line : EvidenceEvent → List ℕ
-standing_line w = standing_said w w.said
+abbrev pub standing_line : List EvidenceEvent → EvidenceEvent → List ℕ
+standing_line words w = standing_said words w w.said
 
--- what rested before it, best first, and then the count
+-- what rested before it, best first, each with the trade that filled it at the same row, and then the count
 abbrev pub standing_lines : List EvidenceEvent → List ℕ
-standing_lines words = flat_map standing_line words
+standing_lines words = flat_map (standing_line words) words
+
+abbrev pub sides_said : Both → EvidenceEvent → EventKind → List ℕ
+sides_said b w (said.Held x) = codes "O" ++ (decimal b.resting.entered.order ++ (codes " and O" ++ (decimal b.entering.entered.order ++ (codes " are the two sides of cross " ++ (x.cross ++ row_text w.row)))))
+sides_said b w _ = []
+
+-- both orders, by the event at which the second was held
+abbrev pub sides_line : Both → EvidenceEvent → List ℕ
+sides_line b w = sides_said b w w.said
+
+-- the first side of a cross entered at the row of its message, at which the second side was held
+abbrev pub sides_of : Both → Option EvidenceEvent → List ℕ
+sides_of b None = []
+sides_of b (Some hold) = if hold.row == b.resting.row then sides_line b hold else []
+
+-- the line of two orders that are the sides of one cross
+abbrev pub sides_lines : List EvidenceEvent → Both → List ℕ
+sides_lines words b = if b.entering.entered.at_tick then sides_of b (find (is_sought (HeldSide b.entering.to b.entering.entered.id)) words) else []
 
 -- of both orders together
 unfoldable pub together_lines : ParticipantFile → List EvidenceEvent → Both → List ℕ
-together_lines file words b = pair_line file b.resting.to b.entering.to b.row ++ (linked_line file b ++ (apart_line b.resting.moment b.entering.moment b.row ++ standing_lines words))
+together_lines file words b =
+    standing_lines words ++ (pair_line file b.resting.to b.entering.to b.row ++ (sides_lines words b ++ (linked_line file b ++ apart_line b.resting.moment b.entering.moment b.row)))
 
 -- the resting order and the entering one
 abbrev pub both_lines : ParticipantFile → List EvidenceEvent → Both → List ℕ
@@ -386,9 +492,25 @@ lines_in file words trade (Some room) row = room_lines file words room
 abbrev pub place_lines : ParticipantFile → List EvidenceEvent → TradeFact → ℕ → List ℕ
 place_lines file words t row = lines_in file words t.number t.room row
 
+-- the delay of an instrument: how long before the trade a linked order has to have entered, at least
+abbrev pub delay_line : List Instrument → TradeFact → ℕ → List ℕ
+delay_line xs t row = codes "delay between linked orders of " ++ (symbol_of xs t.instrument ++ (codes ": " ++ (decimal (delay_of xs t.instrument) ++ (codes " ms" ++ row_text row))))
+
+abbrev pub delay_in : List Instrument → TradeFact → ℕ → Option ℕ → List ℕ
+delay_in xs t row None = delay_line xs t row
+delay_in xs t row (Some room) = []
+
+-- the delay, of a trade in the book
+abbrev pub delay_lines : List Instrument → TradeFact → ℕ → List ℕ
+delay_lines xs t row = delay_in xs t row t.room
+
 abbrev pub trade_line : Market → TradeFact → ℕ → List ℕ
 trade_line m t row = codes "trade T" ++ (decimal t.number ++ (codes " " ++ (deal m t ++ row_text row)))
 
--- the lines about a trade's request or orders, and then the trade
-unfoldable pub evidence : Market → List EvidenceEvent → TradeFact → List ℕ
-evidence m words t = place_lines m.participants words t (trade_row words t) ++ trade_line m t (trade_row words t)
+-- the delay between linked orders, of a trade in the book, and then the trade
+abbrev pub last_lines : Market → TradeFact → ℕ → List ℕ
+last_lines m t row = delay_lines m.instruments t row ++ trade_line m t row
+
+-- the lines about a trade's request or orders, those about what had become of the quotes, and then the last ones
+unfoldable pub evidence : Market → List EvidenceEvent → List ℕ → TradeFact → List ℕ
+evidence m words noted t = place_lines m.participants words t (trade_row words t) ++ (noted ++ last_lines m t (trade_row words t))

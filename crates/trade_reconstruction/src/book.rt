@@ -2,13 +2,13 @@
 
 ghost use Rattle.std.specs.Prelude.{◌≡◌, ◌++◌, OnOk};
 ghost use Rattle.venue_rules.specs.Book.{is_same_link};
-ghost use Rattle.trade_reconstruction.specs.Lines.{apart_line, are_linked, book_lines, both_lines, entries_linked, entry_lines, held_line, hold_lines, link_id, link_line, linked_line, linked_text, named_line, order_line, original_line, orders_lines, price_if, side_text, together_lines};
+ghost use Rattle.trade_reconstruction.specs.Lines.{apart_line, are_linked, book_lines, both_lines, entries_linked, entry_lines, held_line, hold_lines, link_id, link_line, linked_line, linked_text, named_line, order_line, order_terms, original_line, orders_lines, price_if, side_text, sides_line, sides_lines, together_lines};
 
 use crate::entry::{Both, Entry, entry_of, hold_of};
 use crate::evidence_event::{EventKind, EvidenceEvent, Linked};
 use crate::finding::{Query, filled_order};
 use crate::rested::append_standing;
-use crate::room::{append_at, append_moment, append_pair, append_quantity, append_row};
+use crate::room::{append_at, append_id, append_moment, append_pair, append_quantity, append_row};
 use fix_dictionary::{Identifier, Price, Side};
 use participants::{Participants, Who};
 use sef_moment::Moment;
@@ -40,13 +40,13 @@ fn append_price_if(
     }
 }
 
-fn append_order(
+fn append_terms(
     alloc: Global,
     text: &mut Vec<u8>,
     participants: &Participants,
     entry: &Entry,
 ) -> Result<(), AllocError>
-    ensures { OnOk result (text.new.items ≡ text.old.items ++ order_line participants.now entry.now) }
+    ensures { OnOk result (text.new.items ≡ text.old.items ++ order_terms participants.now entry.now) }
 {
     let entered = &entry.entered;
     let name = name_at(participants, entry.to);
@@ -56,6 +56,26 @@ fn append_order(
     append_quantity(text, side, entered.quantity.get(), &entered.symbol)?;
     append_price_if(alloc, text, entered.price)?;
     append_at(text, entry.moment, entry.row)
+}
+
+/// Appends an order, and its identifier.
+fn append_order(
+    alloc: Global,
+    text: &mut Vec<u8>,
+    participants: &Participants,
+    entry: &Entry,
+) -> Result<(), AllocError>
+    ensures { OnOk result (text.new.items ≡ text.old.items ++ order_line participants.now entry.now) }
+{
+    append_terms(alloc, text, participants, entry)?;
+    append_id(
+        text,
+        b"O",
+        entry.entered.order,
+        b" has the ClOrdID ",
+        &entry.entered.id,
+        entry.row,
+    )
 }
 
 /// Appends the line of an order with an identifier.
@@ -111,11 +131,14 @@ fn append_held(text: &mut Vec<u8>, order: u64, word: &EvidenceEvent) -> Result<(
     match &word.said {
         EventKind::Held(held) => {
             append_number(text, b"O", order)?;
-            append_number(
+            append(
                 text,
-                b" was held as the second side of a cross for ",
-                held.delay,
+                &[
+                    b" was held as the second side of cross ",
+                    held.cross.as_slice(),
+                ],
             )?;
+            append_number(text, b" for ", held.delay)?;
             append_moment(text, b" ms from ", word.moment)?;
             append_row(text, word.row)
         }
@@ -242,7 +265,44 @@ fn append_linked(
     append_row(text, both.row)
 }
 
-/// Appends the lines of both orders together, and of what rested before the resting one.
+/// Appends that two orders are the sides of one cross, by the event at which the second was held.
+fn append_sides_of(text: &mut Vec<u8>, both: &Both, hold: &EvidenceEvent) -> Result<(), AllocError>
+    ensures { OnOk result (text.new.items ≡ text.old.items ++ sides_line both.now hold.now) }
+{
+    match &hold.said {
+        EventKind::Held(held) => {
+            append_number(text, b"O", both.resting.entered.order)?;
+            append_number(text, b" and O", both.entering.entered.order)?;
+            append(
+                text,
+                &[b" are the two sides of cross ", held.cross.as_slice()],
+            )?;
+            append_row(text, hold.row)
+        }
+        _ => Ok(()),
+    }
+}
+
+/// Appends that two orders are the sides of one cross, if they are.
+fn append_sides(text: &mut Vec<u8>, words: &[EvidenceEvent], both: &Both) -> Result<(), AllocError>
+    ensures { OnOk result (text.new.items ≡ text.old.items ++ sides_lines words.now both.now) }
+{
+    if !both.entering.entered.at_tick {
+        return Ok(());
+    }
+    match hold_of(words, both.entering.to, &both.entering.entered) {
+        Some(hold) => {
+            if hold.row == both.resting.row {
+                append_sides_of(text, both, hold)
+            } else {
+                Ok(())
+            }
+        }
+        None => Ok(()),
+    }
+}
+
+/// Appends the lines of what rested before the resting order, and of both orders together.
 #[tactic(auto, unfolding(crate::specs::Lines::together_lines))]
 fn append_together(
     alloc: Global,
@@ -253,6 +313,7 @@ fn append_together(
 ) -> Result<(), AllocError>
     ensures { OnOk result (text.new.items ≡ text.old.items ++ together_lines participants.now words.now both.now) }
 {
+    append_standing(alloc, text, words)?;
     append_pair(
         text,
         participants,
@@ -260,9 +321,9 @@ fn append_together(
         both.entering.to,
         both.row,
     )?;
+    append_sides(text, words, both)?;
     append_linked(text, participants, both)?;
-    append_apart(text, both.resting.moment, both.entering.moment, both.row)?;
-    append_standing(alloc, text, words)
+    append_apart(text, both.resting.moment, both.entering.moment, both.row)
 }
 
 /// Appends the lines of both orders, the resting one first, and of both together.
@@ -309,8 +370,9 @@ fn append_orders(
     }
 }
 
-/// Appends the lines of a trade in the book: the resting order, the entering one, their participants, whether they are
-/// linked, the time between their entries, and what rested before the resting one.
+/// Appends the lines of a trade in the book: the resting order, the entering one, what rested before the resting one,
+/// their participants, whether they are the sides of one cross, whether they are linked, and the time between their
+/// entries.
 pub(crate) fn append_book(
     alloc: Global,
     text: &mut Vec<u8>,

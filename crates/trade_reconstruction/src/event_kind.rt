@@ -1,7 +1,7 @@
 //! The events in the replies to a message: requests, quotes, orders and trades.
 
 ghost use Rattle.std.specs.Prelude.{◌≡◌, ◌++◌, ◌∷◌, [], map, OnOk};
-ghost use Rattle.trade_reconstruction.specs.EventKinds.{asked_in, entered_in, filled_in, held_by, held_in, held_of, hit_in, is_tick, link_in, picture_in, pictured_in, price_in, prices_words, said_by, said_in, shown_word, words_in, words_of};
+ghost use Rattle.trade_reconstruction.specs.EventKinds.{asked_in, entered_in, filled_in, held_by, held_in, held_of, hit_in, is_tick, link_in, picture_in, pictured_in, price_in, prices_words, quote_id_in, said_by, said_in, shown_word, words_in, words_of};
 
 use crate::evidence_event::{
     Asked, Entered, EventKind, EvidenceEvent, Filled, Held, Hit, Linked, Quoted, RestedBefore,
@@ -25,7 +25,7 @@ fn price_in(trigger: &Trigger) -> Option<Price>
         Trigger::Order(order) => order.price,
         Trigger::Cross(cross) => cross.price,
         Trigger::Request(_) => None,
-        Trigger::Quote => None,
+        Trigger::Quote(_) => None,
         Trigger::Response(_) => None,
         Trigger::Tick => None,
         Trigger::Other => None,
@@ -40,7 +40,7 @@ fn link_in(trigger: &Trigger) -> Option<Linked>
         Trigger::Order(order) => order.link,
         Trigger::Cross(_) => None,
         Trigger::Request(_) => None,
-        Trigger::Quote => None,
+        Trigger::Quote(_) => None,
         Trigger::Response(_) => None,
         Trigger::Tick => None,
         Trigger::Other => None,
@@ -67,7 +67,7 @@ fn pictured_in(trigger: &Trigger, prices: &BookSnapshot) -> Option<EventKind>
     ensures { result ≡ pictured_in trigger.now prices.now }
 {
     match trigger {
-        Trigger::Quote => Some(EventKind::SnapshotSent(SnapshotSent {
+        Trigger::Quote(_) => Some(EventKind::SnapshotSent(SnapshotSent {
             request: prices.request_id,
             count: prices.entries.as_slice().len() as u64,
         })),
@@ -83,7 +83,20 @@ fn hit_in(trigger: &Trigger, report: &RoomReport) -> Option<EventKind>
             room: report.room,
             trade: report.trade,
             quote: *quote,
+            side: report.side,
+            price: report.price,
+            response: report.response_id,
         })),
+        _ => None,
+    }
+}
+
+/// The maker's own identifier of its quote.
+fn quote_id_in(trigger: &Trigger) -> Option<Identifier>
+    ensures { result ≡ quote_id_in trigger.now }
+{
+    match trigger {
+        Trigger::Quote(id) => Some(*id),
         _ => None,
     }
 }
@@ -144,6 +157,7 @@ fn said_in(trigger: &Trigger, what: &ReplyBody) -> Option<EventKind>
             bid: quote.bid,
             offer: quote.offer,
             end: quote.end,
+            id: quote_id_in(trigger),
         })),
         ReplyBody::OrderEntered(report) => entered_in(trigger, None, report),
         ReplyBody::OrderReplaced(report) => {
@@ -174,6 +188,7 @@ fn held_of(cross: &Crossed, report: &OrderReport) -> EventKind
     };
     EventKind::Held(Held {
         id,
+        cross: cross.cross,
         delay: cross.delay,
     })
 }
@@ -307,7 +322,7 @@ fn push_prices(
     ensures { OnOk result (words.new.items ≡ words.old.items ++ prices_words row moment to trigger.now prices.now) }
 {
     match trigger {
-        Trigger::Quote => push_shown(
+        Trigger::Quote(_) => push_shown(
             words,
             row,
             moment,

@@ -2,11 +2,13 @@
 
 ghost use Rattle.std.specs.Prelude.{◌≡◌, ◌++◌, ◌≤◌, All, length, IfErr, OnOk, IfOk, option_map};
 ghost use Rattle.std.specs.Io.KnownBytes.{Appends, Keeps};
+ghost use Rattle.instruments.specs.Listing.{delay_of, symbol_of};
 ghost use Rattle.venue_rules.specs.Facts.{History, no_history};
 ghost use Rattle.venue_core.specs.Plan.{most_items};
 ghost use Rattle.venue_core.specs.Replay.{IsItem};
 ghost use Rattle.venue_core.specs.VenueFacts.{IsHistory};
-ghost use Rattle.trade_reconstruction.specs.Lines.{evidence, place_lines, trade_line, trade_row};
+ghost use Rattle.trade_reconstruction.specs.Lines.{delay_line, delay_lines, evidence, last_lines, place_lines, trade_line, trade_row};
+ghost use Rattle.trade_reconstruction.specs.NoteLines.{note_lines};
 ghost use Rattle.trade_reconstruction.specs.Emitted.{HasNoTrade, IsEvidence, EmitsTrade, UnlessWriting, numbered_in, trade_numbered};
 ghost use Rattle.trade_reconstruction.specs.declared.evidence.EvidenceFault.TheVariants.{Memory, NoTrade, Output};
 
@@ -17,6 +19,8 @@ use crate::gathering::gather;
 use crate::laws::{
     each_book_trade_has_its_orders, each_room_trade_has_its_request, each_trade_has_its_row,
 };
+use crate::noted::append_notes;
+use crate::quote_note::QuoteNote;
 use crate::room::{append_room, append_row};
 use instruments::Instruments;
 use participants::Participants;
@@ -76,6 +80,75 @@ fn append_trade(
     append_row(text, row)
 }
 
+/// An instrument's symbol; empty where there is no such instrument, which no trade has.
+fn symbol_at(instruments: &Instruments, place: u32) -> &[u8]
+    ensures { result.now ≡ symbol_of instruments.now place }
+{
+    if (place as usize) < instruments.len() {
+        instruments.get(place).symbol.as_slice()
+    } else {
+        b""
+    }
+}
+
+/// An instrument's delay between linked orders, in milliseconds; 0 where there is no such instrument.
+fn delay_at(instruments: &Instruments, place: u32) -> u64
+    ensures { result ≡ delay_of instruments.now place }
+{
+    if (place as usize) < instruments.len() {
+        instruments.delay(place)
+    } else {
+        0
+    }
+}
+
+/// Appends the delay between linked orders of the trade's instrument.
+fn append_delay(
+    text: &mut Vec<u8>,
+    instruments: &Instruments,
+    trade: &TradeFact,
+    row: u64,
+) -> Result<(), AllocError>
+    ensures { OnOk result (text.new.items ≡ text.old.items ++ delay_line instruments.now trade.now row) }
+{
+    let symbol = symbol_at(instruments, trade.instrument);
+    let delay = delay_at(instruments, trade.instrument);
+    append(text, &[b"delay between linked orders of ", symbol])?;
+    append_number(text, b": ", delay)?;
+    append(text, &[b" ms"])?;
+    append_row(text, row)
+}
+
+/// Appends the delay, of a trade in the book.
+fn append_delay_if(
+    text: &mut Vec<u8>,
+    instruments: &Instruments,
+    trade: &TradeFact,
+    row: u64,
+) -> Result<(), AllocError>
+    ensures { OnOk result (text.new.items ≡ text.old.items ++ delay_lines instruments.now trade.now row) }
+{
+    match trade.room {
+        None => append_delay(text, instruments, trade, row),
+        Some(_) => Ok(()),
+    }
+}
+
+/// Appends the delay, of a trade in the book, and the line of the trade.
+fn append_last(
+    alloc: Global,
+    text: &mut Vec<u8>,
+    participants: &Participants,
+    instruments: &Instruments,
+    trade: &TradeFact,
+    row: u64,
+) -> Result<(), AllocError>
+    ensures { OnOk result (text.new.items ≡ text.old.items ++ last_lines (record { participants = participants.now; instruments = instruments.now }) trade.now row) }
+{
+    append_delay_if(text, instruments, trade, row)?;
+    append_trade(alloc, text, participants, instruments, trade, row)
+}
+
 /// Appends the lines about a trade's request or orders.
 fn append_place(
     alloc: Global,
@@ -100,14 +173,16 @@ fn evidence_of(
     participants: &Participants,
     instruments: &Instruments,
     words: &[EvidenceEvent],
+    notes: &[QuoteNote],
     trade: &TradeFact,
 ) -> Result<Vec<u8>, AllocError>
-    ensures { IfOk result (λ text. text.items ≡ evidence (record { participants = participants.now; instruments = instruments.now }) words.now trade.now) }
+    ensures { IfOk result (λ text. text.items ≡ evidence (record { participants = participants.now; instruments = instruments.now }) words.now (note_lines words.now notes.now trade.now) trade.now) }
 {
     let row = trade_row(words, trade);
     let mut text = Vec::new(alloc);
     append_place(alloc, &mut text, participants, words, trade, row)?;
-    append_trade(alloc, &mut text, participants, instruments, trade, row)?;
+    append_notes(&mut text, words, notes, trade)?;
+    append_last(alloc, &mut text, participants, instruments, trade, row)?;
     Ok(text)
 }
 
@@ -146,7 +221,8 @@ fn evidence_in(
     each_room_trade_has_its_request();
     each_book_trade_has_its_orders();
     each_trade_has_its_row();
-    let words = gather(alloc, venue, rows, number)?;
+    let mut notes = Vec::new(alloc);
+    let words = gather(alloc, venue, &mut notes, rows, number)?;
     let Some(trade) = trade_numbered(venue, number) else {
         return Err(EvidenceFault::NoTrade);
     };
@@ -155,6 +231,7 @@ fn evidence_in(
         venue.participants(),
         venue.instruments(),
         &words,
+        &notes,
         trade,
     )?)
 }

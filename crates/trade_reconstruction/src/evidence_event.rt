@@ -43,6 +43,8 @@ pub struct Quoted {
     pub bid: Option<Price>,
     pub offer: Option<Price>,
     pub end: Moment,
+    /// the maker's own identifier of it (117)
+    pub id: Option<Identifier>,
 }
 
 /// A quote was hit, which made a trade in a room.
@@ -52,6 +54,11 @@ pub struct Hit {
     pub trade: u64,
     /// the quote, as the requester names it (117)
     pub quote: Identifier,
+    /// the addressee's side
+    pub side: Side,
+    pub price: Price,
+    /// the requester's own identifier of the hit (693), in the report to it
+    pub response: Option<Identifier>,
 }
 
 /// A link (583), and the row of the message that carried it.
@@ -82,6 +89,8 @@ pub struct Entered {
 #[derive(Clone, Copy)]
 pub struct Held {
     pub id: Identifier,
+    /// the identifier of the cross (548)
+    pub cross: Identifier,
     pub delay: u64,
 }
 

@@ -1,7 +1,7 @@
 //! Search for the first event of some content.
 
 ghost use Rattle.std.specs.Prelude.{◌≡◌, find, option_map};
-ghost use Rattle.trade_reconstruction.specs.Lines.{enters, fills, fills_other, hits, holds, is_asked, is_entry, is_sought, link_in, link_of, order_in, order_of, row_of};
+ghost use Rattle.trade_reconstruction.specs.Lines.{enters, fills, fills_at, fills_other, hits, holds, is_asked, is_entry, is_sought, link_in, link_of, order_in, order_of, row_of, trade_in, trade_of};
 
 use crate::evidence_event::{EventKind, EvidenceEvent, Linked};
 use fix_dictionary::Identifier;
@@ -18,6 +18,8 @@ pub enum Query {
     Fill(u64),
     /// a fill by this trade of another order than this
     OtherFill(u64, u64),
+    /// a fill of this order at this row
+    FillAt(u64, u64),
     /// the hit that made this trade
     Hit(u64),
     /// the hold of this participant's order with this identifier (11)
@@ -62,6 +64,15 @@ fn fills_other(word: &EvidenceEvent, trade: u64, order: u64) -> bool
     }
 }
 
+fn fills_at(word: &EvidenceEvent, order: u64, row: u64) -> bool
+    ensures { result ≡ fills_at order row word.now }
+{
+    match &word.said {
+        EventKind::Filled(filled) => filled.order == order && word.row == row,
+        _ => false,
+    }
+}
+
 fn hits(word: &EvidenceEvent, trade: u64) -> bool
     ensures { result ≡ hits trade word.now }
 {
@@ -97,6 +108,7 @@ fn is_sought(sought: &Query, word: &EvidenceEvent) -> bool
         Query::Order(order) => enters(word, *order),
         Query::Fill(trade) => fills(word, *trade),
         Query::OtherFill(trade, order) => fills_other(word, *trade, *order),
+        Query::FillAt(order, row) => fills_at(word, *order, *row),
         Query::Hit(trade) => hits(word, *trade),
         Query::HeldSide(who, id) => holds(word, *who, id),
         Query::Entry(who, id) => is_entry(word, *who, id),
@@ -130,6 +142,25 @@ pub fn filled_order(words: &[EvidenceEvent], sought: &Query) -> Option<u64>
 {
     match find_word(words, sought) {
         Some(word) => order_in(word),
+        None => None,
+    }
+}
+
+fn trade_in(word: &EvidenceEvent) -> Option<u64>
+    ensures { result ≡ trade_in word.now }
+{
+    match &word.said {
+        EventKind::Filled(filled) => Some(filled.trade),
+        _ => None,
+    }
+}
+
+/// The trade of the fill, if one is found.
+pub fn filling_trade(words: &[EvidenceEvent], sought: &Query) -> Option<u64>
+    ensures { result ≡ trade_of (find (is_sought sought.now) words.now) }
+{
+    match find_word(words, sought) {
+        Some(word) => trade_in(word),
         None => None,
     }
 }

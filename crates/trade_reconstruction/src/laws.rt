@@ -1,6 +1,6 @@
 //! Laws of every day, whatever its inputs.
 
-ghost use Rattle.trade_reconstruction.specs.Laws.{BookTradesHaveOrders, RoomTradesHaveRequests, TradesHaveRows};
+ghost use Rattle.trade_reconstruction.specs.Laws.{BookTradesHaveOrders, FatesAreRight, LiveQuotesAreLive, QuotesAreReported, RestingOrdersAreShown, RoomTradesHaveRequests, TradesHaveRows};
 
 use venue_rules::{
     every_book_trade_is_lawful, every_report_is_numbered, every_room_trade_is_lawful,
@@ -14,6 +14,25 @@ pub fn each_room_trade_has_its_request()
     every_room_trade_is_lawful();
     every_report_is_numbered();
 }
+
+/// The events of a day have each quote, as it was sent to the requester of its room: the evidence for a trade in that
+/// room has its line, and says what had become of it.
+pub fn each_quote_is_reported()
+    ensures { QuotesAreReported }
+{}
+
+/// The events of a day show the requester of each room, with its first quote, every order that rested in the book of
+/// the instrument then, and their count (17 CFR 37.9(a)(3)).
+pub fn each_resting_order_is_shown()
+    ensures { RestingOrdersAreShown }
+{}
+
+/// What the evidence says of a quote in a room that has not traded is what had become of it by the facts of the day;
+/// and it says that it was live if and only if it could be hit.
+pub fn each_quote_has_its_fate()
+    ensures right { FatesAreRight }
+    ensures live { LiveQuotesAreLive }
+{}
 
 /// The events of a day have each trade at the row of the message or the tick that made it, so that its own line ends in
 /// that row.

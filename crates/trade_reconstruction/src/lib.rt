@@ -10,12 +10,17 @@ mod evidence_event;
 mod finding;
 mod gathering;
 mod laws;
+mod noted;
+mod noting;
+mod quote_note;
 mod rested;
 mod room;
 mod standing;
 mod trigger;
+mod unrelated;
 
 pub use evidence::{EvidenceFault, print_evidence};
 pub use laws::{
-    each_book_trade_has_its_orders, each_room_trade_has_its_request, each_trade_has_its_row,
+    each_book_trade_has_its_orders, each_quote_has_its_fate, each_quote_is_reported,
+    each_resting_order_is_shown, each_room_trade_has_its_request, each_trade_has_its_row,
 };

@@ -1,9 +1,10 @@
 //! The lines about the orders that rested before the filled one.
 
 ghost use Rattle.std.specs.Prelude.{◌≡◌, ◌++◌, OnOk};
-ghost use Rattle.trade_reconstruction.specs.Lines.{counted_line, standing_line, standing_lines, stood_line, stood_side};
+ghost use Rattle.trade_reconstruction.specs.Lines.{counted_line, filled_text, filler_of, standing_line, standing_lines, stood_line, stood_side};
 
 use crate::evidence_event::{EventKind, EvidenceEvent, RestedBefore, RestedCount};
+use crate::finding::{Query, filling_trade};
 use crate::room::append_row;
 use fix_dictionary::Side;
 use std::alloc::{AllocError, Global};
@@ -18,19 +19,37 @@ fn stood_side(side: Side) -> &'static [u8]
     }
 }
 
+/// The trade at this row that filled an order, if one did.
+fn filler_of(words: &[EvidenceEvent], order: u64, row: u64) -> Option<u64>
+    ensures { result ≡ filler_of words.now order row }
+{
+    filling_trade(words, &Query::FillAt(order, row))
+}
+
+fn append_filled(text: &mut Vec<u8>, trade: Option<u64>) -> Result<(), AllocError>
+    ensures { OnOk result (text.new.items ≡ text.old.items ++ filled_text trade) }
+{
+    match trade {
+        Some(trade) => append_number(text, b", filled by T", trade),
+        None => Ok(()),
+    }
+}
+
 fn append_stood(
     alloc: Global,
     text: &mut Vec<u8>,
+    words: &[EvidenceEvent],
     word: &EvidenceEvent,
     stood: &RestedBefore,
 ) -> Result<(), AllocError>
-    ensures { OnOk result (text.new.items ≡ text.old.items ++ stood_line word.now stood.now) }
+    ensures { OnOk result (text.new.items ≡ text.old.items ++ stood_line words.now word.now stood.now) }
 {
     append_number(text, b"O", stood.order)?;
     append_number(text, b" rested before O", stood.resting)?;
     append_number(text, stood_side(stood.side), stood.left.get())?;
     append(text, &[b" @ "])?;
     append_price(alloc, text, stood.price)?;
+    append_filled(text, filler_of(words, stood.order, word.row))?;
     append_row(text, word.row)
 }
 
@@ -51,17 +70,22 @@ fn append_counted(
 }
 
 /// Appends the line of one event about what rested before the order.
-fn append_word(alloc: Global, text: &mut Vec<u8>, word: &EvidenceEvent) -> Result<(), AllocError>
-    ensures { OnOk result (text.new.items ≡ text.old.items ++ standing_line word.now) }
+fn append_word(
+    alloc: Global,
+    text: &mut Vec<u8>,
+    words: &[EvidenceEvent],
+    word: &EvidenceEvent,
+) -> Result<(), AllocError>
+    ensures { OnOk result (text.new.items ≡ text.old.items ++ standing_line words.now word.now) }
 {
     match &word.said {
-        EventKind::RestedBefore(stood) => append_stood(alloc, text, word, stood),
+        EventKind::RestedBefore(stood) => append_stood(alloc, text, words, word, stood),
         EventKind::RestedCount(counted) => append_counted(text, word, counted),
         _ => Ok(()),
     }
 }
 
-/// Appends what rested before the order, and the count of these orders.
+/// Appends what rested before the order, each with the trade that filled it at the same row, and the count.
 pub(crate) fn append_standing(
     alloc: Global,
     text: &mut Vec<u8>,
@@ -70,7 +94,7 @@ pub(crate) fn append_standing(
     ensures { OnOk result (text.new.items ≡ text.old.items ++ standing_lines words.now) }
 {
     for word in words {
-        append_word(alloc, text, word)?;
+        append_word(alloc, text, words, word)?;
     }
     Ok(())
 }

@@ -3,10 +3,11 @@
 ghost use Rattle.std.specs.Prelude.{◌≡◌, ◌++◌, OnOk, codes, decimal};
 ghost use Rattle.std.specs.List.{flat_map};
 ghost use Rattle.sef_moment.specs.Utc.{utc_text};
-ghost use Rattle.trade_reconstruction.specs.Lines.{asked_lines, asked_side, at_text, hit_line, is_to, others, other_line, pair_line, pictured_line, price_or_none, quote_line, relation, request_line, room_found, room_lines, room_word, row_text, shown_line, shown_side};
+ghost use Rattle.trade_reconstruction.specs.Lines.{asked_lines, asked_side, at_text, hit_line, hit_side, id_line, is_to, others, other_line, pair_line, pictured_line, price_or_none, quote_id_line, quote_line, quote_terms, relation, request_line, request_terms, response_text, room_found, room_lines, room_word, row_text, shown_line, shown_side, three_if, three_line, three_text};
 
 use crate::evidence_event::{Asked, EventKind, EvidenceEvent, Hit, Quoted, Shown, SnapshotSent};
 use crate::finding::{Query, find_word, is_asked};
+use crate::unrelated::{Three, recipients_of, three_of};
 use fix_dictionary::{Identifier, Price, Side};
 use participants::{Participants, Who};
 use sef_moment::{Moment, print_utc};
@@ -94,6 +95,39 @@ fn asked_side(side: Option<Side>) -> &'static [u8]
     }
 }
 
+/// Appends the line of somebody's own identifier of an order, a room or a quote.
+pub(crate) fn append_id(
+    text: &mut Vec<u8>,
+    kind: &[u8],
+    number: u64,
+    said: &[u8],
+    id: &Identifier,
+    row: u64,
+) -> Result<(), AllocError>
+    ensures { OnOk result (text.new.items ≡ text.old.items ++ id_line kind.now number said.now id.now row) }
+{
+    append_number(text, kind, number)?;
+    append(text, &[said, id.as_slice()])?;
+    append_row(text, row)
+}
+
+fn append_terms(
+    text: &mut Vec<u8>,
+    participants: &Participants,
+    word: &EvidenceEvent,
+    asked: &Asked,
+) -> Result<(), AllocError>
+    ensures { OnOk result (text.new.items ≡ text.old.items ++ request_terms participants.now word.now asked.now) }
+{
+    let requester = name_at(participants, asked.requester);
+    append_number(text, b"request in room R", asked.room)?;
+    append(text, &[b" of ", requester])?;
+    let side = asked_side(asked.side);
+    append_quantity(text, side, asked.quantity.get(), &asked.symbol)?;
+    append_at(text, word.moment, word.row)
+}
+
+/// Appends a request, and its identifier.
 fn append_request(
     text: &mut Vec<u8>,
     participants: &Participants,
@@ -102,12 +136,15 @@ fn append_request(
 ) -> Result<(), AllocError>
     ensures { OnOk result (text.new.items ≡ text.old.items ++ request_line participants.now word.now asked.now) }
 {
-    let requester = name_at(participants, asked.requester);
-    append_number(text, b"request in room R", asked.room)?;
-    append(text, &[b" of ", requester])?;
-    let side = asked_side(asked.side);
-    append_quantity(text, side, asked.quantity.get(), &asked.symbol)?;
-    append_at(text, word.moment, word.row)
+    append_terms(text, participants, word, asked)?;
+    append_id(
+        text,
+        b"R",
+        asked.room,
+        b" has the QuoteReqID ",
+        &asked.request,
+        word.row,
+    )
 }
 
 /// Appends the relation of a recipient to another recipient of the room who comes before it in the file.
@@ -226,13 +263,13 @@ fn append_prices(
     append_price_or_none(alloc, text, offer)
 }
 
-fn append_quote(
+fn append_quote_terms(
     alloc: Global,
     text: &mut Vec<u8>,
     word: &EvidenceEvent,
     quoted: &Quoted,
 ) -> Result<(), AllocError>
-    ensures { OnOk result (text.new.items ≡ text.old.items ++ quote_line word.now quoted.now) }
+    ensures { OnOk result (text.new.items ≡ text.old.items ++ quote_terms word.now quoted.now) }
 {
     append_number(text, b"quote Q", quoted.quote)?;
     append(text, &[b" of ", quoted.maker.as_slice()])?;
@@ -241,16 +278,73 @@ fn append_quote(
     append_at(text, word.moment, word.row)
 }
 
-fn append_hit(text: &mut Vec<u8>, word: &EvidenceEvent, hit: &Hit) -> Result<(), AllocError>
-    ensures { OnOk result (text.new.items ≡ text.old.items ++ hit_line word.now hit.now) }
+/// Appends the maker's own identifier of its quote.
+fn append_quote_id(
+    text: &mut Vec<u8>,
+    word: &EvidenceEvent,
+    quoted: &Quoted,
+) -> Result<(), AllocError>
+    ensures { OnOk result (text.new.items ≡ text.old.items ++ quote_id_line word.now quoted.now quoted.now.id) }
 {
+    match &quoted.id {
+        Some(id) => append_id(text, b"Q", quoted.quote, b" has the QuoteID ", id, word.row),
+        None => Ok(()),
+    }
+}
+
+/// Appends a quote, and its maker's identifier of it.
+fn append_quote(
+    alloc: Global,
+    text: &mut Vec<u8>,
+    word: &EvidenceEvent,
+    quoted: &Quoted,
+) -> Result<(), AllocError>
+    ensures { OnOk result (text.new.items ≡ text.old.items ++ quote_line word.now quoted.now) }
+{
+    append_quote_terms(alloc, text, word, quoted)?;
+    append_quote_id(text, word, quoted)
+}
+
+fn hit_side(side: Side) -> &'static [u8]
+    ensures { result.now ≡ hit_side side }
+{
+    match side {
+        Side::Buy => b" to buy at ",
+        Side::Sell => b" to sell at ",
+    }
+}
+
+fn append_response(text: &mut Vec<u8>, response: &Option<Identifier>) -> Result<(), AllocError>
+    ensures { OnOk result (text.new.items ≡ text.old.items ++ response_text response.now) }
+{
+    match response {
+        Some(id) => append(text, &[b" with the QuoteRespID ", id.as_slice()]),
+        None => Ok(()),
+    }
+}
+
+/// Appends who hit which quote, on which side and at what price.
+fn append_hit(
+    alloc: Global,
+    text: &mut Vec<u8>,
+    participants: &Participants,
+    word: &EvidenceEvent,
+    hit: &Hit,
+) -> Result<(), AllocError>
+    ensures { OnOk result (text.new.items ≡ text.old.items ++ hit_line participants.now word.now hit.now) }
+{
+    let name = name_at(participants, word.to);
+    let side = hit_side(hit.side);
     append(text, &[b"hit of quote ", hit.quote.as_slice()])?;
-    append_moment(text, b" at ", word.moment)?;
-    append_row(text, word.row)
+    append(text, &[b" by ", name])?;
+    append(text, &[side])?;
+    append_price(alloc, text, hit.price)?;
+    append_response(text, &hit.response)?;
+    append_at(text, word.moment, word.row)
 }
 
 /// Whether an event is addressed to the requester, about its request.
-fn is_to(asked: &Asked, to: Who, request: &Identifier) -> bool
+pub(crate) fn is_to(asked: &Asked, to: Who, request: &Identifier) -> bool
     ensures { result ≡ is_to asked.now to request.now }
 {
     to.place() == asked.requester.place() && request.is(&asked.request)
@@ -299,7 +393,7 @@ fn append_word(
         }
         EventKind::Hit(hit) => {
             if hit.room == asked.room && word.to.place() == asked.requester.place() {
-                append_hit(text, word, hit)
+                append_hit(alloc, text, participants, word, hit)
             } else {
                 Ok(())
             }
@@ -310,6 +404,55 @@ fn append_word(
         EventKind::RestedBefore(_) => Ok(()),
         EventKind::RestedCount(_) => Ok(()),
     }
+}
+
+fn append_names(
+    text: &mut Vec<u8>,
+    participants: &Participants,
+    requester: Who,
+    three: &Three,
+    row: u64,
+) -> Result<(), AllocError>
+    ensures { OnOk result (text.new.items ≡ text.old.items ++ three_text participants.now requester three.now row) }
+{
+    let first = name_at(participants, three.first);
+    let second = name_at(participants, three.second);
+    let third = name_at(participants, three.third);
+    let asker = name_at(participants, requester);
+    append(text, &[first, b", ", second, b" and ", third])?;
+    append(text, &[b" are unrelated to ", asker, b" and to each other"])?;
+    append_row(text, row)
+}
+
+fn append_three_if(
+    text: &mut Vec<u8>,
+    participants: &Participants,
+    requester: Who,
+    three: &Option<Three>,
+    row: u64,
+) -> Result<(), AllocError>
+    ensures { OnOk result (text.new.items ≡ text.old.items ++ three_if participants.now requester three.now row) }
+{
+    match three {
+        Some(three) => append_names(text, participants, requester, three, row),
+        None => Ok(()),
+    }
+}
+
+/// Appends the line that names three recipients unrelated to the requester and to each other.
+fn append_three(
+    alloc: Global,
+    text: &mut Vec<u8>,
+    participants: &Participants,
+    words: &[EvidenceEvent],
+    word: &EvidenceEvent,
+    asked: &Asked,
+) -> Result<(), AllocError>
+    ensures { OnOk result (text.new.items ≡ text.old.items ++ three_line participants.now words.now word.now asked.now) }
+{
+    let recipients = recipients_of(alloc, asked.room, words)?;
+    let three = three_of(participants, asked.requester, &recipients);
+    append_three_if(text, participants, asked.requester, &three, word.row)
 }
 
 fn append_words(
@@ -340,13 +483,15 @@ fn append_found(
     match &word.said {
         EventKind::Asked(asked) => {
             append_request(text, participants, word, asked)?;
+            append_three(alloc, text, participants, words, word, asked)?;
             append_words(alloc, text, participants, words, asked)
         }
         _ => Ok(()),
     }
 }
 
-/// Appends the lines of a room: the request, its recipients, what was shown and quoted, and the hit.
+/// Appends the lines of a room: the request, three unrelated recipients, all recipients, what was shown and quoted, and
+/// the hit.
 pub(crate) fn append_room(
     alloc: Global,
     text: &mut Vec<u8>,

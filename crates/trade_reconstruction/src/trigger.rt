@@ -24,9 +24,10 @@ pub struct Ordered {
     pub link: Option<Linked>,
 }
 
-/// A cross: the identifiers of both sides, their price, and how long the second is held, in milliseconds.
+/// A cross: its identifier (548), those of both sides, their price, and how long the second is held, in milliseconds.
 #[derive(Clone, Copy)]
 pub struct Crossed {
+    pub cross: Identifier,
     pub first: Identifier,
     pub second: Identifier,
     pub price: Option<Price>,
@@ -37,7 +38,8 @@ pub struct Crossed {
 #[derive(Clone, Copy)]
 pub enum Trigger {
     Request(Requested),
-    Quote,
+    /// the maker's identifier of its quote (117)
+    Quote(Identifier),
     /// the quote that it responds to (117)
     Response(Identifier),
     Order(Ordered),
@@ -89,7 +91,7 @@ pub fn trigger_in(
             requester: from,
             request: request.request_id,
         }),
-        App::Quote(_) => Trigger::Quote,
+        App::Quote(quote) => Trigger::Quote(quote.quote_id),
         App::QuoteResponse(response) => Trigger::Response(response.quote_id),
         App::NewOrderSingle(order) => Trigger::Order(Ordered {
             price: order.price,
@@ -100,6 +102,7 @@ pub fn trigger_in(
             link: link_known(words, from, order.original_id),
         }),
         App::NewOrderCross(cross) => Trigger::Cross(Crossed {
+            cross: cross.cross_id,
             first: cross.first.order_id,
             second: cross.second.order_id,
             price: cross.price,

@@ -1,6 +1,15 @@
-use Rattle.std.proofs.Common.{◌∙◌, append-nil, append_assoc}
+use Rattle.std.proofs.Common.{◌++◌, codes}
 use Rattle.std.proofs.lemmas.Result.{on_ok_weaker}
+use Rattle.fix_fields.specs.Forms.{price_text}
+use Rattle.trade_reconstruction.specs.Lines.{at_text, response_text, row_text}
+use Rattle.trade_reconstruction.proofs.Appends.{eight}
 use Rattle.trade_reconstruction.proofs.room.append_hit.Goals as goal
 
 pub returns : goal.returns
-returns c = (on_ok_weaker c.append_row.result (λ e. e ∙ simp (c.in_ok-append_moment.ensures, c.in_ok-append.ensures, c.as_slice.ensures.value, append-nil, append_assoc)) c.append_row.ensures)
+returns c =
+    let w = c.args.word.now in
+    let x = c.args.hit.now in
+    on_ok_weaker c.append_at.result
+    (λ e. eight _ _ _ _ _ _ _ (codes "hit of quote ") _ _ (codes " by ") _ _ _ _ (price_text x.price) (response_text x.response) (at_text w.moment ++ row_text w.row) c.in_ok-append.ensures c.as_slice.ensures.value c.in_ok-append-2.ensures c.name_at-name.ensures c.in_ok-append-3.ensures c.hit_side-side.ensures
+    c.in_ok-append_price.ensures c.in_ok-append_response.ensures e)
+    c.append_at.ensures
