@@ -21,6 +21,9 @@ import streams
 import texts
 
 HERE = os.path.dirname(os.path.abspath(__file__))
+sys.path.insert(0, os.path.join(HERE, "..", "lib"))
+from fix import without_events  # noqa: E402
+
 EXAMPLES = f"{HERE}/../../examples"
 CRATES = f"{HERE}/../../crates"
 PROGRAM = os.path.abspath(sys.argv[1] if len(sys.argv) > 1 else f"{CRATES}/venue_main/out/venue_main")
@@ -53,7 +56,7 @@ def run(case):
     with Folder() as folder:
         how = {"cwd": folder, "capture_output": True, "timeout": LONGEST, "check": False}
         ran = subprocess.run([PROGRAM, *arguments], input=stream_of(case), **how)
-    return ran.stdout, f"{ran.stderr.decode()}case={case} run=ended status={ran.returncode}\n"
+    return ran.stdout, f"{without_events(ran.stderr.decode())}case={case} run=ended status={ran.returncode}\n"
 
 
 def section(case, printed):

@@ -4,3 +4,4 @@ pub mod Causes
 pub mod Stops
 pub mod Older
 pub mod Trades
+pub mod Asked

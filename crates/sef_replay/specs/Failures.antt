@@ -7,7 +7,7 @@ use Rattle.sqlite.specs.declared.error.ErrorCode.TheVariants as code
 use Rattle.venue_rules.specs.declared.trail.TrailFault.{TrailFault}
 use Rattle.venue_rules.specs.declared.trail.TrailFault.TheVariants as trail
 use Rattle.sef_replay.specs.declared.failure.Failure.{Failure}
-use Rattle.sef_replay.specs.declared.failure.Failure.TheVariants.{Stopped, CommandLine, Trail as TrailRefused, Trade as TradeRefused}
+use Rattle.sef_replay.specs.declared.failure.Failure.TheVariants.{Stopped, CommandLine, Trail as TrailRefused, Unknown as UnknownNamed}
 use Rattle.sef_replay.specs.declared.failure.Stop.{Stop}
 use Rattle.sef_replay.specs.declared.failure.Stop.TheVariants as stop
 
@@ -16,7 +16,7 @@ abbrev pub status_of : Failure → ℕ
 status_of (Stopped cause) = 1
 status_of CommandLine = 2
 status_of (TrailRefused number) = 3
-status_of TradeRefused = 3
+status_of (UnknownNamed what) = 3
 
 -- the end of the program where a trail has this fault
 abbrev pub trail_failure : TrailFault → Failure

@@ -3,4 +3,5 @@ pub mod Day
 pub mod Stops
 pub mod Older
 pub mod Trade
+pub mod Question
 pub mod Reports

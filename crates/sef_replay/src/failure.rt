@@ -26,6 +26,29 @@ pub enum Stop {
     Trail,
 }
 
+/// What the command line names and the day has not, or a word of the wrong form.
+#[derive(Clone, Copy, Debug, PartialEq, Eq, Error)]
+pub enum Unknown {
+    /// `--trade`: a trade.
+    #[error("trade")]
+    Trade,
+    /// `--to`: a participant.
+    #[error("participant")]
+    Recipient,
+    /// `--from`: a participant.
+    #[error("participant")]
+    Sender,
+    /// `--book`: an instrument.
+    #[error("instrument")]
+    Instrument,
+    /// `--row`: a row, or the first and the last of some.
+    #[error("row")]
+    Row,
+    /// `--order`: an order that an answer reports on.
+    #[error("order")]
+    Order,
+}
+
 /// Why the program ends with a status other than 0. Its text goes to standard error.
 #[derive(Debug, Drop, Error)]
 pub enum Failure {
@@ -38,9 +61,9 @@ pub enum Failure {
     /// Status 3: the number of the trail's fault.
     #[error("trail refused {0}")]
     Trail(u8),
-    /// Status 3: the day has no such trade, or the word is no number of a trade.
-    #[error("trade refused")]
-    Trade,
+    /// Status 3.
+    #[error("{0} refused")]
+    Unknown(Unknown),
 }
 
 impl Failure {
@@ -52,7 +75,7 @@ impl Failure {
             Failure::Stopped(_) => 1,
             Failure::CommandLine => 2,
             Failure::Trail(_) => 3,
-            Failure::Trade => 3,
+            Failure::Unknown(_) => 3,
         }
     }
 }

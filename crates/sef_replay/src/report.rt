@@ -9,22 +9,25 @@ ghost use Rattle.sef_replay.specs.Reports.{BeginsWanted, IsWantedFailure, Leaves
 ghost use Rattle.sef_replay.specs.declared.failure.Failure.TheVariants.{Stopped, Trail as TrailRefused};
 ghost use Rattle.sef_replay.specs.declared.failure.Stop.TheVariants.{Memory};
 
+use crate::asking::print_asked;
 use crate::failure::Failure;
 use crate::form::Form;
 use crate::migrating::print_migrated;
 use crate::printing::print_day;
+use crate::question::Question;
 use crate::trade::print_trade;
 use sqlite::{Alter, Connection};
 use std::alloc::Global;
 use std::io::Write;
 
-/// A report on a trail: its trades in a form, perhaps after it was updated from an older version to version 3; or the
-/// evidence for the trade with a number.
+/// A report on a trail: its trades in a form, perhaps after it was updated from an older version to version 3; the
+/// evidence for the trade with a number; or the answer to a question in a form.
 #[derive(Clone, Copy)]
 pub enum Report {
     Day(Form),
     MigratedDay(Form),
     Trade(u64),
+    Asked(Question, Form),
 }
 
 /// Prints the report on a database's trail. The connection comes back.
@@ -52,6 +55,7 @@ pub fn print_wanted<S: Alter, W: Write>(
         Report::Day(form) => print_day(alloc, conn, form, writer),
         Report::MigratedDay(form) => print_migrated(alloc, conn, form, writer),
         Report::Trade(number) => print_trade(alloc, conn, number, writer),
+        Report::Asked(question, form) => print_asked(alloc, conn, &question, form, writer),
     }
 }
 

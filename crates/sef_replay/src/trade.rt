@@ -10,7 +10,7 @@ ghost use Rattle.sef_replay.specs.declared.failure.Failure.TheVariants.{Trail as
 ghost use Rattle.sef_replay.specs.Stops.{RefusesDay, StopsAfter, StopsEmitting};
 ghost use Rattle.sef_replay.specs.Trade.{IsRefusalOf, IsTradeFailureOf, EmitsTradeKept, EmitsTradeOf, UnlessEmitted};
 
-use crate::failure::{Failure, Stop};
+use crate::failure::{Failure, Stop, Unknown};
 use crate::replaying::{KeptDay, day_kept};
 use audit_trail::Trail;
 use itoa::Buffer;
@@ -73,7 +73,7 @@ fn print_kept<S: Alter, W: Write>(
         Ok(()) => Ok(()),
         Err(EvidenceFault::Memory) => Err(Failure::Stopped(Stop::Memory)),
         Err(EvidenceFault::Output) => Err(Failure::Stopped(Stop::Output)),
-        Err(EvidenceFault::NoTrade) => Err(Failure::Trade),
+        Err(EvidenceFault::NoTrade) => Err(Failure::Unknown(Unknown::Trade)),
     }
 }
 

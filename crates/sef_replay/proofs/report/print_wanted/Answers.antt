@@ -79,3 +79,27 @@ pub returns-in-Trade-clause-begun : goal.returns-in-Trade-clause-begun
 returns-in-Trade-clause-begun g c =
     rw c.in-Trade.is (of_err c.print_trade.result _ _ _ c.print_trade.ensures.unwritten c.print_trade.ensures.unwritten
     (λ e kept _ clean is. inl (memory_unemitted e.0 _ kept is)))
+
+pub returns-in-Asked-clause-emitted : goal.returns-in-Asked-clause-emitted
+returns-in-Asked-clause-emitted g c = rw c.in-Asked.is (search rules)
+
+pub returns-in-Asked-clause-fault : goal.returns-in-Asked-clause-fault
+returns-in-Asked-clause-fault g c = rw c.in-Asked.is (search rules)
+
+pub returns-in-Asked-clause-cause : goal.returns-in-Asked-clause-cause
+returns-in-Asked-clause-cause g c = rw c.in-Asked.is (search rules)
+
+pub returns-in-Asked-clause-unwritten : goal.returns-in-Asked-clause-unwritten
+returns-in-Asked-clause-unwritten g c = rw c.in-Asked.is (search rules)
+
+pub returns-in-Asked-clause-crash : goal.returns-in-Asked-clause-crash
+returns-in-Asked-clause-crash g c = rw c.in-Asked.is (search rules)
+
+pub returns-in-Asked-clause-crash_err : goal.returns-in-Asked-clause-crash_err
+returns-in-Asked-clause-crash_err g c = rw c.in-Asked.is (search rules)
+
+pub returns-in-Asked-clause-stopped : goal.returns-in-Asked-clause-stopped
+returns-in-Asked-clause-stopped g c = rw c.in-Asked.is (search rules)
+
+pub returns-in-Asked-clause-begun : goal.returns-in-Asked-clause-begun
+returns-in-Asked-clause-begun g c = rw c.in-Asked.is (search rules)

@@ -1,0 +1,109 @@
+//! A second look at a refused trail, for the line below the refusal.
+
+use audit_trail::Trail;
+use sqlite::types::ValueRef;
+use sqlite::{Alter, Connection};
+use std::alloc::{AllocError, Global};
+use trail_decoder::integer_at;
+use venue_rules::TrailFault;
+
+const SELECT_MOMENT: &str = "SELECT moment FROM item WHERE n = ?1";
+
+/// A line on the fault of a database as a trail; none where it has none, or an allocation fails.
+pub fn fault_line<S: Alter + Drop>(alloc: Global, conn: Connection<S>) -> Option<String> {
+    match Trail::open(alloc, conn, None) {
+        Ok(trail) => {
+            drop(trail.into_connection());
+            None
+        }
+        Err((fault, conn)) => line_over(alloc, conn, fault),
+    }
+}
+
+fn line_over<S: Alter + Drop>(
+    alloc: Global,
+    conn: Connection<S>,
+    fault: TrailFault,
+) -> Option<String> {
+    let mut conn = conn;
+    let line = line_of(alloc, &mut conn, fault);
+    drop(conn);
+    match line {
+        Ok(line) => line,
+        Err(_) => None,
+    }
+}
+
+fn line_of<S: Alter>(
+    alloc: Global,
+    conn: &mut Connection<S>,
+    fault: TrailFault,
+) -> Result<Option<String>, AllocError> {
+    match fault {
+        TrailFault::BadRow(n) => row_line(alloc, conn, n),
+        TrailFault::BadDelay(x) => delay_line(alloc, x),
+        _ => Ok(None),
+    }
+}
+
+fn delay_line(alloc: Global, x: i64) -> Result<Option<String>, AllocError> {
+    let line = format!(in alloc;
+        "delay {x}: missing, of no instrument, or not from 1000 to 3600000 ms"
+    )?;
+    Ok(Some(line))
+}
+
+/// The moment of an item, if there is one with this number.
+fn moment_at<S: Alter>(conn: &mut Connection<S>, n: i64) -> Option<i64> {
+    let rows = match conn.query_all(SELECT_MOMENT, &[ValueRef::Int(n)]) {
+        Ok(rows) => rows,
+        Err(_) => return None,
+    };
+    let moment = match rows.first() {
+        Some(row) => integer_at(row, 0),
+        None => None,
+    };
+    drop(rows);
+    moment
+}
+
+/// A line on a row that a venue would not have kept.
+fn row_line<S: Alter>(
+    alloc: Global,
+    conn: &mut Connection<S>,
+    n: i64,
+) -> Result<Option<String>, AllocError> {
+    let before = n.saturating_sub(1);
+    let last = moment_at(conn, before);
+    let Some(moment) = moment_at(conn, n) else {
+        let line = format!(in alloc; "row {n}: no item has this number and a moment")?;
+        return Ok(Some(line));
+    };
+    let line = match last {
+        Some(last) => falling_line(alloc, n, before, moment < last)?,
+        None => first_line(alloc, n, before)?,
+    };
+    Ok(Some(line))
+}
+
+/// A line on a row behind another.
+fn falling_line(alloc: Global, n: i64, before: i64, falls: bool) -> Result<String, AllocError> {
+    if falls {
+        format!(in alloc; "row {n}: its moment is before that of row {before}")
+    } else {
+        other_line(alloc, n)
+    }
+}
+
+/// A line on a row with none before it.
+fn first_line(alloc: Global, n: i64, before: i64) -> Result<String, AllocError> {
+    if n <= 1 {
+        other_line(alloc, n)
+    } else {
+        format!(in alloc; "row {n}: there is no row {before} before it")
+    }
+}
+
+fn other_line(alloc: Global, n: i64) -> Result<String, AllocError> {
+    format!(in alloc; "row {n}: its n, who, number, era, moment or text is none that a venue keeps")
+}

@@ -1,0 +1,5 @@
+pub mod RowByRow
+pub mod OwedMessages
+pub mod Pictures
+pub mod Firsts
+pub mod Waiting
