@@ -1,1 +1,3 @@
 pub mod Link
+pub mod Endings
+pub mod Events

@@ -21,6 +21,9 @@ const MAX_WAITING: usize = 65_536;
 /// hands a message on, while the worker has nothing to do.
 const MAX_GIVEN: usize = 256;
 
+/// The count of bytes that the system is asked for: the capacity of std's `BufReader`.
+pub(crate) const READ_AHEAD: usize = 8_192;
+
 /// A connection between its input and its output. One system call reads what many turns are given. Written bytes may
 /// wait, so that one call takes them with those written later.
 pub struct Connection<I: Read, O: Write> {
@@ -72,6 +75,25 @@ impl<I: Read, O: Write> Connection<I, O> {
         ensures not_ahead { result ≡ false → self.now.ahead ≡ [] }
     {
         !self.input.buffer().is_empty()
+    }
+
+    /// What is written to.
+    pub fn output(&self) -> &O {
+        &self.output
+    }
+
+    /// The count of bytes that wait.
+    pub fn waiting_len(&self) -> usize
+        ensures { result ≡ length self.now.waiting }
+    {
+        self.waiting.len()
+    }
+
+    /// The count of bytes that are held and were read ahead.
+    pub fn ahead_len(&self) -> usize
+        ensures { result ≡ length self.now.ahead }
+    {
+        self.input.buffer().len()
     }
 
     /// Gives 1 to 256 bytes, and none only where none are held: the first of those read ahead; asks the system only

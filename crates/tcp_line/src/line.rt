@@ -3,7 +3,7 @@ ghost use Rattle.std.specs.Prelude.{◌≡◌, ◌≢◌, ◌^◌, ◌-◌, [], 
 ghost use Rattle.gateway.specs.Said.{IsWithin, Accepted, Gave, Took, Broke_off, given, faults_in};
 ghost use Rattle.tcp_line.specs.Link.{GivesAhead, HasFlushed, HasRead};
 
-use crate::connection::Connection;
+use crate::connection::{Connection, READ_AHEAD};
 use crate::dirty_flag::DirtyFlag;
 use crate::line_log::{LineLog, past_of};
 use gateway::line::{Accept, Line, LineFault, Read};
@@ -12,23 +12,32 @@ use gateway::piece::{Given, Piece, READ_SIZE};
 use mio::unix::SourceFd;
 use mio::{Interest, Registry, Token};
 use std::alloc::Global;
-use std::io;
 use std::io::ErrorKind;
-use std::net::{TcpListener, TcpStream};
+use std::net::{Shutdown, TcpListener, TcpStream};
 use std::os::fd::AsRawFd;
 use std::sync::{Arc, Wait};
-use std::time::Clock;
+use std::time::{Clock, Duration};
+use std::{io, thread};
 
 /// The tokens of the two sockets in the poll of a session's thread.
 const LISTENER_TOKEN: Token = Token(1);
 
 const STREAM_TOKEN: Token = Token(2);
 
+/// The greatest count of looks at a peer that was sent the end of the stream, and the pause between two, in
+/// milliseconds: half a second in all.
+const MAX_LOOKS: u64 = 100;
+
+const LOOK_PAUSE: u64 = 5;
+
 /// A line whose peer connects to a listener: one connection after another, and a new one ends the last.
 pub struct TcpLine<T> {
     alloc: Global,
     clock: T,
-    listener: TcpListener,
+    /// None once the port is closed.
+    listener: Option<TcpListener>,
+    /// The next connection, where it came while this one was up.
+    next: Option<TcpStream>,
     connection: Option<Connection<TcpStream, TcpStream>>,
     registry: Registry,
     activity: Arc<DirtyFlag>,
@@ -42,6 +51,7 @@ impl<T: Drop> Drop for TcpLine<T> {
             alloc: _alloc,
             clock: _clock,
             listener: _listener,
+            next: _next,
             connection: _connection,
             registry: _registry,
             activity: _activity,
@@ -72,7 +82,8 @@ impl<T: Clock + Drop> TcpLine<T> {
         Ok(TcpLine {
             alloc,
             clock,
-            listener,
+            listener: Some(listener),
+            next: None,
             connection: None,
             registry,
             activity,
@@ -91,16 +102,109 @@ impl<T: Clock + Drop> TcpLine<T> {
         }
     }
 
-    // Takes the next connection that waits at the listener.
+    /// Gives the system what waits, and keeps the connection where it took that. Whether it did.
+    pub(crate) fn give_waiting(&mut self) -> bool
+        ensures same { self.new.log ≡ self.old.log }
+    {
+        let is_given = match &mut self.connection {
+            None => false,
+            Some(connection) => connection.flush(&self.clock).is_ok(),
+        };
+        if !is_given {
+            drop(self.connection.take());
+        }
+        is_given
+    }
+
+    /// Ends the connection: gives the system what waits, sends the end of the stream, and passes over what still comes,
+    /// since a socket that is dropped with bytes unread resets the connection and loses what is under way. The count of
+    /// bytes passed over.
+    pub(crate) fn end(&mut self) -> u64
+        ensures same { self.new.log ≡ self.old.log }
+        ensures gone { self.new.connection ≡ None }
+    {
+        let Some(mut connection) = self.connection.take() else {
+            return 0;
+        };
+        match connection.flush(&self.clock) {
+            Err(_) => 0,
+            Ok(()) => drain(&self.clock, connection),
+        }
+    }
+
+    /// Ends the connection, and closes the port.
+    pub(crate) fn shut(&mut self) -> u64
+        ensures same { self.new.log ≡ self.old.log }
+        ensures gone { self.new.connection ≡ None }
+    {
+        let passed_over = self.end();
+        self.next = None;
+        self.listener = None;
+        passed_over
+    }
+
+    /// Another connection that waits at the listener, while this one is up.
+    pub(crate) fn take_second(&self) -> Option<TcpStream> {
+        match &self.listener {
+            None => None,
+            Some(listener) => match listener.accept() {
+                Ok((stream, _)) => Some(stream),
+                Err(_) => None,
+            },
+        }
+    }
+
+    /// Has this connection be the next.
+    pub(crate) fn set_next(&mut self, stream: TcpStream)
+        ensures same { self.new.log ≡ self.old.log }
+    {
+        self.next = Some(stream);
+    }
+
+    /// Whether bytes are held that were read ahead.
+    pub(crate) fn is_ahead(&self) -> bool {
+        match &self.connection {
+            None => false,
+            Some(connection) => connection.is_ahead(),
+        }
+    }
+
+    /// The count of bytes that wait.
+    pub(crate) fn waiting_len(&self) -> usize {
+        match &self.connection {
+            None => 0,
+            Some(connection) => connection.waiting_len(),
+        }
+    }
+
+    // Takes the connection that came before, or the next that waits at the listener.
+    fn next_stream(&mut self) -> io::Result<TcpStream>
+        ensures same { self.new.log ≡ self.old.log }
+        ensures kept { self.new.connection ≡ self.old.connection }
+    {
+        if let Some(stream) = self.next.take() {
+            return Ok(stream);
+        }
+        match &self.listener {
+            None => Err(io::Error::from(ErrorKind::WouldBlock)),
+            Some(listener) => match listener.accept() {
+                Ok((stream, _)) => Ok(stream),
+                Err(error) => Err(error),
+            },
+        }
+    }
+
+    // Takes the next connection.
     fn next_connection(&mut self) -> Accept
         ensures over { result ≢ Accept.Over }
         ensures same { self.new.log ≡ self.old.log }
         ensures kept { result ≢ Accept.Up → self.new.connection ≡ self.old.connection }
     {
-        match self.listener.accept() {
-            Ok((stream, _)) => match self.prepare(stream) {
+        match self.next_stream() {
+            Ok(stream) => match self.prepare(stream) {
                 Ok(connection) => {
                     self.connection = Some(connection);
+                    self.activity.begin();
                     Accept::Up
                 }
                 Err(_) => Accept::Fault,
@@ -124,8 +228,8 @@ impl<T: Clock + Drop> TcpLine<T> {
         Connection::new(self.alloc, stream, output)
     }
 
-    // Ends the connection, if any, and takes the next.
-    fn change(&mut self) -> Accept
+    /// Ends the connection, if any, and takes the next.
+    pub(crate) fn change(&mut self) -> Accept
         ensures over { result ≢ Accept.Over }
         ensures same { self.new.log ≡ self.old.log }
         ensures gone { result ≢ Accept.Up → self.new.connection ≡ None }
@@ -136,8 +240,8 @@ impl<T: Clock + Drop> TcpLine<T> {
         self.next_connection()
     }
 
-    // Reads once. A connection that reported a fault is dropped.
-    fn receive(&mut self, buffer: &mut [u8; READ_SIZE]) -> Read
+    /// Reads once. A connection that reported a fault is dropped.
+    pub(crate) fn receive(&mut self, buffer: &mut [u8; READ_SIZE]) -> Read
         ensures within { IsWithin result }
         ensures same { self.new.log ≡ self.old.log }
         ensures gone { result ≡ Read.Fault → self.new.connection ≡ None }
@@ -146,6 +250,7 @@ impl<T: Clock + Drop> TcpLine<T> {
             None => Read::Fault,
             Some(connection) => receive_rest(connection, &self.clock, buffer),
         };
+        self.note_read(answer);
         match answer {
             Read::Fault => self.connection = None,
             Read::Got { count: _ } | Read::Quiet | Read::Ended => {}
@@ -153,8 +258,33 @@ impl<T: Clock + Drop> TcpLine<T> {
         answer
     }
 
-    // Whether the connection took all of these. One that did not is dropped.
-    fn has_taken(&mut self, bytes: &[u8]) -> bool
+    // Records for the gate what a read left. (One that was quiet gave the system all that waited; one that gave bytes
+    // may have more, or makes the session write.)
+    fn note_read(&self, answer: Read) {
+        match answer {
+            Read::Got { count } => self.note_bytes(count),
+            Read::Quiet => self.activity.clear(),
+            Read::Ended | Read::Fault => self.activity.note(),
+        }
+    }
+
+    // Records for the gate what a read of this many bytes left. (Where the system gave less than it was asked for, it
+    // has no more, and reports what comes later.)
+    fn note_bytes(&self, count: usize) {
+        let held = match &self.connection {
+            None => 0,
+            Some(connection) => connection.ahead_len(),
+        };
+        let was_asked = !self.activity.is_ahead();
+        if was_asked {
+            self.activity.set_batch(held > 0);
+        }
+        let is_drained = was_asked && held == 0 && count < READ_AHEAD;
+        self.activity.set_read(held > 0, is_drained);
+    }
+
+    /// Whether the connection took all of these. One that did not is dropped.
+    pub(crate) fn has_taken(&mut self, bytes: &[u8]) -> bool
         ensures same { self.new.log ≡ self.old.log }
         ensures gone { result ≡ false → self.new.connection ≡ None }
     {
@@ -167,6 +297,24 @@ impl<T: Clock + Drop> TcpLine<T> {
         }
         has_taken
     }
+}
+
+// Sends the end of the stream, and passes over what still comes until the peer ends too, for half a second at most. The
+// count of bytes passed over.
+fn drain<T: Clock>(clock: &T, mut connection: Connection<TcpStream, TcpStream>) -> u64 {
+    let mut passed_over: u64 = 0;
+    if connection.output().shutdown(Shutdown::Write).is_err() {
+        return passed_over;
+    }
+    let mut buffer = [0; READ_SIZE];
+    for _ in 0..MAX_LOOKS {
+        match connection.read(&mut buffer) {
+            Read::Got { count } => passed_over = passed_over.saturating_add(count as u64),
+            Read::Quiet => thread::sleep(clock, Duration::from_millis(LOOK_PAUSE)),
+            Read::Ended | Read::Fault => return passed_over,
+        }
+    }
+    passed_over
 }
 
 // Reads once. What waits is given to the system before it is asked to read, but only once all that was read ahead is
@@ -201,9 +349,10 @@ impl<T: Clock + Drop> Line for TcpLine<T> {
         ensures gone { result ≢ Accept.Up → self.new.connection ≡ None }
     {
         let answer = self.change();
+        // (After a fault the listener is asked again once something comes, or after the longest wait.)
         match answer {
-            Accept::Quiet => {}
-            Accept::Up | Accept::Over | Accept::Fault => self.activity.note(),
+            Accept::Up | Accept::Over => self.activity.note(),
+            Accept::Quiet | Accept::Fault => self.activity.clear(),
         }
         self.log.note(LineEvent::Accepted { answer });
         answer
@@ -223,11 +372,6 @@ impl<T: Clock + Drop> Line for TcpLine<T> {
             Read::Ended => Given::Ended,
             Read::Fault => Given::Fault,
         };
-        // (Notes bytes that were read ahead too: a gate does not wait after a read that gave bytes.)
-        match given {
-            Given::Quiet => {}
-            _ => self.activity.note(),
-        }
         self.log.note(LineEvent::Gave { given });
         answer
     }
@@ -248,5 +392,9 @@ impl<T: Clock + Drop> Line for TcpLine<T> {
 
     fn faults(&self) -> u64 {
         self.log.faults()
+    }
+
+    fn leave(&mut self) {
+        let _ = self.shut();
     }
 }

@@ -1,13 +1,18 @@
 //! The lines, gates and clocks of a venue, joined by their wakers.
 ghost use Rattle.std.specs.Prelude.{◌≡◌, ◌≤◌, ◌<◌, ◌+◌, ◌^◌, IfOk, length};
 
-use crate::clocks::{SystemClock, WorkerClock};
+use crate::clocks::{SystemClock, VenueShare, WorkerClock};
 use crate::dirty_flag::DirtyFlag;
-use crate::gate::TcpGate;
+use crate::events::{EventReceiver, EventSender, event_ring};
+use crate::gate::{GateShare, TcpGate};
 use crate::line::TcpLine;
-use crate::waker::{IdleWait, SpinLimits, ThreadWaker};
+use crate::line_watch::LineWatch;
+use crate::served_line::{ServedLine, Shared};
+use crate::session_wakers::SessionWakers;
+use crate::stop::{Stop, StopSource};
+use crate::waker::{AwakeThreads, IdleWait};
 use sef_moment::Moment;
-use std::alloc::{AllocError, Global};
+use std::alloc::Global;
 use std::io;
 use std::net::{Net, TcpListener, TcpStream};
 use std::sync::Arc;
@@ -15,60 +20,102 @@ use std::thread::Threads;
 use std::time::Clock;
 
 /// The outside of a session's thread.
-pub type SessionIo<T> = (TcpLine<T>, SystemClock<T>, TcpGate);
+pub type SessionIo<T> = (ServedLine<T>, SystemClock<T>, TcpGate);
 
 /// The outside of a venue's threads.
 #[derive(Drop)]
-pub struct VenueIo<T> {
+pub struct VenueIo<T, S> {
     /// One for each participant, in order.
     pub sessions: Vec<SessionIo<T>>,
-    pub worker: WorkerClock<T>,
+    pub worker: WorkerClock<T, S>,
+    /// The events of each participant, in order, and then of the venue.
+    pub events: Vec<EventReceiver>,
 }
 
-/// Opens a line for each participant, the first one at this port of 127.0.0.1 and each other at the next, and joins
-/// them with the worker's clock by wakers.
-pub fn open_lines<
-    R: Net<Listener = TcpListener, Stream = TcpStream> + Threads,
-    T: Clock + Copy + Drop,
->(rt: &R, alloc: Global, clock: T, port: u16, count: u16) -> io::Result<VenueIo<T>>
-    requires ports { port + count ≤ 2 ^ 16 }
-    ensures count { IfOk result (λ opened. length opened.sessions.items ≡ count) }
-{
-    let spins = SpinLimits::of(rt);
-    let start = Moment::of_ms(0).unwrap();
-    let at_worker = IdleWait::new(rt, alloc, spins.worker)?;
-    let mut sessions = Vec::with_capacity(alloc, count as usize)?;
-    let mut wakers = Vec::with_capacity(alloc, count as usize)?;
-    for k in 0..count {
-        let (outside, thread_waker) = open_line(
-            rt,
-            alloc,
-            clock,
-            port + k,
-            spins.session,
-            at_worker.thread_waker()?,
-        )?;
-        sessions.push(outside)?;
-        wakers.push(thread_waker)?;
-    }
-    Ok(VenueIo {
-        sessions,
-        worker: WorkerClock::new(SystemClock::from(clock, start), at_worker, wakers),
+// What the lines of a venue share.
+#[derive(Drop)]
+struct Common {
+    awake: Arc<AwakeThreads>,
+    stop: Arc<Stop>,
+    worker: IdleWait,
+}
+
+fn make_common<R: Net + Threads>(rt: &R, alloc: Global, count: u16) -> io::Result<Common> {
+    let awake = Arc::new(alloc, AwakeThreads::new(rt, u64::from(count) + 1))?;
+    let worker = IdleWait::of_worker(rt, alloc, Arc::try_clone(&awake)?)?;
+    Ok(Common {
+        awake,
+        stop: Arc::new(alloc, Stop::new())?,
+        worker,
     })
 }
 
-// The line at a port, with the gate and the clock of its session, and the session's waker for the worker.
+/// Opens a line for each participant, the first one at this port of 127.0.0.1 and each other at the next, and joins
+/// them with the worker's clock by wakers. The venue stops where the source asks.
+pub fn open_lines<
+    R: Net<Listener = TcpListener, Stream = TcpStream> + Threads,
+    T: Clock + Copy + Drop,
+    S: StopSource + Drop,
+>(rt: &R, alloc: Global, clock: T, port: u16, count: u16, source: S) -> io::Result<VenueIo<T, S>>
+    requires ports { port + count ≤ 2 ^ 16 }
+    ensures count { IfOk result (λ opened. length opened.sessions.items ≡ count) }
+{
+    let common = make_common(rt, alloc, count)?;
+    let mut sessions = Vec::with_capacity(alloc, count as usize)?;
+    let mut receivers = Vec::with_capacity(alloc, count as usize + 1)?;
+    let mut wakers = SessionWakers::new(alloc, common.awake.processors());
+    for k in 0..count {
+        let (sender, receiver) = event_ring(alloc)?;
+        receivers.push(receiver)?;
+        let sleeper = IdleWait::of_session(rt, alloc, Arc::try_clone(&common.awake)?)?;
+        let thread_waker = sleeper.thread_waker()?;
+        wakers.add(thread_waker)?;
+        let outside = open_line(rt, alloc, clock, port + k, &common, sleeper, sender)?;
+        sessions.push(outside)?;
+    }
+    let (sender, receiver) = event_ring(alloc)?;
+    receivers.push(receiver)?;
+    Ok(VenueIo {
+        sessions,
+        worker: worker_clock(clock, common, wakers, source, sender),
+        events: receivers,
+    })
+}
+
+// The clock of the worker.
+fn worker_clock<T: Clock + Copy + Drop, S: StopSource + Drop>(
+    clock: T,
+    common: Common,
+    wakers: SessionWakers,
+    source: S,
+    events: EventSender,
+) -> WorkerClock<T, S> {
+    let Common {
+        awake: _,
+        stop,
+        worker,
+    } = common;
+    let own = SystemClock::from(clock, Moment::of_ms(0).unwrap());
+    let share = VenueShare {
+        source,
+        stop,
+        events,
+    };
+    WorkerClock::new(own, clock, worker, wakers, share)
+}
+
+// The line at a port, with the gate and the clock of its session.
 fn open_line<R: Net<Listener = TcpListener, Stream = TcpStream>, T: Clock + Copy + Drop>(
     rt: &R,
     alloc: Global,
     clock: T,
     port: u16,
-    spins: u64,
-    worker: Arc<ThreadWaker>,
-) -> io::Result<(SessionIo<T>, Arc<ThreadWaker>)> {
-    let sleeper = IdleWait::new(rt, alloc, spins)?;
-    let thread_waker = sleeper.thread_waker()?;
+    common: &Common,
+    sleeper: IdleWait,
+    events: EventSender,
+) -> io::Result<SessionIo<T>> {
     let activity = Arc::new(alloc, DirtyFlag::new())?;
+    let watch = Arc::new(alloc, LineWatch::new())?;
     let listener = TcpListener::bind(rt, ("127.0.0.1", port))?;
     let line = TcpLine::new(
         alloc,
@@ -77,7 +124,20 @@ fn open_line<R: Net<Listener = TcpListener, Stream = TcpStream>, T: Clock + Copy
         sleeper.registry()?,
         Arc::try_clone(&activity)?,
     )?;
-    let gate = TcpGate::new(sleeper, worker, activity);
+    let shared = Shared {
+        stop: Arc::try_clone(&common.stop)?,
+        watch: Arc::try_clone(&watch)?,
+        activity: Arc::try_clone(&activity)?,
+        counts: events.counts()?,
+    };
+    let share = GateShare {
+        worker: common.worker.thread_waker()?,
+        line: activity,
+        watch,
+        stop: Arc::try_clone(&common.stop)?,
+    };
+    let served = ServedLine::new(line, clock, shared);
+    let gate = TcpGate::new(sleeper, share, events);
     let own = SystemClock::from(clock, Moment::of_ms(0).unwrap());
-    Ok(((line, own, gate), thread_waker))
+    Ok((served, own, gate))
 }

@@ -3,6 +3,7 @@
 use crate::failure::Failure;
 use crate::files::Paths;
 use crate::once::OnceFault;
+use crate::operation::Operation;
 use crate::service::Service;
 use clap::error::ErrorKind;
 use clap::{Arg, ArgAction, ArgMatches, Command, Error};
@@ -18,11 +19,13 @@ pub enum Task {
         paths: Paths,
         at: Moment,
     },
-    /// `serve --participants FILE --instruments FILE --port P --turns N`, with or without `--trail FILE`
+    /// `serve --participants FILE --instruments FILE --port P --turns N`, with or without `--trail FILE`,
+    /// `--stop-file FILE`, `--until-eof`, `--metrics FILE`
     Serve {
         paths: Paths,
         service: Service,
         trail: Option<String>,
+        operation: Operation,
     },
     /// `check --participants FILE --instruments FILE`
     Check {
@@ -74,8 +77,9 @@ docs/CONNECT.md has the settings of a client's engine, docs/PROTOCOL.md each mes
 const EXAMPLE_OF_SERVE: &str = "Example:
   venue_main serve --participants participants.toml --instruments instruments.toml --port 7000 --turns 1000000000 --trail day.trail
 
-Standard error has each participant's name and port. A trail that is there is gone on with; without one the rows stay in memory. The
-venue ends once each thread has made its turns; a turn in which there is nothing to do waits 100 ms at most.";
+Standard error has each participant's name and port, and then a line for each event. A trail that is there is gone on with; without one
+the rows stay in memory. The venue ends once --stop-file exists, standard input ends (--until-eof), or each thread has made its turns: one
+for each message, and ten a second while idle.";
 
 /// A required argument with one value.
 fn needed<'a>(alloc: Global, name: &'a str, value: &'a str, help: &'a str) -> Arg<'a> {
@@ -116,13 +120,61 @@ fn command_on_files<'a>(
     with_needed(alloc, command, "instruments", "FILE", "The instrument file")
 }
 
-fn with_trail<'a>(alloc: Global, command: Command<'a>) -> Result<Command<'a>, AllocError> {
-    let trail = Arg::new(alloc, "trail")
-        .long("trail")
+/// A command with a further argument that may be absent, a path.
+fn with_file<'a>(
+    alloc: Global,
+    command: Command<'a>,
+    name: &'a str,
+    help: &'a str,
+) -> Result<Command<'a>, AllocError> {
+    let file = Arg::new(alloc, name)
+        .long(name)
         .value_name("FILE")
-        .help("The file that keeps the rows, where they are to be kept")
+        .help(help)
         .action(ArgAction::Set);
-    command.arg(trail)
+    command.arg(file)
+}
+
+/// A command with a further argument without a value.
+fn with_flag<'a>(
+    alloc: Global,
+    command: Command<'a>,
+    name: &'a str,
+    help: &'a str,
+) -> Result<Command<'a>, AllocError> {
+    let flag = Arg::new(alloc, name)
+        .long(name)
+        .help(help)
+        .action(ArgAction::SetTrue);
+    command.arg(flag)
+}
+
+/// The command that serves, with the arguments that may be absent.
+fn with_operation<'a>(alloc: Global, serve: Command<'a>) -> Result<Command<'a>, AllocError> {
+    let serve = with_file(
+        alloc,
+        serve,
+        "trail",
+        "The file that keeps the rows, where they are to be kept",
+    )?;
+    let serve = with_file(
+        alloc,
+        serve,
+        "stop-file",
+        "Ends the venue once this file exists",
+    )?;
+    let serve = with_flag(
+        alloc,
+        serve,
+        "until-eof",
+        "Ends the venue at the end of standard input, which is not read otherwise",
+    )?;
+    with_file(
+        alloc,
+        serve,
+        "metrics",
+        "The file of counters, for node_exporter, replaced each minute and at the end",
+    )
 }
 
 /// The command that serves the participants.
@@ -146,7 +198,7 @@ fn command_of_serve<'a>(alloc: Global) -> Result<Command<'a>, AllocError> {
         "N",
         "How many turns each thread makes, from 1 to 1000000000",
     )?;
-    with_trail(alloc, serve)
+    with_operation(alloc, serve)
 }
 
 /// The command that answers one stream.
@@ -238,16 +290,32 @@ fn serve_in(alloc: Global, given: &ArgMatches<'_>) -> Result<Option<Task>, Alloc
     let Some(paths) = paths_in(alloc, given)? else {
         return Ok(None);
     };
-    let trail = trail_in(alloc, given)?;
+    let trail = path_in(alloc, given, "trail")?;
+    let operation = operation_in(alloc, given)?;
     Ok(Some(Task::Serve {
         paths,
         service,
         trail,
+        operation,
     }))
 }
 
-fn trail_in(alloc: Global, given: &ArgMatches<'_>) -> Result<Option<String>, AllocError> {
-    match given.get_str("trail") {
+fn operation_in(alloc: Global, given: &ArgMatches<'_>) -> Result<Operation, AllocError> {
+    let stop_file = path_in(alloc, given, "stop-file")?;
+    let metrics = path_in(alloc, given, "metrics")?;
+    Ok(Operation {
+        stop_file,
+        metrics,
+        until_eof: given.get_flag("until-eof"),
+    })
+}
+
+fn path_in(
+    alloc: Global,
+    given: &ArgMatches<'_>,
+    name: &str,
+) -> Result<Option<String>, AllocError> {
+    match given.get_str(name) {
         Some(path) => Ok(Some(String::from_str(alloc, path)?)),
         None => Ok(None),
     }

@@ -6,12 +6,16 @@ mod command_line;
 mod failure;
 mod files;
 mod market;
+mod metrics_file;
 mod once;
+mod operation;
 mod recording;
+mod reporting;
 mod serve;
 mod serve_request;
 mod service;
 mod serving;
+mod stopping;
 mod trail_file;
 
 use audit_trail::Files;
@@ -20,8 +24,11 @@ use command_line::{Task, task_given};
 pub use failure::Failure;
 use files::{Texts, texts_at};
 pub use market::{FilesFault, Market};
+pub use metrics_file::{MetricsFile, MetricsSink};
 pub use once::{OnceFault, once};
+use operation::Operation;
 pub use recording::serve_recorded;
+pub use reporting::Operator;
 use sef_moment::Moment;
 pub use serve::{ServeFault, emit_closed, serve};
 use serve_request::{ServeRequest, StoredTrail, asked_for};
@@ -29,11 +36,15 @@ use service::Service;
 use sqlite::{Alter, Connection};
 use std::alloc::Global;
 use std::io::{Read, Write};
+use std::mem::drop;
 use std::net::{Net, TcpListener, TcpStream};
 use std::process::ExitCode;
+use std::rt::Files as SystemFiles;
 use std::sync::Wait;
 use std::thread::Threads;
 use std::time::Clock;
+use stopping::{StopWatch, watch_input};
+use tcp_line::StopSource;
 use trail_file::close_trail;
 
 // What follows is generic and without contracts: so a proof of `run` or `main`, its callers, needs nothing of what the
@@ -69,18 +80,21 @@ fn serve_market<
         + Sync
         + Clock
         + Copy
-        + Drop,
-    N: Write,
+        + Drop
+        + 'static,
+    E: StopSource + Drop,
+    N: Write + Send + Drop + 'static,
+    M: MetricsSink + Send + Drop + 'static,
     W: Write,
 >(
     rt: &R,
     alloc: Global,
     market: Market,
     service: Service,
-    notes: &mut N,
+    operator: Operator<E, N, M>,
     output: &mut W,
 ) -> Result<(), Failure> {
-    Ok(serve(rt, alloc, market, service, notes, output)?)
+    Ok(serve(rt, alloc, market, service, operator, output)?)
 }
 
 fn serve_trail<
@@ -91,9 +105,12 @@ fn serve_trail<
         + Sync
         + Clock
         + Copy
-        + Drop,
+        + Drop
+        + 'static,
     S: Alter + Drop,
-    N: Write,
+    E: StopSource + Drop,
+    N: Write + Send + Drop + 'static,
+    M: MetricsSink + Send + Drop + 'static,
     W: Write,
 >(
     rt: &R,
@@ -102,12 +119,42 @@ fn serve_trail<
     files: Files,
     market: Market,
     service: Service,
-    notes: &mut N,
+    operator: Operator<E, N, M>,
     output: &mut W,
 ) -> Result<Connection<S>, Failure> {
-    let served = serve_recorded(rt, alloc, conn, &files, market, service, notes, output);
+    let served = serve_recorded(rt, alloc, conn, &files, market, service, operator, output);
     drop(files);
     served
+}
+
+/// What stops a venue, and where its events and counters are written.
+fn operator_of<
+    R: SystemFiles + Threads + Clock + Copy + Send + Drop + 'static,
+    I: Read + Send + Drop + 'static,
+    N: Write + Drop,
+>(
+    rt: &R,
+    alloc: Global,
+    operation: Operation,
+    input: I,
+    notes: N,
+) -> Result<Operator<StopWatch<R>, N, MetricsFile<R>>, ServeFault> {
+    let Operation {
+        stop_file,
+        metrics,
+        until_eof,
+    } = operation;
+    let metrics = MetricsFile::new(*rt, alloc, metrics)?;
+    let ended = if until_eof {
+        Some(watch_input(rt, alloc, *rt, input)?)
+    } else {
+        None
+    };
+    Ok(Operator {
+        stop: StopWatch::new(*rt, stop_file, ended),
+        notes,
+        metrics,
+    })
 }
 
 /// Runs the command. A venue to serve is handed back, since `main` alone may start threads.
@@ -127,8 +174,9 @@ fn run(rt: &HostRuntime) -> Result<Option<ServeRequest>, Failure> {
             paths,
             service,
             trail,
+            operation,
         } => {
-            let asked = asked_for(rt, texts_at(rt, &paths)?, service, trail)?;
+            let asked = asked_for(rt, texts_at(rt, &paths)?, service, trail, operation)?;
             return Ok(Some(asked));
         }
         Task::Help => {}
@@ -144,30 +192,31 @@ fn main(rt: HostRuntime) -> ExitCode {
                     market,
                     service,
                     kept,
+                    operation,
                 },
             ),
-        ) => match kept {
-            Some(StoredTrail { conn, files }) => match serve_trail(
-                &rt,
-                rt.alloc(),
-                conn,
-                files,
-                market,
-                service,
-                &mut rt.stderr(),
-                &mut rt.stdout(),
-            ) {
-                Ok(conn) => close_trail(conn),
-                Err(failure) => Err(failure),
+        ) => match operator_of(&rt, rt.alloc(), operation, rt.stdin(), rt.stderr()) {
+            Ok(operator) => match kept {
+                Some(StoredTrail { conn, files }) => match serve_trail(
+                    &rt,
+                    rt.alloc(),
+                    conn,
+                    files,
+                    market,
+                    service,
+                    operator,
+                    &mut rt.stdout(),
+                ) {
+                    Ok(conn) => close_trail(conn),
+                    Err(failure) => Err(failure),
+                },
+                None => serve_market(&rt, rt.alloc(), market, service, operator, &mut rt.stdout()),
             },
-            None => serve_market(
-                &rt,
-                rt.alloc(),
-                market,
-                service,
-                &mut rt.stderr(),
-                &mut rt.stdout(),
-            ),
+            Err(fault) => {
+                drop(market);
+                drop(kept);
+                Err(Failure::Served(fault))
+            }
         },
         Ok(None) => Ok(()),
         Err(failure) => Err(failure),

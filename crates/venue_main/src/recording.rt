@@ -15,6 +15,8 @@ ghost use Rattle.venue_main.specs.declared.serve.ServeFault.TheVariants.{Output}
 
 use crate::failure::Failure;
 use crate::market::Market;
+use crate::metrics_file::MetricsSink;
+use crate::reporting::Operator;
 use crate::serve::{ServeFault, messages_in, write_counts};
 use crate::service::Service;
 use crate::serving::{keeper_of, serve_over};
@@ -29,7 +31,7 @@ use std::net::{Net, TcpListener, TcpStream};
 use std::sync::Wait;
 use std::thread::Threads;
 use std::time::Clock;
-use tcp_line::TcpLine;
+use tcp_line::{ServedLine, StopSource};
 use trail_journal::{Journal, start_trail};
 use venue_core::Venue;
 use venue_rules::TrailFault;
@@ -46,9 +48,12 @@ pub fn serve_recorded<
         + Sync
         + Clock
         + Copy
-        + Drop,
+        + Drop
+        + 'static,
     S: Alter + Drop,
-    N: Write,
+    E: StopSource + Drop,
+    N: Write + Send + Drop + 'static,
+    M: MetricsSink + Send + Drop + 'static,
     W: Write,
 >(
     rt: &R,
@@ -57,7 +62,7 @@ pub fn serve_recorded<
     files: &Files,
     market: Market,
     service: Service,
-    notes: &mut N,
+    operator: Operator<E, N, M>,
     output: &mut W,
 ) -> Result<Connection<S>, Failure>
     ensures emitted { IfOk result (λ back. HasRecorded S.Store service.turns (record { participants = market.participants; instruments = market.instruments }) files.now (state S.Store conn) (state S.Store back) (W.contents output.old) (W.contents output.new)) }
@@ -65,7 +70,7 @@ pub fn serve_recorded<
     ensures fault { IfErr result IsRecordingFailure }
 {
     let (journal, venue) = begin(alloc, conn, files, market)?;
-    let closed = match serve_journal(rt, alloc, *rt, journal, venue, service, notes) {
+    let closed = match serve_journal(rt, alloc, *rt, journal, venue, service, operator) {
         Ok(closed) => closed,
         Err(fault) => return Err(Failure::Served(fault)),
     };
@@ -121,9 +126,11 @@ fn refusal_of<S: Alter + Drop>(fault: TrailFault, conn: Connection<S>) -> Failur
 /// Serves a venue from where the rows of a journal lead.
 fn serve_journal<
     R: Net<Listener = TcpListener, Stream = TcpStream> + Threads + Wait + Sync,
-    T: Clock + Copy + Send + Drop,
+    T: Clock + Copy + Send + Drop + 'static,
     S: Alter + Drop,
-    N: Write,
+    E: StopSource + Drop,
+    N: Write + Send + Drop + 'static,
+    M: MetricsSink + Send + Drop + 'static,
 >(
     rt: &R,
     alloc: Global,
@@ -131,13 +138,13 @@ fn serve_journal<
     journal: Journal<S>,
     venue: Venue,
     service: Service,
-    notes: &mut N,
-) -> Result<Closed<TcpLine<T>, Journal<S>>, ServeFault>
+    operator: Operator<E, N, M>,
+) -> Result<Closed<ServedLine<T>, Journal<S>>, ServeFault>
     requires leads { LeadsTo journal.rows venue }
     ensures served { IfOk result (λ c. HasServed service.turns venue.market journal.rows (closing (map (λ s. s.state) c.sessions.items) (map (λ l. l.log) c.lines.items) c.left.items c.replies_left.items c.queues.items (standing c.venue.day) c.keeper.rows true)) }
     ensures fault { IfErr result (λ fault. fault ≢ Output) }
 {
-    serve_over(rt, alloc, clock, venue, journal, service, notes)
+    serve_over(rt, alloc, clock, venue, journal, service, operator)
 }
 
 /// Reads the rows back, and writes how many sessions were served and how many of the rows are messages.

@@ -10,6 +10,8 @@ ghost use Rattle.venue_main.specs.Failures.{run_fault};
 ghost use Rattle.venue_main.specs.declared.serve.ServeFault.TheVariants.{Memory, Output};
 
 use crate::market::Market;
+use crate::metrics_file::MetricsSink;
+use crate::reporting::Operator;
 use crate::service::Service;
 use crate::serving::{keeper_of, serve_over};
 use gateway::closing::Closed;
@@ -21,7 +23,7 @@ use std::net::{Net, TcpListener, TcpStream};
 use std::sync::Wait;
 use std::thread::Threads;
 use std::time::Clock;
-use tcp_line::TcpLine;
+use tcp_line::{ServedLine, StopSource};
 use thiserror::Error;
 use venue_core::Venue;
 use venue_rules::TrailRow;
@@ -68,9 +70,10 @@ impl From<RunFault> for ServeFault {
 }
 
 /// Serves each participant of a market over TCP: the k-th of its file, from 0, at 127.0.0.1 and k ports past the first.
-/// Writes who listens where to `notes`, once all do; as the venue closes, writes the counts of its sessions and of the
-/// messages taken to `output`. Each session's thread makes the given turns, and so does the worker; an idle turn waits
-/// for 100 ms at most. The rows of the trail are in memory.
+/// Writes who listens where to the operator's notes, once all do, and then its events; as the venue closes, writes the
+/// counts of its sessions and of the messages taken to `output`. It closes once the operator's source asks for it, or
+/// each session's thread and the worker made the given turns; an idle turn waits for 100 ms at most. The rows of the
+/// trail are in memory.
 pub fn serve<
     R: Net<Listener = TcpListener, Stream = TcpStream>
         + Threads
@@ -79,21 +82,24 @@ pub fn serve<
         + Sync
         + Clock
         + Copy
-        + Drop,
-    N: Write,
+        + Drop
+        + 'static,
+    E: StopSource + Drop,
+    N: Write + Send + Drop + 'static,
+    M: MetricsSink + Send + Drop + 'static,
     W: Write,
 >(
     rt: &R,
     alloc: Global,
     market: Market,
     service: Service,
-    notes: &mut N,
+    operator: Operator<E, N, M>,
     output: &mut W,
 ) -> Result<(), ServeFault>
     ensures emitted { OnOk result (EmitsClosed service.turns (record { participants = market.participants; instruments = market.instruments }) [] (W.contents output.old) (W.contents output.new)) }
     ensures silent { IfErr result (λ fault. UnlessWriting fault (Keeps (W.contents output.old) (W.contents output.new))) }
 {
-    let closed = serve_in_memory(rt, alloc, *rt, market, service, notes)?;
+    let closed = serve_in_memory(rt, alloc, *rt, market, service, operator)?;
     let emitted = emit_closed(&closed, output);
     drop(keeper_of(closed));
     match emitted {
@@ -105,22 +111,24 @@ pub fn serve<
 /// Serves a new venue of this market, with its rows in memory.
 fn serve_in_memory<
     R: Net<Listener = TcpListener, Stream = TcpStream> + Threads + Wait + Sync,
-    T: Clock + Copy + Send + Drop,
-    N: Write,
+    T: Clock + Copy + Send + Drop + 'static,
+    E: StopSource + Drop,
+    N: Write + Send + Drop + 'static,
+    M: MetricsSink + Send + Drop + 'static,
 >(
     rt: &R,
     alloc: Global,
     clock: T,
     market: Market,
     service: Service,
-    notes: &mut N,
-) -> Result<Closed<TcpLine<T>, ListTrail>, ServeFault>
+    operator: Operator<E, N, M>,
+) -> Result<Closed<ServedLine<T>, ListTrail>, ServeFault>
     ensures served { IfOk result (λ c. HasServed service.turns (record { participants = market.participants; instruments = market.instruments }) [] (closing (map (λ s. s.state) c.sessions.items) (map (λ l. l.log) c.lines.items) c.left.items c.replies_left.items c.queues.items (standing c.venue.day) c.keeper.rows true)) }
     ensures fault { IfErr result (λ fault. fault ≢ Output) }
 {
     let venue = Venue::open(alloc, market.participants, market.instruments)?;
     let trail = ListTrail::new(alloc);
-    serve_over(rt, alloc, clock, venue, trail, service, notes)
+    serve_over(rt, alloc, clock, venue, trail, service, operator)
 }
 
 /// Writes how many sessions were served, and how many messages were taken: `closed sessions 5 taken 2`.

@@ -6,6 +6,7 @@ ghost use Rattle.venue_main.specs.Check.{AreRead};
 use crate::failure::Failure;
 use crate::files::Texts;
 use crate::market::Market;
+use crate::operation::Operation;
 use crate::service::Service;
 use crate::trail_file::open_trail;
 use audit_trail::{FileText, Files};
@@ -17,6 +18,7 @@ pub struct ServeRequest {
     pub market: Market,
     pub service: Service,
     pub kept: Option<StoredTrail>,
+    pub operation: Operation,
 }
 
 /// The database for the rows of a venue, and the files that are stored with them.
@@ -32,10 +34,12 @@ pub fn asked_for(
     texts: Texts,
     service: Service,
     trail: Option<String>,
+    operation: Operation,
 ) -> Result<ServeRequest, Failure>
     ensures read { IfOk result (λ asked. AreRead texts.participants.items texts.instruments.items asked.market.participants asked.market.instruments) }
     ensures files { IfOk result (λ asked. IfSome asked.kept (λ kept. kept.files ≡ record { participants = texts.participants.items; instruments = texts.instruments.items })) }
     ensures service { IfOk result (λ asked. asked.service ≡ service) }
+    ensures operation { IfOk result (λ asked. asked.operation ≡ operation) }
 {
     let market = Market::read(rt.alloc(), &texts.participants, &texts.instruments)?;
     match kept_for(rt, texts, trail) {
@@ -43,6 +47,7 @@ pub fn asked_for(
             market,
             service,
             kept,
+            operation,
         }),
         Err(failure) => {
             drop(market);

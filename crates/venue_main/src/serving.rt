@@ -9,30 +9,38 @@ ghost use Rattle.venue_worker.specs.Inputs.{AreRising};
 ghost use Rattle.venue_main.specs.Serve.{HasServed};
 ghost use Rattle.venue_main.specs.declared.serve.ServeFault.TheVariants.{Output};
 
+use crate::metrics_file::MetricsSink;
+use crate::reporting::{Operator, Reporter, Reporting, end_reporting, log_of, start_reporting};
 use crate::serve::ServeFault;
 use crate::service::Service;
+use event_log::append;
 use gateway::closing::Closed;
 use gateway::threads::RunFault;
+use itoa::Buffer;
 use participants::{Participants, Who};
-use std::alloc::Global;
-use std::io::{self, ErrorKind, Write};
+use std::alloc::{AllocError, Global};
+use std::io::{ErrorKind, Write};
 use std::mem::drop;
 use std::net::{Net, TcpListener, TcpStream};
 use std::sync::Wait;
 use std::thread::Threads;
 use std::time::Clock;
-use tcp_line::{SessionIo, TcpLine, VenueIo, WorkerClock, open_lines};
+use tcp_line::{
+    EventReceiver, ServedLine, SessionIo, StopSource, VenueIo, WorkerClock, open_lines,
+};
 use venue_core::Venue;
 use venue_rules::Keep;
 use venue_runtime::run_venue;
 
 /// Opens a line for each participant, writes who listens where once all do, and runs the venue on these lines until it
-/// closes. What a counterparty has not read yet waits in its line.
+/// closes, with its events reported. What a counterparty has not read yet waits in its line.
 pub(crate) fn serve_over<
     R: Net<Listener = TcpListener, Stream = TcpStream> + Threads + Wait + Sync,
-    T: Clock + Copy + Send + Drop,
+    T: Clock + Copy + Send + Drop + 'static,
     K: Keep + Drop,
-    N: Write,
+    E: StopSource + Drop,
+    N: Write + Send + Drop + 'static,
+    M: MetricsSink + Send + Drop + 'static,
 >(
     rt: &R,
     alloc: Global,
@@ -40,8 +48,8 @@ pub(crate) fn serve_over<
     venue: Venue,
     keeper: K,
     service: Service,
-    notes: &mut N,
-) -> Result<Closed<TcpLine<T>, K>, ServeFault>
+    operator: Operator<E, N, M>,
+) -> Result<Closed<ServedLine<T>, K>, ServeFault>
     requires clean { K.is_clean keeper ≡ true }
     requires history { (before : List Input) × (K.rows keeper ≡ rows before) × (length before ≤ 10 ^ 15) × IsHistory venue (run venue.market before).history × AreRising before }
     requires items { venue.items ≤ length (K.rows keeper) }
@@ -50,20 +58,79 @@ pub(crate) fn serve_over<
 {
     let count = count_of(venue.participants());
     let port = service.port();
-    let opened = match open_lines(rt, alloc, clock, port, count) {
+    let Operator {
+        stop,
+        mut notes,
+        metrics,
+    } = operator;
+    let opened = match open_lines(rt, alloc, clock, port, count, stop) {
         Ok(opened) => opened,
         Err(error) => {
             // (A call drops a venue here and below: otherwise a proof sees the drop of each part at each place.)
             drop(venue);
+            drop(notes);
+            drop(metrics);
             return Err(fault_of(error.kind()));
         }
     };
-    let VenueIo { sessions, worker } = opened;
-    // A venue is served also where these notes cannot be written.
-    let _ = announce(venue.participants(), count, port, notes);
-    match run_lines(rt, alloc, venue, keeper, sessions, worker, service.turns()) {
+    let VenueIo {
+        sessions,
+        worker,
+        events,
+    } = opened;
+    let turns = service.turns();
+    let announced = announce(alloc, venue.participants(), count, port, &mut notes);
+    let reporter = reporter_of(alloc, &venue, events, turns, clock, notes, metrics);
+    let Ok(reporting) = begin_reporting(rt, alloc, announced, reporter) else {
+        drop(sessions);
+        drop(worker);
+        drop(venue);
+        drop(keeper);
+        return Err(ServeFault::Memory);
+    };
+    let ran = run_lines(rt, alloc, venue, keeper, sessions, worker, turns);
+    end_reporting(rt, &clock, reporting);
+    match ran {
         Ok(closed) => Ok(closed),
         Err(fault) => Err(ServeFault::from(fault)),
+    }
+}
+
+/// What reports the events of this venue.
+fn reporter_of<T: Clock + Drop, N: Write + Drop, M: MetricsSink + Drop>(
+    alloc: Global,
+    venue: &Venue,
+    events: Vec<EventReceiver>,
+    turns: u64,
+    clock: T,
+    notes: N,
+    metrics: M,
+) -> Result<Option<Reporter<T, N, M>>, AllocError> {
+    match log_of(alloc, venue.participants(), events, turns)? {
+        Some(log) => Ok(Some(Reporter::new(alloc, log, clock, notes, metrics))),
+        None => Ok(None),
+    }
+}
+
+/// Starts the report of a venue that was announced.
+fn begin_reporting<
+    R: Threads,
+    T: Clock + Send + Drop + 'static,
+    N: Write + Send + Drop + 'static,
+    M: MetricsSink + Send + Drop + 'static,
+>(
+    rt: &R,
+    alloc: Global,
+    announced: Result<(), AllocError>,
+    reporter: Result<Option<Reporter<T, N, M>>, AllocError>,
+) -> Result<Option<Reporting<T, N, M>>, AllocError> {
+    if announced.is_err() {
+        drop(reporter);
+        return Err(AllocError);
+    }
+    match reporter? {
+        Some(reporter) => start_reporting(rt, alloc, reporter),
+        None => Ok(None),
     }
 }
 
@@ -75,34 +142,71 @@ fn count_of(participants: &Participants) -> u16
     participants.len() as u16
 }
 
-/// Writes who listens where, one line each.
+/// Writes who listens where, one line each. A venue is served also where these lines cannot be written, but not where
+/// an allocation for them failed.
 fn announce<N: Write>(
+    alloc: Global,
     participants: &Participants,
     count: u16,
     port: u16,
     notes: &mut N,
-) -> io::Result<()>
+) -> Result<(), AllocError>
     requires count { count ≡ length participants.now.names }
     requires ports { port + count ≤ 2 ^ 16 }
 {
+    let text = announcement(alloc, participants, count, port)?;
+    let _ = notes.write_all(&text);
+    let _ = notes.flush();
+    Ok(())
+}
+
+/// The lines of all participants.
+fn announcement(
+    alloc: Global,
+    participants: &Participants,
+    count: u16,
+    port: u16,
+) -> Result<Vec<u8>, AllocError>
+    requires count { count ≡ length participants.now.names }
+    requires ports { port + count ≤ 2 ^ 16 }
+{
+    let mut text = Vec::new(alloc);
     for k in 0..count {
-        notes.write_all(b"venue_main: ")?;
-        notes.write_all(participants.name(Who::of(k as u32)))?;
-        writeln!(notes, " at 127.0.0.1:{}", port + k)?;
+        append_place(&mut text, participants.name(Who::of(k as u32)), port + k)?;
     }
-    notes.flush()
+    Ok(text)
+}
+
+/// Appends the line of a participant.
+fn append_place(text: &mut Vec<u8>, name: &[u8], port: u16) -> Result<(), AllocError> {
+    let mut digits = Buffer::new();
+    append(
+        text,
+        &[
+            b"venue_main: ",
+            name,
+            b" at 127.0.0.1:",
+            digits.format(port).as_bytes(),
+            b"\n",
+        ],
+    )
 }
 
 /// Runs a venue on lines over TCP.
-fn run_lines<R: Threads + Wait + Sync, T: Clock + Send + Drop, K: Keep + Drop>(
+fn run_lines<
+    R: Threads + Wait + Sync,
+    T: Clock + Send + Drop,
+    K: Keep + Drop,
+    E: StopSource + Drop,
+>(
     rt: &R,
     alloc: Global,
     venue: Venue,
     keeper: K,
     lines: Vec<SessionIo<T>>,
-    clock: WorkerClock<T>,
+    clock: WorkerClock<T, E>,
     turns: u64,
-) -> Result<Closed<TcpLine<T>, K>, RunFault>
+) -> Result<Closed<ServedLine<T>, K>, RunFault>
     requires lines { length lines.items ≡ length venue.market.participants.names }
     requires clean { K.is_clean keeper ≡ true }
     requires history { (before : List Input) × (K.rows keeper ≡ rows before) × (length before ≤ 10 ^ 15) × IsHistory venue (run venue.market before).history × AreRising before }
@@ -115,7 +219,7 @@ fn run_lines<R: Threads + Wait + Sync, T: Clock + Send + Drop, K: Keep + Drop>(
 }
 
 /// Flushes to each counterparty what still waits for it, and keeps of the closed venue its keeper of rows alone.
-pub(crate) fn keeper_of<T: Clock + Drop, K: Keep + Drop>(closed: Closed<TcpLine<T>, K>) -> K
+pub(crate) fn keeper_of<T: Clock + Drop, K: Keep + Drop>(closed: Closed<ServedLine<T>, K>) -> K
     ensures { result ≡ closed.keeper }
 {
     let Closed {
@@ -137,7 +241,7 @@ pub(crate) fn keeper_of<T: Clock + Drop, K: Keep + Drop>(closed: Closed<TcpLine<
 }
 
 /// Flushes to each counterparty what still waits for it, where it takes that.
-fn close_lines<T: Clock + Drop>(lines: Vec<TcpLine<T>>) {
+fn close_lines<T: Clock + Drop>(lines: Vec<ServedLine<T>>) {
     for mut line in lines {
         let _ = line.close();
     }

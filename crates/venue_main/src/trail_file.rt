@@ -11,16 +11,23 @@ use crate::once::OnceFault;
 use crate::serve::ServeFault;
 use sqlite::{Connection, Error as StoreError, ErrorCode, File, FileStore};
 use std::alloc::Global;
-use std::fs;
-use std::io::{self, ErrorKind, Read};
+use std::fs::{self, File as SystemFile, OpenOptions};
+use std::io::{self, ErrorKind, Read, Write};
 
 /// The first bytes of an SQLite database, with the byte 0 at the end.
 const SQLITE_MAGIC: &[u8] = b"SQLite format 3\0";
 
+/// The bytes of the probe at a time, and how often: together more than the log's pages of a row.
+const PROBE_BLOCK: usize = 4_096;
+
+const PROBE_BLOCKS: usize = 32;
+
 /// Opens the file at a path as a database, or makes one where there is none. The file is checked first, so that none
-/// that is no database is touched.
+/// that is no database is touched, and then that it and its folder can be written: nobody is served whose first message
+/// could not be stored.
 pub fn open_trail(rt: &HostRuntime, path: &str) -> Result<Connection<FileStore<File>>, Failure> {
     refuse_non_database(rt, path)?;
+    refuse_unwritable(rt, path)?;
     match Connection::open(rt, path) {
         Ok(conn) => Ok(conn),
         Err(error) => Err(Failure::from(error)),
@@ -85,5 +92,73 @@ fn failure_of(kind: ErrorKind) -> Failure {
     match kind {
         ErrorKind::OutOfMemory => Failure::Stopped(OnceFault::Memory),
         _ => Failure::Stopped(OnceFault::Input),
+    }
+}
+
+/// Refuses a trail that could not be written: the file and its log, where they exist, and a probe in its folder.
+fn refuse_unwritable(rt: &HostRuntime, path: &str) -> Result<(), Failure>
+    ensures { IfErr result (λ failure. (failure ≡ Stopped Memory) ⊎ (failure ≡ Served Trail)) }
+{
+    open_to_write(rt, path)?;
+    let log = companion(rt.alloc(), path, "-wal")?;
+    open_to_write(rt, &log)?;
+    let probe = companion(rt.alloc(), path, "-probe")?;
+    match write_probe(rt, &probe) {
+        Ok(()) => Ok(()),
+        Err(error) => unless_absent(error.kind()),
+    }
+}
+
+/// The path of a file in the folder of the one at this path.
+fn companion(alloc: Global, path: &str, suffix: &str) -> Result<String, Failure>
+    ensures { IfErr result (λ failure. (failure ≡ Stopped Memory) ⊎ (failure ≡ Served Trail)) }
+{
+    match format!(in alloc; "{path}{suffix}") {
+        Ok(companion) => Ok(companion),
+        Err(_) => Err(Failure::Stopped(OnceFault::Memory)),
+    }
+}
+
+/// Opens a file for writing, where it exists, and changes nothing.
+fn open_to_write(rt: &HostRuntime, path: &str) -> Result<(), Failure>
+    ensures { IfErr result (λ failure. (failure ≡ Stopped Memory) ⊎ (failure ≡ Served Trail)) }
+{
+    let mut options = OpenOptions::new();
+    options.write(true);
+    match options.open(rt, path) {
+        Ok(file) => {
+            drop(file);
+            Ok(())
+        }
+        Err(error) => unless_absent(error.kind()),
+    }
+}
+
+/// Writes more than a row takes to a file, syncs it, and removes the file.
+fn write_probe(rt: &HostRuntime, path: &str) -> io::Result<()> {
+    let file = SystemFile::create(rt, path)?;
+    let written = fill(file);
+    let removed = fs::remove_file(rt, path);
+    written?;
+    removed
+}
+
+fn fill(file: SystemFile) -> io::Result<()> {
+    let mut file = file;
+    let block = [0; PROBE_BLOCK];
+    for _ in 0..PROBE_BLOCKS {
+        file.write_all(&block)?;
+    }
+    file.sync_all()
+}
+
+/// No failure where a file or its folder does not exist: opening the database makes the one, and refuses the other.
+fn unless_absent(kind: ErrorKind) -> Result<(), Failure>
+    ensures { IfErr result (λ failure. (failure ≡ Stopped Memory) ⊎ (failure ≡ Served Trail)) }
+{
+    match kind {
+        ErrorKind::NotFound => Ok(()),
+        ErrorKind::OutOfMemory => Err(Failure::Stopped(OnceFault::Memory)),
+        _ => Err(Failure::Served(ServeFault::Trail)),
     }
 }

@@ -15,7 +15,7 @@ use std::sync::Wait;
 use std::thread;
 use std::thread::Threads;
 use std::time::Clock;
-use tcp_line::{SessionIo, SystemClock, TcpGate, TcpLine, VenueIo, open_lines};
+use tcp_line::{NoStop, ServedLine, SessionIo, SystemClock, TcpGate, VenueIo, open_lines};
 use venue_rules::fixture_participants;
 
 /// The first of ten ports that are tried, each with four more.
@@ -30,17 +30,17 @@ const CLIENT_TURNS: u64 = 50_000;
 /// The lines at the first five ports in a row that are free, and the first of these.
 pub fn opened_somewhere<
     R: Net<Listener = TcpListener, Stream = TcpStream> + Threads + Clock + Copy + Drop,
->(rt: &R, alloc: Global) -> Result<(u16, VenueIo<R>), ScenarioFault> {
+>(rt: &R, alloc: Global) -> Result<(u16, VenueIo<R, NoStop>), ScenarioFault> {
     for k in 0..10 {
         let port = FIRST_PORT + 10 * k;
-        if let Ok(opened) = open_lines(rt, alloc, *rt, port, PARTICIPANTS) {
+        if let Ok(opened) = open_lines(rt, alloc, *rt, port, PARTICIPANTS, NoStop) {
             return Ok((port, opened));
         }
     }
     Err(ScenarioFault::NoPort)
 }
 
-type Watched<'a, T> = (WatchedLine<'a, TcpLine<T>>, SystemClock<T>, TcpGate);
+type Watched<'a, T> = (WatchedLine<'a, ServedLine<T>>, SystemClock<T>, TcpGate);
 
 // The same lines, which signal to the day what is written on them, and end with it.
 fn watched<'a, T: Clock + Drop>(
@@ -60,10 +60,15 @@ fn watched<'a, T: Clock + Drop>(
 fn serve<R: Threads + Wait + Sync, T: Clock + Send + Drop>(
     rt: &R,
     alloc: Global,
-    opened: VenueIo<T>,
+    opened: VenueIo<T, NoStop>,
     day: &Day,
 ) -> Result<Outcome, ScenarioFault> {
-    let VenueIo { sessions, worker } = opened;
+    let VenueIo {
+        sessions,
+        worker,
+        events,
+    } = opened;
+    drop(events);
     let Ok(lines) = watched(alloc, sessions, day) else {
         drop(worker);
         return Err(ScenarioFault::NoMemory);
@@ -84,13 +89,13 @@ pub fn serve_in_parallel<
 >(
     rt: &R,
     alloc: Global,
-    opened: VenueIo<T>,
+    opened: VenueIo<T, NoStop>,
     day: &Day,
     scenario: P,
 ) -> Result<(Outcome, bool), ScenarioFault>
     requires { P.IsAlwaysCallable scenario }
 {
-    let (outcome, emitted) = thread::join(rt, move || serve(rt, alloc, opened, day), scenario);
+    let (emitted, outcome) = thread::join(rt, scenario, move || serve(rt, alloc, opened, day));
     Ok((outcome?, emitted?))
 }
 

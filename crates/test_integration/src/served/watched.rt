@@ -137,4 +137,8 @@ impl<'a, L: Line + Drop> Line for WatchedLine<'a, L> {
     fn faults(&self) -> u64 {
         self.log.faults()
     }
+
+    fn leave(&mut self) {
+        self.line.leave();
+    }
 }

@@ -1,0 +1,152 @@
+//! When a line ends a connection itself. Times are milliseconds of a clock that never goes back.
+ghost use Rattle.std.specs.Prelude.{◌≡◌};
+ghost use Rattle.tcp_line.specs.Endings as endings;
+
+use crate::line_watch::{LineEnd, LineWatch};
+
+/// The time without a Logon after which a connection ends.
+const MAX_LOGON_MS: u64 = 10_000;
+
+/// The time without a byte after which another connection takes the place of one.
+const MAX_SILENT_MS: u64 = 10_000;
+
+/// The time without progress after which a ResendRequest is overdue where there are no heartbeats.
+const MAX_GAP_MS: u64 = 60_000;
+
+/// The same in heartbeat intervals: 2.2, of which a thousandth is milliseconds to a second.
+const GAP_MS_PER_SECOND: u64 = 2_200;
+
+/// The time between two looks for another connection.
+const LOOK_MS: u64 = 250;
+
+/// The facts that end a connection, and for how long they have held.
+#[derive(Clone, Copy)]
+pub(crate) struct Standing {
+    pub(crate) is_logged_on: bool,
+    /// Since it was accepted.
+    pub(crate) connected_ms: u64,
+    /// In seconds.
+    pub(crate) heartbeat: u64,
+    /// A ResendRequest is outstanding.
+    pub(crate) is_outstanding: bool,
+    /// Since the last progress.
+    pub(crate) stuck_ms: u64,
+}
+
+// The time without progress after which a ResendRequest is overdue, by the heartbeat interval in seconds.
+fn gap_limit(heartbeat: u64) -> u64
+    ensures { result ≡ endings.gap_limit heartbeat }
+{
+    if heartbeat == 0 {
+        MAX_GAP_MS
+    } else {
+        heartbeat.saturating_mul(GAP_MS_PER_SECOND)
+    }
+}
+
+// Whether a connection waits for its Logon for too long.
+fn is_late(standing: &Standing) -> bool
+    ensures { result ≡ endings.is_late standing.now }
+{
+    !standing.is_logged_on && standing.connected_ms >= MAX_LOGON_MS
+}
+
+// Whether a connection waits for the answer to its ResendRequest for too long.
+fn is_overdue(standing: &Standing) -> bool
+    ensures { result ≡ endings.is_overdue standing.now }
+{
+    standing.is_outstanding && standing.stuck_ms >= gap_limit(standing.heartbeat)
+}
+
+/// Why a connection ends now, where it does.
+pub(crate) fn end_of(standing: &Standing) -> Option<LineEnd>
+    ensures { result ≡ endings.end_of standing.now }
+{
+    if is_late(standing) {
+        Some(LineEnd::NoLogon)
+    } else if is_overdue(standing) {
+        Some(LineEnd::GapOverdue)
+    } else {
+        None
+    }
+}
+
+/// Whether another connection takes the place of one from which nothing came for this time; else it is closed.
+pub(crate) fn is_silent(silent_ms: u64) -> bool
+    ensures { result ≡ endings.is_silent silent_ms }
+{
+    silent_ms >= MAX_SILENT_MS
+}
+
+/// The times of a connection.
+#[derive(Clone, Copy)]
+pub(crate) struct LineTimer {
+    now: u64,
+    connected: u64,
+    heard: u64,
+    looked: u64,
+    /// The count of progress, and when it last rose.
+    progress: u64,
+    progressed: u64,
+}
+
+impl LineTimer {
+    pub(crate) fn new() -> LineTimer {
+        LineTimer {
+            now: 0,
+            connected: 0,
+            heard: 0,
+            looked: 0,
+            progress: 0,
+            progressed: 0,
+        }
+    }
+
+    /// A connection was accepted.
+    pub(crate) fn begin(&mut self, now: u64) {
+        self.set_now(now);
+        self.connected = now;
+        self.heard = now;
+        self.looked = now;
+        self.progressed = now;
+    }
+
+    pub(crate) fn set_now(&mut self, now: u64) {
+        self.now = now;
+    }
+
+    /// Bytes came.
+    pub(crate) fn hear(&mut self) {
+        self.heard = self.now;
+    }
+
+    /// Whether bytes have come lately.
+    pub(crate) fn is_silent(&self) -> bool {
+        is_silent(self.now.saturating_sub(self.heard))
+    }
+
+    /// Whether it is time to look for another connection.
+    pub(crate) fn is_look_due(&mut self) -> bool {
+        if self.now.saturating_sub(self.looked) < LOOK_MS {
+            return false;
+        }
+        self.looked = self.now;
+        true
+    }
+
+    /// Why the connection ends now, where it does.
+    pub(crate) fn end(&mut self, watch: &LineWatch) -> Option<LineEnd> {
+        let progress = watch.progress();
+        if progress != self.progress {
+            self.progress = progress;
+            self.progressed = self.now;
+        }
+        end_of(&Standing {
+            is_logged_on: watch.is_logged_on(),
+            connected_ms: self.now.saturating_sub(self.connected),
+            heartbeat: watch.heartbeat(),
+            is_outstanding: watch.is_outstanding(),
+            stuck_ms: self.now.saturating_sub(self.progressed),
+        })
+    }
+}

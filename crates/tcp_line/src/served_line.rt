@@ -1,0 +1,269 @@
+//! The line of a venue that is served: it stops with its venue, and ends a connection that holds its participant out.
+ghost use Rattle.std.specs.Prelude.{◌≡◌, ◌^◌, ◌-◌, [], ◌∷◌, ◌++◌, MatchResult, min};
+ghost use Rattle.gateway.specs.Said.{IsWithin, Accepted, Gave, Took, Broke_off, given, faults_in};
+
+use crate::clocks::ms_of;
+use crate::dirty_flag::DirtyFlag;
+use crate::events::Counts;
+use crate::line::TcpLine;
+use crate::line_log::{LineLog, past_of};
+use crate::line_timer::LineTimer;
+use crate::line_watch::{LineEnd, LineWatch};
+use crate::stop::Stop;
+use gateway::line::{Accept, Line, LineFault, Read};
+use gateway::mem_line::LineEvent;
+use gateway::piece::{Given, Piece, READ_SIZE};
+use std::sync::{Arc, Wait};
+use std::time::Clock;
+
+/// What a line shares with its gate and its venue.
+pub struct Shared {
+    pub stop: Arc<Stop>,
+    pub watch: Arc<LineWatch>,
+    pub activity: Arc<DirtyFlag>,
+    pub counts: Arc<Counts>,
+}
+
+// Written-out drop (docs/ARCHITECTURE.md).
+impl Drop for Shared {
+    fn drop(self) {
+        let Shared {
+            stop: _stop,
+            watch: _watch,
+            activity: _activity,
+            counts: _counts,
+        } = self;
+    }
+}
+
+/// A line over TCP. Once its venue stops it neither reads nor accepts, and then it is over. It ends a connection
+/// without a Logon, one whose ResendRequest is overdue, and a silent one where another connection waits, as if the peer
+/// had.
+pub struct ServedLine<T> {
+    line: TcpLine<T>,
+    clock: T,
+    shared: Shared,
+    timer: LineTimer,
+    log: LineLog,
+}
+
+// Written-out drop (docs/ARCHITECTURE.md).
+impl<T: Drop> Drop for ServedLine<T> {
+    fn drop(self) {
+        let ServedLine {
+            line: _line,
+            clock: _clock,
+            shared: _shared,
+            timer: _timer,
+            log: _log,
+        } = self;
+    }
+}
+
+impl<T: Clock + Drop> ServedLine<T> {
+    pub fn new(line: TcpLine<T>, clock: T, shared: Shared) -> ServedLine<T>
+        ensures { ⟦<ServedLine<T> as Line>⟧.said result ≡ [] }
+    {
+        ServedLine {
+            line,
+            clock,
+            shared,
+            timer: LineTimer::new(),
+            log: LineLog::new(),
+        }
+    }
+
+    /// Gives the system what still waits, and drops the connection. Whether all that was written was taken.
+    pub fn close(&mut self) -> bool
+        ensures same { self.new.log ≡ self.old.log }
+    {
+        self.line.close()
+    }
+
+    // The time of a clock that never goes back, in milliseconds; none where it cannot be read.
+    fn now(&self) -> Option<u64> {
+        match self.clock.monotonic() {
+            Ok(time) => Some(ms_of(time)),
+            Err(_) => None,
+        }
+    }
+
+    // Takes the next connection, unless the venue stops.
+    fn change(&mut self) -> Accept
+        ensures same { self.new.log ≡ self.old.log }
+    {
+        if self.shared.stop.is_over() {
+            return Accept::Over;
+        }
+        if !self.shared.stop.is_open() {
+            self.line.close();
+            return Accept::Quiet;
+        }
+        let answer = self.line.change();
+        if let Accept::Up = answer {
+            self.shared.watch.begin();
+            let now = self.now().unwrap_or(0);
+            self.timer.begin(now);
+        }
+        answer
+    }
+
+    // Closes another connection that waits at the listener, or has it take the place of this one, from which nothing
+    // came for some time. Whether it takes the place.
+    fn is_replaced(&mut self) -> bool
+        ensures same { self.new.log ≡ self.old.log }
+    {
+        if !self.timer.is_look_due() {
+            return false;
+        }
+        let Some(stream) = self.line.take_second() else {
+            return false;
+        };
+        if self.timer.is_silent() {
+            self.line.set_next(stream);
+            return true;
+        }
+        drop(stream);
+        let at_ms = match self.clock.since_1970() {
+            Ok(time) => ms_of(time),
+            Err(_) => 0,
+        };
+        self.shared.watch.note_second(at_ms);
+        false
+    }
+
+    // Why the connection ends now, where it does.
+    fn own_end(&mut self) -> Option<LineEnd>
+        ensures same { self.new.log ≡ self.old.log }
+    {
+        let now = self.now()?;
+        self.timer.set_now(now);
+        let end = self.timer.end(&self.shared.watch);
+        if end.is_some() {
+            return end;
+        }
+        if self.is_replaced() {
+            return Some(LineEnd::Replaced);
+        }
+        None
+    }
+
+    // Ends the connection, for this cause.
+    fn end(&mut self, end: LineEnd) -> Read
+        ensures same { self.new.log ≡ self.old.log }
+        ensures within { IsWithin result }
+    {
+        self.shared.watch.set_end(end);
+        let passed_over = self.line.end();
+        self.shared.watch.note_passed_over(passed_over);
+        Read::Ended
+    }
+
+    // Reads once from a connection that goes on.
+    fn receive(&mut self, buffer: &mut [u8; READ_SIZE]) -> Read
+        ensures within { IsWithin result }
+        ensures same { self.new.log ≡ self.old.log }
+    {
+        let answer = self.line.receive(buffer);
+        if let Read::Got { count: _ } = answer {
+            self.timer.hear();
+        }
+        answer
+    }
+
+    // Reads once where the venue is open. Asks the clock only where the system is asked.
+    fn receive_open(&mut self, buffer: &mut [u8; READ_SIZE]) -> Read
+        ensures within { IsWithin result }
+        ensures same { self.new.log ≡ self.old.log }
+    {
+        if self.line.is_ahead() {
+            return self.receive(buffer);
+        }
+        match self.own_end() {
+            Some(end) => self.end(end),
+            None => self.receive(buffer),
+        }
+    }
+
+    // Reads once, unless the venue stops.
+    fn receive_served(&mut self, buffer: &mut [u8; READ_SIZE]) -> Read
+        ensures within { IsWithin result }
+        ensures same { self.new.log ≡ self.old.log }
+    {
+        if self.shared.stop.is_open() {
+            return self.receive_open(buffer);
+        }
+        if self.shared.stop.is_over() {
+            return self.end(LineEnd::Stopped);
+        }
+        if self.line.give_waiting() {
+            self.shared.activity.clear();
+            Read::Quiet
+        } else {
+            Read::Fault
+        }
+    }
+}
+
+impl<T: Clock + Drop> Line for ServedLine<T> {
+    ghost said = { λ l. l.log };
+
+    fn accept<R: Wait>(&mut self, _rt: &R) -> Accept
+        ensures said { self.new.log ≡ self.old.log ++ Accepted result ∷ [] }
+    {
+        let answer = self.change();
+        // (After a fault the listener is asked again once something comes, or after the longest wait.)
+        match answer {
+            Accept::Up | Accept::Over => self.shared.activity.note(),
+            Accept::Quiet | Accept::Fault => self.shared.activity.clear(),
+        }
+        self.log.note(LineEvent::Accepted { answer });
+        answer
+    }
+
+    fn read<R: Wait>(&mut self, _rt: &R, buffer: &mut [u8; READ_SIZE]) -> Read
+        ensures within { IsWithin result }
+        ensures said { self.new.log ≡ self.old.log ++ Gave (given result buffer.new) ∷ [] }
+    {
+        let answer = self.receive_served(buffer);
+        let given = match answer {
+            Read::Got { count } => Given::Got {
+                piece: Piece::front(buffer, count),
+            },
+            Read::Quiet => Given::Quiet,
+            Read::Ended => Given::Ended,
+            Read::Fault => Given::Fault,
+        };
+        match given {
+            Given::Ended | Given::Fault => self.shared.activity.note(),
+            Given::Got { piece: _ } | Given::Quiet => {}
+        }
+        self.log.note(LineEvent::Gave { given });
+        answer
+    }
+
+    fn write<R: Wait>(&mut self, _rt: &R, bytes: &[u8]) -> Result<(), LineFault>
+        ensures said { MatchResult result (λ _. self.new.log ≡ self.old.log ++ Took bytes.now ∷ []) (λ _. self.new.log ≡ self.old.log ++ Broke_off bytes.now ∷ []) }
+    {
+        let past = past_of(bytes);
+        self.shared.activity.note();
+        if self.line.has_taken(bytes) {
+            self.shared
+                .counts
+                .note_waiting(self.line.waiting_len() as u64);
+            self.log.note(LineEvent::Took { bytes: past });
+            return Ok(());
+        }
+        self.log.note(LineEvent::BrokeOff { bytes: past });
+        Err(LineFault)
+    }
+
+    fn faults(&self) -> u64 {
+        self.log.faults()
+    }
+
+    fn leave(&mut self) {
+        let passed_over = self.line.shut();
+        self.shared.watch.note_passed_over(passed_over);
+    }
+}
