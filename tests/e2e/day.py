@@ -6,7 +6,8 @@ usage: day.py SCRIPT EXPECTED PORT COMMAND..
 SCRIPT is written as for a stock QuickFIX (../interop/quickfix/initiator.cpp): a client logs on and out, breaks its
 connection and comes back, sends a body, asks for messages again, and waits for one that has some fields. The
 clients are the participants of ../../examples/participants.toml, at PORT and the next four. COMMAND serves them,
-and is ended as in two_clients.py. Each client keeps its session by FIXT 1.1: it numbers and keeps what it sends,
+and is ended as in two_clients.py. A connection that is closed unanswered, as the venue takes the one before for alive,
+is tried again. Each client keeps its session by FIXT 1.1: it numbers and keeps what it sends,
 takes each application message once under the expected number, asks for those that it lost, and resends what it is
 asked for, with gap fills for session messages.
 
@@ -14,26 +15,29 @@ What each client took is compared with the file EXPECTED, message by message: al
 CompIDs, the number and the timestamps (8, 9, 10, 34, 43, 49, 52, 56, 62, 122).
 """
 
+import contextlib
 import difflib
 import os
 import socket
 import subprocess
 import sys
 import threading
+import time
 
 sys.path.insert(0, os.path.join(os.path.dirname(os.path.abspath(__file__)), "..", "lib"))
 from fix import (  # noqa: E402
     ANSWER_SECONDS,
     PARTICIPANTS,
+    StopFile,
     await_listening,
     first_frame,
     message,
     shown,
-    spend_turns,
     timestamp,
 )
 
 START_SECONDS = 600.0  # the venue may have to be built
+TRIES = 50  # of a connection, one each 0.1 seconds
 SESSION_TYPES = {"0", "1", "2", "3", "4", "5", "A"}
 NOT_COMPARED = {"8", "9", "10", "34", "43", "49", "52", "56", "62", "122"}
 
@@ -62,7 +66,8 @@ class SessionClient:
         again = f"43=Y|122={first_sent}|" if first_sent else ""
         sent = message(kind, self.name, number, fields, timestamp(), again)
         print(f"{self.name:7} > {shown(sent)}", flush=True)
-        self.connection.sendall(sent)
+        with contextlib.suppress(ConnectionError):
+            self.connection.sendall(sent)
 
     def send(self, kind, fields):
         """Numbers and keeps a message, and sends it. Without a connection it is lost, and the venue will ask for it."""
@@ -74,6 +79,7 @@ class SessionClient:
         self.connection.setsockopt(socket.IPPROTO_TCP, socket.TCP_NODELAY, 1)
         self.unread = b""
         self.asked = False
+        self.is_answered = False
         if self.resets:
             self.begin_numbers()
         self.send("A", "98=0|108=0|" + ("141=Y|" if self.resets else "") + "1137=9|")
@@ -111,10 +117,8 @@ class SessionClient:
         """Reads one message, and does what a session does with it."""
         found, self.unread = first_frame(self.unread)
         while found is None:
-            more = self.connection.recv(4096)
-            if not more:
-                raise SystemExit(f"{self.name}: the venue closed the connection")
-            found, self.unread = first_frame(self.unread + more)
+            found, self.unread = first_frame(self.unread + self.more())
+        self.is_answered = True
         text = shown(found)
         print(f"{self.name:7} < {text}", flush=True)
         self.received.append("|" + text)
@@ -131,6 +135,20 @@ class SessionClient:
                 self.send("2", f"7={self.expected}|16=0|")
         if kind == "2":
             self.resend(int(fields["7"]))
+
+    def more(self):
+        """Reads what comes, on a further connection where this one was closed unanswered."""
+        for _ in range(TRIES):
+            with contextlib.suppress(ConnectionError):
+                more = self.connection.recv(4096)
+                if more:
+                    return more
+            if self.is_answered:
+                break
+            time.sleep(0.1)
+            self.connection.close()
+            self.log_on()
+        raise SystemExit(f"{self.name}: the venue closed the connection")
 
     def await_fields(self, text):
         """Reads until a message has all these fields; what was awaited before does not count."""
@@ -184,13 +202,14 @@ def main():
     if len(sys.argv) < 5:
         raise SystemExit(__doc__)
     script, expected, port, command = sys.argv[1], sys.argv[2], int(sys.argv[3]), sys.argv[4:]
-    venue = subprocess.Popen(command, stderr=subprocess.PIPE, stdout=subprocess.PIPE, text=True)
+    stop_file = StopFile()
+    venue = subprocess.Popen([*command, *stop_file.words], stderr=subprocess.PIPE, stdout=subprocess.PIPE, text=True)
     try:
         await_listening(venue.stderr, START_SECONDS)
         threading.Thread(target=lambda: sys.stderr.writelines(venue.stderr), daemon=True).start()
         with open(script, encoding="ascii") as lines:
             taken = run(lines, port)
-        spend_turns(venue, port)
+        stop_file.end(venue)
     finally:
         if venue.poll() is None:
             venue.terminate()

@@ -12,8 +12,8 @@ read back.
    duplicate; its leaves quantity rests, and DELTA trades with it. The venue closes, and its closing line counts the
    rows of both runs.
 3. A venue is killed (SIGKILL) while ALPHA sends orders. Each answered order has its row, and a venue begins from them.
-4. A venue whose log may not grow past some size ends its sessions, prints `stopped: trail` and stops, however many
-   turns it has left. Each answered order has its row.
+4. A venue whose log may not grow past some size ends its sessions, prints `stopped: trail` and stops. Each answered
+   order has its row.
 5. A venue whose log may not hold an empty trail stops before it listens.
 """
 
@@ -27,7 +27,6 @@ import threading
 
 sys.path.insert(0, os.path.join(os.path.dirname(os.path.abspath(__file__)), "..", "lib"))
 from fix import (  # noqa: E402
-    ENDLESS,
     Client,
     Files,
     Venue,
@@ -40,7 +39,6 @@ from fix import (  # noqa: E402
 from trail import order_ids, replayed, rows_of, snapshot  # noqa: E402
 from two_clients import trade  # noqa: E402
 
-TURNS = 20000
 KILLED_AFTER = 40  # of the answers
 ORDERS = 150  # fewer than one side of the book may have
 LONGEST_LOG = 400000  # bytes, enough for some of the orders but not all; the log grows by 262,144 at once
@@ -68,7 +66,7 @@ class Day:
         self.files = Files()
         self.venues = []
 
-    def begin(self, trail, turns, longest_file=None):
+    def begin(self, trail, longest_file=None):
         """A venue over this trail. Where a longest file is given none that it writes may be longer."""
 
         def confine():
@@ -78,7 +76,7 @@ class Day:
         self.port += 5
         # Python ignores the signal of a file that is too long, and so does a process that it starts like this.
         how = {"restore_signals": False, "preexec_fn": confine}
-        venue = Venue(self.venue_main, self.files, self.port, "--trail", trail, turns=turns, **how)
+        venue = Venue(self.venue_main, self.files, self.port, "--trail", trail, **how)
         self.venues.append(venue)
         return venue
 
@@ -96,18 +94,18 @@ class Day:
 
 
 def closed(venue):
-    """Spends the turns that a venue has left, and returns what it printed as it closed."""
-    printed = venue.spend_turns()
+    """Ends a venue by its stop file, and returns what it printed as it closed."""
+    printed = venue.end()
     compared("status", venue.process.returncode, 0)
     return printed.strip()
 
 
 def first_run(day):
     print("-- a day begins", flush=True)
-    venue = day.begin(day.trail, TURNS).await_start()
+    venue = day.begin(day.trail).await_start()
     trade(venue.port)
     day.port += 5
-    command = serve_command(day.venue_main, day.files, day.port, "--trail", day.trail, turns=TURNS)
+    command = serve_command(day.venue_main, day.files, day.port, "--trail", day.trail)
     second = subprocess.run(command, capture_output=True, text=True, check=False)
     compared("a second venue", (second.stdout, second.stderr, second.returncode), ("", STOPPED, 1))
     compared("the rows of a copy of file and log", len(rows_of(day.copied("read.trail"))), 2)
@@ -119,7 +117,7 @@ def first_run(day):
 
 def second_run(day):
     print("-- it goes on from its trail", flush=True)
-    venue = day.begin(day.trail, TURNS).await_start()
+    venue = day.begin(day.trail).await_start()
     alpha = Client("ALPHA", venue.port)
     alpha.log_on()
     # The session's numbers begin at 1 again, and a1 was used on this day.
@@ -170,7 +168,7 @@ def send_until(venue, is_over, prefix):
 
 def killed_run(day):
     print("-- it is killed", flush=True)
-    venue = day.begin(day.trail, ENDLESS).await_start()
+    venue = day.begin(day.trail).await_start()
     answered = send_until(venue, lambda orders: len(orders) >= KILLED_AFTER, "k")
     venue.stop()
     answered.join(STOP_SECONDS)
@@ -179,7 +177,7 @@ def killed_run(day):
     compared(f"of {len(answered.orders)} answered orders, those without a row", lost, [])
     if day.sef_replay:
         compared("the day", day.replayed(day.copied("read_back.trail")), (0, FIRST_TRADE + SECOND_TRADE, ""))
-    venue = day.begin(day.trail, 100).await_start()
+    venue = day.begin(day.trail).await_start()
     kept = len(rows_of(day.copied("again.trail")))
     compared("closing", closed(venue), f"closed sessions 5 taken {kept}")
 
@@ -187,10 +185,9 @@ def killed_run(day):
 def confined_run(day):
     print("-- its log may not grow", flush=True)
     trail = os.path.join(day.folder, "confined.trail")
-    venue = day.begin(trail, ENDLESS, LONGEST_LOG).await_start()
-    started = venue.log()
+    venue = day.begin(trail, LONGEST_LOG).await_start()
     answered = send_until(venue, lambda orders: not venue.is_up(), "f")
-    printed = venue.process.stdout.read(), venue.log()[len(started) :]
+    printed = venue.process.stdout.read(), venue.faults()
     compared("the end", (*printed, venue.process.returncode), ("", STOPPED, 1))
     answered.join(STOP_SECONDS)
     kept = order_ids(trail)
@@ -198,7 +195,7 @@ def confined_run(day):
     compared(f"of {len(answered.orders)} answered orders, those without a row", lost, [])
     compared("rows of orders that were not answered", [name for name in kept if name not in answered.orders], [])
     trail = os.path.join(day.folder, "short.trail")
-    venue = day.begin(trail, ENDLESS, SHORTEST_LOG)
+    venue = day.begin(trail, SHORTEST_LOG)
     wait_until(lambda: not venue.is_up(), STOP_SECONDS, "a venue without space for a trail does not stop")
     printed = venue.process.stdout.read(), venue.log()
     compared("no space for a trail", (*printed, venue.process.returncode), ("", STOPPED, 1))

@@ -7,8 +7,8 @@ ALPHA is the participant at PORT and DELTA the fourth, at PORT + 3, as in exampl
 IRS5Y at 2.5; once its order is in the book DELTA sells 40 at 2.5, both receive the trade, and both log out. `>` is
 what a client sent and `<` what it received, with | for SOH.
 
-With COMMAND the venue is started by it, and ended: connections that are closed at once spend its turns. Then its
-last line is printed.
+With COMMAND the venue is started by it, and ended by a stop file, which is added to its options. Then its last line is
+printed.
 """
 
 import os
@@ -17,7 +17,7 @@ import sys
 import threading
 
 sys.path.insert(0, os.path.join(os.path.dirname(os.path.abspath(__file__)), "..", "lib"))
-from fix import Client, await_listening, limit_order, spend_turns  # noqa: E402
+from fix import Client, StopFile, await_listening, limit_order  # noqa: E402
 
 START_SECONDS = 600.0  # the venue may have to be built
 
@@ -45,12 +45,13 @@ def main():
     if not command:
         trade(port)
         return
-    venue = subprocess.Popen(command, stderr=subprocess.PIPE, stdout=subprocess.PIPE, text=True)
+    stop_file = StopFile()
+    venue = subprocess.Popen([*command, *stop_file.words], stderr=subprocess.PIPE, stdout=subprocess.PIPE, text=True)
     try:
         await_listening(venue.stderr, START_SECONDS)
         threading.Thread(target=lambda: sys.stderr.writelines(venue.stderr), daemon=True).start()
         trade(port)
-        spend_turns(venue, port)
+        stop_file.end(venue)
     finally:
         if venue.poll() is None:
             venue.terminate()

@@ -26,17 +26,21 @@ Clients
 
 Served venues
     Files(folder, more)             the files of examples/, with more instruments where a text of them is given
+    Files.of(participants, instruments, names)      other files, which list these participants
         .words()                    the command-line options that name them
     Venue(program, files, port, *options, turns=ENDLESS, env=None)
         with Venue(..) as venue:    killed at the end where it is still up
         .await_start()              waits until each port listens, and returns the venue
         .log()                      all that it wrote to standard error so far
+        .events(), .faults()        its events so far (below); the lines that are neither an event nor name a port
         .is_up(), .stop()           stop: SIGKILL, and its end is awaited
-        .spend_turns()              opens and closes connections until it has ended by its turns; its output
-        .process, .port             the Popen; the first of its five ports
-    await_listening(stderr), spend_turns(process, port)
-                                    the same of a venue that was started otherwise
+        .end()                      ends it by its stop file, and returns its output
+        .process, .port             the Popen; the first of its ports, one for each participant
+    await_listening(stderr)         the same of a venue that was started otherwise
+    StopFile()                      a stop file of its own: .words for the command line, .end(process)
     serve_command(program, files, port, *options, turns=ENDLESS)
+    events_of(log), without_events(log)
+                                    the event lines of a text, each as the dict of its keys; and the other lines
 
 Waiting and comparing
     wait_until(condition, seconds, failure)     polls; SystemExit(failure) past the deadline
@@ -59,7 +63,9 @@ SENT = "20250303-14:30:00"  # a SendingTime for messages whose moment does not m
 ENDLESS = 1_000_000_000  # turns of a venue
 ANSWER_SECONDS = 10.0  # for an answer
 START_SECONDS = 60.0  # until a venue listens
-END_SECONDS = 300.0  # until a venue has spent its turns
+END_SECONDS = 150.0  # until a venue that is stopped has ended: it may wait two minutes for a slow disk
+# An event of a venue behind its fixed lines, with the moment in RFC 3339 UTC.
+EVENT = re.compile(r"(?:venue_main: )?([0-9]{4}-[0-9]{2}-[0-9]{2}T[0-9:.]+Z) (.*)")
 CHECKSUM = re.compile(rb"\x0110=[0-9]{3}\x01")
 
 
@@ -196,7 +202,14 @@ def limit_order(identifier, side, quantity, symbol="IRS5Y", price="2.5"):
 class Files:
     """The files of examples/; `more` is the text of further instruments, added to a copy in the folder."""
 
+    @classmethod
+    def of(cls, participants, instruments, names):
+        files = cls()
+        files.participants, files.instruments, files.names = participants, instruments, names
+        return files
+
     def __init__(self, folder=None, more=""):
+        self.names = PARTICIPANTS
         self.participants = os.path.join(EXAMPLES, "participants.toml")
         self.instruments = os.path.join(EXAMPLES, "instruments.toml")
         if more:
@@ -215,13 +228,14 @@ class Venue:
 
     def __init__(self, program, files, port, *options, turns=ENDLESS, **how):
         self.port = port
+        self.count = len(files.names)
         # (the venue writes by a handle of its own, and so at a position of its own)
         self.stderr = tempfile.NamedTemporaryFile(mode="r")
-        command = serve_command(program, files, port, *options, turns=turns)
+        self.stop_file = StopFile()
+        command = serve_command(program, files, port, *options, *self.stop_file.words, turns=turns)
         with open(self.stderr.name, "w", encoding="utf-8") as log:
-            self.process = subprocess.Popen(
-                command, stdin=subprocess.DEVNULL, stdout=subprocess.PIPE, stderr=log, text=True, **how
-            )
+            how = {"stdin": subprocess.DEVNULL, "stdout": subprocess.PIPE, "stderr": log, "text": True, **how}
+            self.process = subprocess.Popen(command, **how)
 
     def __enter__(self):
         return self
@@ -233,11 +247,17 @@ class Venue:
         self.stderr.seek(0)
         return self.stderr.read()
 
+    def events(self):
+        return events_of(self.log())
+
+    def faults(self):
+        return "".join(line for line in without_events(self.log()).splitlines(True) if " at 127.0.0.1:" not in line)
+
     def is_up(self):
         return self.process.poll() is None
 
     def listens(self):
-        return self.log().count(" at 127.0.0.1:") == len(PARTICIPANTS)
+        return self.log().count(" at 127.0.0.1:") == self.count
 
     def await_start(self, or_end=False, seconds=START_SECONDS):
         """Waits until all ports listen; or until the venue has ended, where that may be."""
@@ -253,9 +273,9 @@ class Venue:
             raise SystemExit(f"the venue does not listen: {self.log()}")
         return self
 
-    def spend_turns(self, seconds=END_SECONDS):
-        """Opens and closes connections until the venue has ended by its turns, and returns what it printed."""
-        spend_turns(self.process, self.port, seconds)
+    def end(self, seconds=END_SECONDS):
+        """Ends the venue by its stop file, unless it has ended, and returns what it printed."""
+        self.stop_file.end(self.process, seconds)
         return self.process.stdout.read()
 
     def stop(self):
@@ -282,17 +302,31 @@ def await_listening(stderr, seconds=START_SECONDS):
     raise SystemExit("the venue does not listen")
 
 
-def spend_turns(process, port, seconds=END_SECONDS):
-    """Opens and closes connections until a venue has ended by its turns.
+class StopFile:
+    """A path of its own at which a file ends a venue."""
 
-    The connections keep its threads from waiting. None is awaited, since a session that has ended takes none.
-    """
-    deadline = time.monotonic() + seconds
-    while process.poll() is None:
-        if time.monotonic() > deadline:
-            raise SystemExit("the venue does not end by its turns")
-        for k in range(len(PARTICIPANTS)):
-            with socket.socket() as connection:
-                connection.setblocking(False)
-                connection.connect_ex(("127.0.0.1", port + k))
-        time.sleep(0.0005)
+    def __init__(self):
+        self.folder = tempfile.TemporaryDirectory()
+        self.path = os.path.join(self.folder.name, "stop")
+        self.words = ["--stop-file", self.path]
+
+    def end(self, process, seconds=END_SECONDS):
+        """Makes the file, and waits until the venue has ended."""
+        with open(self.path, "w", encoding="ascii"):
+            pass
+        wait_until(lambda: process.poll() is not None, seconds, "the venue does not end by its stop file", 0.01)
+
+
+def events_of(log):
+    """The events of a text: of each line the values by key, `event` and `time` among them."""
+    events = []
+    for line in log.splitlines():
+        found = EVENT.fullmatch(line)
+        if found:
+            words = [word.partition("=") for word in found[2].split(" ")]
+            events.append({"time": found[1], **{key if sign else "event": value if sign else key for key, sign, value in words}})
+    return events
+
+
+def without_events(log):
+    return "".join(line for line in log.splitlines(True) if not EVENT.fullmatch(line.rstrip("\n")))

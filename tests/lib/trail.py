@@ -4,6 +4,7 @@
     copied(trail, folder)       a copy of a trail and its log, which nobody writes to
     snapshot(trail, copy)       a consistent copy, while a venue may have it open (examples/copy_trail)
     rows_of(trail)              (place of the sender, text) of each row; None where there are no tables
+    items_of(trail)             (n, place of the sender, number, moment, text) of each row
     order_ids(trail)            the ClOrdIDs (11) in its rows
     older_trail(folder, version)    the sample day as a venue of version 1 or 2 kept it
     replayed(program, trail, *options)  status, output and standard error of sef_replay
@@ -57,6 +58,12 @@ def rows_of(trail):
         if "item" not in tables_of(database):
             return None
         return [(who, bytes(text)) for who, text in database.execute("SELECT who, text FROM item ORDER BY n")]
+
+
+def items_of(trail):
+    with contextlib.closing(sqlite3.connect(trail)) as database:
+        items = database.execute("SELECT n, who, number, moment, text FROM item ORDER BY n")
+        return [(*item, bytes(text)) for *item, text in items]
 
 
 def order_ids(trail):

@@ -33,9 +33,7 @@ from fix import ROOT, Venue, expect  # noqa: E402
 from trail import SAMPLE_DAY, older_trail, replayed  # noqa: E402
 
 MESSAGES = 8  # of both clients
-TURNS = 10_000
-# seconds without an answer, after which none comes: a venue that lacks a thread first spends the turns of the others
-PATIENCE = "3"
+PATIENCE = "3"  # seconds without an answer, after which none comes
 LONGEST = 60  # seconds for a run
 WORKERS = min(os.cpu_count() or 2, 8)  # of five ports each
 STOPPED = ("stopped: memory\n", "stopped: trail\n", "stopped: thread\n")
@@ -117,7 +115,7 @@ class Command:
 
 
 class Served:
-    """A venue of a few turns, on which two clients trade."""
+    """A venue on which two clients trade."""
 
     def __init__(self, library, program, clients, files, port, sef_replay=None):
         self.library = library
@@ -137,13 +135,14 @@ class Served:
         kept = ["--trail", trail] if self.sef_replay else []
         env = failing(self.library, **words)
         try:
-            with Venue(self.program, self.files, port, *kept, turns=TURNS, env=env) as venue:
+            with Venue(self.program, self.files, port, *kept, env=env) as venue:
                 venue.await_start(or_end=True)
                 command = [self.clients, str(port), str(MESSAGES), "1000", "1", "100", PATIENCE]
                 day = subprocess.run(command, capture_output=True, text=True, timeout=LONGEST, check=False)
-                printed = venue.spend_turns(LONGEST)
-                lines = [line for line in venue.log().splitlines() if " at 127.0.0.1:" not in line]
-                return day.returncode, day.stderr, venue.process.returncode, printed, "\n".join(lines)
+                printed = venue.end(LONGEST)
+                # (an event's line may be cut short where an allocation failed)
+                faults = [line for line in venue.faults().splitlines() if " event=" not in line]
+                return day.returncode, day.stderr, venue.process.returncode, printed, "\n".join(faults)
         finally:
             with self.lock:
                 self.ports.append(port)

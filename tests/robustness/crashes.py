@@ -27,12 +27,11 @@ import threading
 
 sys.path.insert(0, os.path.join(os.path.dirname(os.path.abspath(__file__)), "..", "lib"))
 from checked_client import market  # noqa: E402
-from fix import ENDLESS, Client, Venue, expect  # noqa: E402
+from fix import Client, Venue, expect  # noqa: E402
 from trail import copied, is_database, older_trail, replayed, rows_of, tables_of  # noqa: E402
 
 WORKERS = min(os.cpu_count() or 2, 8)  # of five ports each
 
-TURNS = 10_000  # of a venue whose disk fails
 SILENCE = 2.0  # seconds without an answer, after which none comes from a venue whose disk fails
 LONGEST = 60  # seconds for a run
 PARTIES = "453=4|" + "".join(f"448={name}|447=D|452=35|" for name in ("BETA", "GAMMA", "DELTA", "EPSILON"))
@@ -99,21 +98,20 @@ class Crashes:
 
     def stopped_day(self, trail, port, at, fails):
         """A venue over the trail that is stopped: how many items it answered, and whether it was stopped at all."""
-        turns = TURNS if fails else ENDLESS
         env = stopping(self.library, at, fails)
-        with Venue(self.venue_main, self.files, port, "--trail", trail, turns=turns, env=env) as venue:
+        with Venue(self.venue_main, self.files, port, "--trail", trail, env=env) as venue:
             venue.await_start(or_end=True)
             is_begun = venue.is_up()
             answered = answered_items(port, SILENCE if fails else LONGEST) if is_begun else 0
             if fails:
-                venue.spend_turns(LONGEST)
+                venue.end(LONGEST)
             elif answered < len(ITEMS):
                 # (the connections of a process that is killed end before it does)
                 venue.process.wait(LONGEST)
             if venue.is_up() or venue.process.returncode == 0:
                 expect("items that a venue answered which was not stopped", answered, len(ITEMS))
                 return answered, False
-            fault = venue.log().splitlines()[-1:]
+            fault = venue.faults().splitlines()[-1:]
             # (a file of which no trail can be made may be reported as a refused one)
             is_refused = not is_begun and (venue.process.returncode, fault) == (3, ["venue_main: trail refused 1"])
             if fails and not is_refused:

@@ -7,9 +7,9 @@
 //
 // Expected: each message is answered once, in order; each report of the venue (17) is received once by one of the
 // two, and none is missing; each trade (880) is received once by both, for the same quantity; the book is empty in
-// the end. Prints one line of words and numbers. The venue may close a connection CLOSES (0) times. Where nobody
-// listens any more, or nothing comes for PATIENCE (10) seconds, the status is 3; else, where anything is not as
-// expected, it is 1.
+// the end. Prints one line of words and numbers. The venue may close a connection CLOSES (0) times; one that it closes
+// unanswered, as it takes the one before for alive, is tried again. Where nobody listens any more, or nothing comes for
+// PATIENCE (10) seconds, the status is 3; else, where anything is not as expected, it is 1.
 #include <algorithm>
 #include <arpa/inet.h>
 #include <charconv>
@@ -31,6 +31,7 @@
 namespace {
 
 constexpr long WINDOW = 256; // messages that may wait for their answers
+constexpr int TRIES = 5000;  // of a connection, one each millisecond
 constexpr const char *AT = "20250303-14:30:00";
 
 std::string fields(std::string text) {
@@ -98,6 +99,7 @@ struct Client {
     Seen &seen;
     int line = -1;
     bool on = false;               // the venue answered the Logon
+    int tries = 0;                 // connections that were closed unanswered, since one was answered
     std::vector<std::string> sent{}; // by number from 1: an application message without its header, or nothing
     long due = 1;                  // the venue's next number
     long asked = 0;                // the number that raised a resend request, until it is received
@@ -222,7 +224,10 @@ struct Client {
             return;
         }
         if (type != "A" && type != "2" && type != "4" && type != "8" && type != "9" && type != "W") fail(name, "not expected", message);
-        if (type == "A") on = true;
+        if (type == "A") {
+            on = true;
+            tries = 0;
+        }
         if (type == "2") resend(number_of(message, "7="));
         if (n < due) {
             if (!repeated) fail(name, "a number twice", message);
@@ -242,9 +247,13 @@ struct Client {
         if (type == "8" || type == "9" || type == "W") take(type, message);
     }
 
-    // The venue closed the connection, which it may `closes` times.
+    // The venue closed the connection: unanswered, or as it may `closes` times.
     void closed() {
-        if (seen.closes-- <= 0) fail(name, "the venue closed the connection");
+        if (!on && tries++ < TRIES) {
+            usleep(1000);
+        } else if (seen.closes-- <= 0) {
+            fail(name, "the venue closed the connection");
+        }
         close(line);
         open();
     }

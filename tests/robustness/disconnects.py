@@ -26,11 +26,11 @@ LONGEST = 3600  # seconds
 
 def day(program, clients, files, port, count, between, seed, *options):
     with Venue(program, files, port, *options) as venue:
-        started = venue.await_start().log()
+        venue.await_start()
         command = [clients, str(port), str(count), str(between), seed]
         ran = subprocess.run(command, capture_output=True, text=True, timeout=LONGEST, check=False)
         expect("the clients' fault and status", (ran.stderr, ran.returncode), ("", 0))
-        expect("the venue's standard error", (venue.is_up(), venue.log()), (True, started))
+        expect("the venue's faults", (venue.is_up(), venue.faults()), (True, ""))
         print(ran.stdout, end="", flush=True)
 
 

@@ -136,7 +136,7 @@ def microseconds(trips):
 
 def fuzz_served(program, files, port, count, seed):
     with Venue(program, files, port) as venue:
-        started = venue.await_start().log()
+        venue.await_start()
         delta = CheckedClient("DELTA", port + 3).begin()
         epsilon = CheckedClient("EPSILON", port + 4).begin()
         before = round_trips(delta, epsilon, lambda rounds: rounds >= ROUNDS, "b")
@@ -156,7 +156,7 @@ def fuzz_served(program, files, port, count, seed):
         for k in range(ROUNDS):
             trade(alpha, epsilon, f"a{k}")
         print(f"serve: {ROUNDS} trades of ALPHA on the port that had the bytes")
-        expect("the venue's standard error", (venue.is_up(), venue.log()), (True, started))
+        expect("the venue's faults", (venue.is_up(), venue.faults()), (True, ""))
 
 
 def main():

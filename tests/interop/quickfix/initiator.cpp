@@ -8,6 +8,8 @@
 //   NAME resets yes | no             whether its next Logons reset the numbers (141=Y)
 //   NAME resend FIRST LAST           asks the venue to send these numbers again
 //   NAME hears FIELDS                waits for a message with all these fields, after those that were awaited before
+//   NAME ends                        waits until a session that was logged on has lost its connection, after those ends
+//                                    that were awaited before
 //   # ..                             a comment, which is printed
 // The status is 1 where a wait was in vain, or where the engine refused a message of the venue (it sent a Reject).
 #include <quickfix/Application.h>
@@ -45,6 +47,7 @@ struct Received {
     std::condition_variable came;
     std::map<std::string, std::vector<std::string>> messages;
     std::map<std::string, size_t> waited_for;
+    std::map<std::string, int> ends;
     std::string refused;
 
     void print(const std::string &line) {
@@ -62,6 +65,19 @@ struct Received {
         std::lock_guard<std::mutex> held(lock);
         print(name + " > " + with(message, '\x01', '|'));
         if (message.find("\x01" "35=3\x01") != std::string::npos) refused = message;
+    }
+
+    void end(const std::string &name) {
+        std::lock_guard<std::mutex> held(lock);
+        print(name + " - the connection has ended");
+        ends[name]++;
+        came.notify_all();
+    }
+
+    void wait_for_end(const std::string &name) {
+        std::unique_lock<std::mutex> held(lock);
+        if (!came.wait_for(held, PATIENCE, [&] { return ends[name] > 0; })) throw std::runtime_error(name + " did not lose its connection");
+        ends[name]--;
     }
 
     // Whether a message after those awaited has all pieces; then it counts as awaited.
@@ -106,9 +122,11 @@ struct Logs : FIX::LogFactory {
 };
 
 struct Client : FIX::Application {
+    Received &received;
+    explicit Client(Received &received) : received(received) {}
     void onCreate(const FIX::SessionID &) override {}
     void onLogon(const FIX::SessionID &) override {}
-    void onLogout(const FIX::SessionID &) override {}
+    void onLogout(const FIX::SessionID &session) override { received.end(session.getSenderCompID().getValue()); }
     void toAdmin(FIX::Message &, const FIX::SessionID &) override {}
     void toApp(FIX::Message &, const FIX::SessionID &) throw(FIX::DoNotSend) override {}
     void fromAdmin(const FIX::Message &, const FIX::SessionID &) throw(FIX::FieldNotFound, FIX::IncorrectDataFormat, FIX::IncorrectTagValue, FIX::RejectLogon) override {}
@@ -146,6 +164,7 @@ struct Runner {
             while (rest.find("35=A") != std::string::npos && !session.isLoggedOn()) std::this_thread::sleep_for(std::chrono::milliseconds(1));
             return;
         }
+        if (verb == "ends") return received.wait_for_end(name);
         if (verb == "logon") return session.logon();
         if (verb == "logout") return session.logout();
         if (verb == "break") return session.disconnect();
@@ -176,7 +195,7 @@ int main(int count, char **words) {
     }
     try {
         Received received;
-        Client client;
+        Client client(received);
         Logs logs(received);
         FIX::SessionSettings settings(words[1]);
         FIX::FileStoreFactory stores(settings);

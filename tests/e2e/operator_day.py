@@ -1,0 +1,793 @@
+#!/usr/bin/env python3
+"""A venue as its operator sees it: events on standard error, counters, how it ends, what it does about stuck lines.
+
+usage: operator_day.py PORT VENUE_MAIN [PART..]
+
+PORT and the next 119 are used. The parts, all of them or those that are named, run in parallel, each on venues of its
+own, and at last `turns` alone:
+
+stop        a venue ends by its stop file while five clients send all they can: each message that it took was answered,
+            each answer arrives, the status is 0, and nobody is served any more
+eof         the same by the end of standard input
+worker      the worker's turns are spent: the sessions end at once
+session     a session's turns are spent: its port is closed, and the others trade on
+refusals    a connection that is refused or dropped is reported with its cause
+gaps        a gap is reported; one that is not filled ends the connection after 2.2 heartbeat intervals
+hour        the same after 60 seconds without heartbeats; and the metrics of each minute and of the end
+places      a second connection is closed, or takes the place of one that is silent
+clock       a clock that steps by an hour is reported (with a C compiler alone)
+eras        a session that has begun 900 of its 1,000 eras is reported
+slow        a slow consumer is reported as cut
+failing     a disk that fails is reported, and who is logged on is cut
+starts      on a full disk, or where nothing may be written, a venue stops before it listens
+unread      nobody reads standard error: the venue trades on, and ends
+turns       an idle venue spends at most 11 turns a second in each thread; at 50,000 messages a second, a session and
+            the worker spend at most MOST_TURNS a message (what they spend is printed)
+"""
+
+import concurrent.futures
+import contextlib
+import fcntl
+import os
+import resource
+import shutil
+import subprocess
+import sys
+import tempfile
+import threading
+import time
+
+sys.path.insert(0, os.path.join(os.path.dirname(os.path.abspath(__file__)), "..", "lib"))
+from fix import (  # noqa: E402
+    ENDLESS,
+    PARTICIPANTS,
+    ROOT,
+    Client,
+    Files,
+    StopFile,
+    Venue,
+    expect,
+    field,
+    frame,
+    limit_order,
+    message,
+    serve_command,
+    timestamp,
+    wait_until,
+    wire,
+)
+
+NAME = "tests/e2e/operator_day"
+PORTS = 120
+EVENT_SECONDS = 20.0  # for an event
+IDLE_SECONDS = 10.0
+RATE = 50_000  # messages a second
+MOST_TURNS = 4  # a message; 1.2 are aimed at
+BUSY_SECONDS = 3.0
+WINDOW = 4096  # messages that wait for their answers
+REPORT = b"\x0135=8\x01"
+FLOOD_SECONDS = 2.0
+UNANSWERED = 500  # of a flood, so that none of its answers waits for room at its socket
+ERAS = 900
+QUEUED = 65_536  # replies that may wait for one participant
+STEP_CLOCK = os.path.join(ROOT, "tests", "faults", "step_clock.c")
+STOPPED = (1, "", "venue_main: stopped: trail\n")
+
+
+class NotRun(Exception):
+    """Why a part cannot be run here."""
+
+
+class Part:
+    """What a part needs: the program, ports of its own, and its output."""
+
+    def __init__(self, program, ports):
+        self.program = program
+        self.files = Files()
+        self.ports = ports
+        self.lines = []
+
+    def print(self, line):
+        self.lines.append(line)
+
+    def compare(self, what, found, expected):
+        expect(what, found, expected)
+        self.print(f"{what}: {found!r}")
+
+    def venue(self, *options, **how):
+        return Venue(self.program, self.files, self.ports.pop(0), *options, **how)
+
+    def copy_to(self, folder):
+        """Has the next venues begin from copies of program and files that each user may read."""
+        self.program = shutil.copy(self.program, os.path.join(folder, "program"))
+        self.files = Files()
+        self.files.participants = shutil.copy(self.files.participants, folder)
+        self.files.instruments = shutil.copy(self.files.instruments, folder)
+        for file in (self.program, self.files.participants, self.files.instruments):
+            os.chmod(file, 0o755)
+
+    def await_event(self, venue, name, seconds=EVENT_SECONDS, **keys):
+        """The first event of this name whose keys have these values."""
+        found = []
+
+        def has_come():
+            found.extend(event for event in venue.events() if is_of(event, name, keys))
+            return found
+
+        wait_until(has_come, seconds, lambda: f"no event {name} {keys}: {venue.log()}", 0.02)
+        self.print(" ".join(f"{key}={value}" for key, value in found[0].items() if key != "time"))
+        return found[0]
+
+    def end(self, venue, taken):
+        """Ends a venue by its stop file."""
+        began = time.monotonic()
+        printed = venue.end()
+        self.print(f"ended after {time.monotonic() - began:.1f} s")
+        self.compare("closing, status and faults", closing_of(venue, printed), closed(taken))
+
+
+def is_of(event, name, keys):
+    return event["event"] == name and all(event.get(key) == value for key, value in keys.items())
+
+
+def closing_of(venue, printed):
+    return printed, venue.process.returncode, venue.faults()
+
+
+def closed(taken):
+    return f"closed sessions 5 taken {taken}\n", 0, ""
+
+
+def summaries(venue):
+    """The last line of each participant and of the worker, by name."""
+    found = {event.get("participant", event.get("thread")): event for event in venue.events() if event["event"] == "summary"}
+    expect("who has a summary", sorted(found), sorted([*PARTICIPANTS, "worker"]))
+    return found
+
+
+def turns_of(venue):
+    """The turns that each thread spent."""
+    return {name: ENDLESS - int(event["turns_left"]) for name, event in summaries(venue).items()}
+
+
+def place_of(name):
+    return PARTICIPANTS.index(name)
+
+
+def client_of(venue, name):
+    return Client(name, venue.port + place_of(name))
+
+
+def logged_on(venue, name, heartbeat=30):
+    client = client_of(venue, name)
+    log_on(client, heartbeat)
+    return client
+
+
+def log_on(client, heartbeat=30, more=""):
+    client.send("A", f"98=0|108={heartbeat}|1137=9|{more}", quietly=True)
+    client.await_field("35=A", quietly=True)
+
+
+def is_served(venue, name):
+    """Whether somebody takes a connection and keeps it for a moment."""
+    try:
+        client = client_of(venue, name)
+        client.connection.settimeout(0.5)
+        return client.connection.recv(1) != b""
+    except TimeoutError:
+        return True
+    except OSError:
+        return False
+
+
+def seconds_until_end(client, since, seconds):
+    """The seconds until the venue closes the connection."""
+    client.connection.settimeout(seconds)
+    with contextlib.suppress(ConnectionError):
+        while client.connection.recv(4096):
+            pass
+    return time.monotonic() - since
+
+
+def rest(client):
+    """Reads up to the end of the connection, and returns what came."""
+    with contextlib.suppress(ConnectionError):
+        while more := client.connection.recv(4096):
+            client.unread += more
+    return client.unread
+
+
+def orders_and_cancels(name, count):
+    """The frames of these messages, under the numbers from 2 on."""
+    at = timestamp()
+    frames = []
+    for k in range(count):
+        order = f"11={name}{k}|55=IRS5Y|54=1|38=10|40=2|44=2.5|" if k % 2 == 0 else f"11={name}{k}|41={name}{k - 1}|"
+        frames.append(message("F" if k % 2 else "D", name, k + 2, order, at))
+    return frames
+
+
+# -- turns
+
+
+def turns(part):
+    with part.venue() as venue:
+        venue.await_start()
+        time.sleep(IDLE_SECONDS)
+        part.end(venue, 0)
+        spent = turns_of(venue)
+        part.print(f"turns of {IDLE_SECONDS:.0f} idle seconds and an end: {spent}")
+        for name, count in spent.items():
+            if count > 11 * (IDLE_SECONDS + 2):
+                raise SystemExit(f"idle: {name} spent {count} turns")
+    with part.venue() as venue:
+        venue.await_start()
+        busy = Busy(logged_on(venue, "ALPHA"))
+        count, took = busy.run()
+        part.print(f"{count / took:.0f} messages a second")
+        part.end(venue, count)
+        spent = turns_of(venue)
+        for name in ("ALPHA", "worker"):
+            part.print(f"{name}: {spent[name]} turns, {spent[name] / count:.2f} a message")
+        for name in ("ALPHA", "worker"):
+            if spent[name] > MOST_TURNS * count + 11 * (took + 3):
+                raise SystemExit(f"{name} spends more than {MOST_TURNS} turns a message")
+
+
+class Busy:
+    """A client that sends RATE messages a second, where the venue answers as many."""
+
+    def __init__(self, client):
+        self.client = client
+        self.frames = orders_and_cancels(client.name, int(RATE * BUSY_SECONDS))
+        self.sent = self.answered = 0
+        self.is_over = False
+        self.sender = threading.Thread(target=self.send, daemon=True)
+
+    def send(self):
+        began = time.monotonic()
+        each = RATE // 200
+        while self.sent < len(self.frames) and time.monotonic() < began + BUSY_SECONDS + 1:
+            due = began + self.sent / RATE - time.monotonic()
+            if due > 0 or self.sent - self.answered > WINDOW:
+                time.sleep(max(due, 0.0005))
+                continue
+            self.client.connection.sendall(b"".join(self.frames[self.sent : self.sent + each]))
+            self.sent += len(self.frames[self.sent : self.sent + each])
+        self.is_over = True
+
+    def run(self):
+        """How many messages were sent and answered, and in how many seconds."""
+        began = time.monotonic()
+        self.sender.start()
+        tail = b""
+        while not self.is_over or self.answered < self.sent:
+            more = self.client.connection.recv(1 << 16)
+            if not more:
+                raise SystemExit(f"the connection ends after {self.answered} answers")
+            self.answered += (tail + more).count(REPORT)
+            tail = (tail + more)[1 - len(REPORT) :]
+        return self.sent, time.monotonic() - began
+
+
+# -- ends
+
+
+class Flood:
+    """A client that sends orders for no instrument as fast as they are answered, and counts the answers."""
+
+    def __init__(self, venue, name):
+        self.client = logged_on(venue, name)
+        self.answered = 0
+        self.threads = [threading.Thread(target=work, daemon=True) for work in (self.send, self.receive)]
+        for thread in self.threads:
+            thread.start()
+
+    def send(self):
+        with contextlib.suppress(OSError):
+            for k in range(10_000_000):
+                while k - self.answered > UNANSWERED:
+                    time.sleep(0.001)
+                order = limit_order(f"{self.client.name}{k}", 1, 1, symbol="NOPE")
+                self.client.send("D", order, quietly=True)
+
+    def receive(self):
+        with contextlib.suppress(OSError, SystemExit):
+            while True:
+                self.answered += field(self.client.next_message(), 35) == b"8"
+
+    def join(self):
+        for thread in self.threads:
+            thread.join(30)
+        return self.answered
+
+
+def stop(part):
+    with part.venue() as venue:
+        venue.await_start()
+        floods = [Flood(venue, name) for name in PARTICIPANTS]
+        time.sleep(FLOOD_SECONDS)
+        printed = venue.end()
+        ended_by(part, venue, printed, floods)
+
+
+def eof(part):
+    with part.venue("--until-eof", stdin=subprocess.PIPE) as venue:
+        venue.await_start()
+        floods = [Flood(venue, name) for name in PARTICIPANTS]
+        time.sleep(FLOOD_SECONDS)
+        venue.process.stdin.close()
+        wait_until(lambda: not venue.is_up(), 150, "the venue does not end by its standard input")
+        ended_by(part, venue, venue.process.stdout.read(), floods)
+
+
+def ended_by(part, venue, printed, floods):
+    """A venue that was stopped answered all that it took, and its events have it."""
+    answered = {flood.client.name: flood.join() for flood in floods}
+    part.compare("closing, status and faults", closing_of(venue, printed), closed(sum(answered.values())))
+    part.await_event(venue, "stopping")
+    part.await_event(venue, "drained")
+    found = summaries(venue)
+    for name, count in answered.items():
+        part.compare(f"{name}: taken", int(found[name]["taken"]), count)
+    part.compare("who is served after the end", [name for name in PARTICIPANTS if is_served(venue, name)], [])
+
+
+def worker(part):
+    with part.venue(turns=30) as venue:
+        venue.await_start()
+        alpha = logged_on(venue, "ALPHA")
+        since = time.monotonic()
+        part.print(f"the connection ended after {seconds_until_end(alpha, since, 20):.1f} s")
+        venue.process.wait(20)
+        part.compare("closing, status and faults", closing_of(venue, venue.process.stdout.read()), closed(0))
+        part.await_event(venue, "worker_ended", cause="turns_spent")
+
+
+def session(part):
+    with part.venue(turns=3000) as venue:
+        venue.await_start()
+        beta = logged_on(venue, "BETA")
+        alpha = client_of(venue, "ALPHA")
+        log_on(alpha)
+        # (each byte is read in a turn of its own)
+        with contextlib.suppress(OSError):
+            for _ in range(30_000):
+                alpha.connection.sendall(b"x")
+                time.sleep(0.0003)
+        part.await_event(venue, "port_shut", participant="ALPHA", cause="turns_spent")
+        part.compare("who is served", [name for name in ("ALPHA", "GAMMA") if is_served(venue, name)], ["GAMMA"])
+        beta.send("D", limit_order("b1", 1, 100), quietly=True)
+        beta.await_field("150=0", quietly=True)
+        part.end(venue, 1)
+
+
+# -- events
+
+
+def refused(part, venue, name, kind, fields, **keys):
+    """Sends a message on a connection of its own; the venue closes it, and the event has these keys."""
+    client = client_of(venue, name)
+    client.connection.sendall(frame(wire(f"35={kind}|{fields}52={timestamp()}|")))
+    came = rest(client)
+    part.await_event(venue, "refused", participant=name, **keys)
+    return came
+
+
+def refusals(part):
+    head = "49=BETA|56=SEF|"
+    with part.venue() as venue:
+        venue.await_start()
+        logon = "98=0|108=30|1137=9|"
+        cases = [
+            ("0", f"{head}34=1|", {"cause": "not_logon"}),
+            ("A", f"49=NOBODY|56=SEF|34=1|{logon}", {"cause": "wrong_comp_id"}),
+            ("A", f"{head}34=1|98=0|108=30|1137=8|", {"cause": "bad_logon", "reason": "5", "tag": "1137"}),
+            ("A", f"{head}{logon}", {"cause": "bad_logon", "reason": "1", "tag": "34"}),
+            ("A", f"{head}34=2|{logon}141=Y|", {"cause": "reset_refused"}),
+        ]
+        for kind, fields, keys in cases:
+            part.compare(f"{keys['cause']}: answered", refused(part, venue, "BETA", kind, fields, **keys), b"")
+        beta = logged_on(venue, "BETA")
+        part.await_event(venue, "logged_on", participant="BETA", heartbeat="30")
+        beta.send("5", "", quietly=True)
+        rest(beta)
+        part.await_event(venue, "dropped", participant="BETA", cause="logged_out")
+        came = refused(part, venue, "BETA", "A", f"{head}34=1|{logon}", cause="sequence_number_too_low")
+        part.compare("sequence_number_too_low: answered", b"expecting 3 received 1" in came, True)
+        gamma = logged_on(venue, "GAMMA", heartbeat=1)
+        since = time.monotonic()
+        part.print(f"GAMMA is silent, and dropped after {seconds_until_end(gamma, since, 20):.1f} s")
+        part.await_event(venue, "dropped", participant="GAMMA", cause="silent")
+        delta = logged_on(venue, "DELTA")
+        delta.connection.sendall(frame(wire(f"35=0|49=DELTA|56=SEF|52={timestamp()}|")))
+        rest(delta)
+        part.await_event(venue, "dropped", participant="DELTA", cause="no_sequence_number")
+        delta = client_of(venue, "DELTA")
+        delta.number = 1
+        log_on(delta)
+        delta.close()
+        part.await_event(venue, "disconnected", participant="DELTA")
+        since = time.monotonic()
+        epsilon = client_of(venue, "EPSILON")
+        took = seconds_until_end(epsilon, since, 20)
+        part.await_event(venue, "line_ended", participant="EPSILON", cause="no_logon")
+        if not 9.5 <= took <= 16:
+            raise SystemExit(f"a connection without a Logon was closed after {took:.1f} s")
+        part.print(f"a connection without a Logon was closed after {took:.1f} s")
+        part.end(venue, 0)
+
+
+def ahead(client, number):
+    """A Heartbeat under this number."""
+    client.number = number - 1
+    client.send("0", "", quietly=True)
+
+
+def ended_by_a_gap(part, venue, client, seconds, heartbeat):
+    """The client is ahead, and goes on being heard, until the venue ends its connection."""
+    ahead(client, client.number + 2)
+    since = time.monotonic()
+    over = threading.Event()
+
+    def beat():
+        with contextlib.suppress(OSError):
+            while not over.wait(heartbeat):
+                client.send("0", "", quietly=True)
+
+    beating = threading.Thread(target=beat, daemon=True)
+    beating.start()
+    took = seconds_until_end(client, since, seconds + 10)
+    over.set()
+    if not seconds - 0.2 <= took <= seconds + 6:
+        raise SystemExit(f"a gap ended the connection after {took:.1f} s, and not after {seconds}")
+    part.print(f"a gap ended the connection after {took:.1f} s")
+    part.await_event(venue, "gap_asked", participant=client.name, **{"from": "2"})
+    part.await_event(venue, "line_ended", participant=client.name, cause="gap_overdue", expected="2")
+
+
+def gaps(part):
+    with part.venue() as venue:
+        venue.await_start()
+        alpha = logged_on(venue, "ALPHA", heartbeat=2)
+        ended_by_a_gap(part, venue, alpha, 4.4, 1.0)
+        # a gap whose number moves on in time is none
+        beta = logged_on(venue, "BETA", heartbeat=2)
+        ahead(beta, 6)
+        for due in range(2, 7):
+            time.sleep(1.5)
+            beta.number = due - 1
+            beta.send("0", "", quietly=True)
+        beta.send("1", "112=here|", quietly=True)
+        beta.await_field("112=here", quietly=True)
+        part.print("a gap that is filled in eight seconds, a number each 1.5 s, ends nothing")
+        part.end(venue, 0)
+
+
+def hour(part):
+    with tempfile.TemporaryDirectory() as folder:
+        metrics = os.path.join(folder, "venue.prom")
+        with part.venue("--metrics", metrics) as venue:
+            venue.await_start()
+            beta = logged_on(venue, "BETA", heartbeat=0)
+            beta.send("D", limit_order("b1", 1, 100), quietly=True)
+            beta.await_field("150=0", quietly=True)
+            alpha = logged_on(venue, "ALPHA", heartbeat=0)
+            ended_by_a_gap(part, venue, alpha, 60.0, 5.0)
+            # (the file of the first minute is that of the start)
+            wait_until(lambda: taken_of(metrics, "BETA") == 1, 20, "no metrics after a minute", 0.1)
+            part.print(f"after a minute: {len(metrics_of(metrics))} metrics")
+            beta.send("F", "11=b2|41=b1|", quietly=True)
+            beta.await_field("150=4", quietly=True)
+            part.end(venue, 2)
+        compare_metrics(part, metrics_of(metrics), summaries(venue))
+
+
+def taken_of(metrics, name):
+    return metrics_of(metrics).get(f'sef_messages_taken_total{{participant="{name}"}}')
+
+
+def metrics_of(path):
+    """The values of a file in Prometheus's text format, by name and labels."""
+    found = {}
+    with open(path, encoding="ascii") as file:
+        for line in file:
+            if line.strip() and not line.startswith("#"):
+                name, value = line.rsplit(" ", 1)
+                found[name] = float(value)
+    return found
+
+
+def compare_metrics(part, found, ends):
+    keys = {"sef_connections_total": "connections", "sef_messages_taken_total": "taken", "sef_messages_sent_total": "sent"}
+    for name in ("ALPHA", "BETA"):
+        for metric, key in {**keys, "sef_turns_left": "turns_left"}.items():
+            value = found.get(f'{metric}{{participant="{name}"}}')
+            part.compare(f"{metric} of {name}", value, float(ends[name][key]))
+    part.compare("turns of the worker", found.get("sef_worker_turns_left"), float(ends["worker"]["turns_left"]))
+
+
+def places(part):
+    with part.venue() as venue:
+        venue.await_start()
+        alpha = logged_on(venue, "ALPHA")
+        second = client_of(venue, "ALPHA")
+        since = time.monotonic()
+        took = seconds_until_end(second, since, 10)
+        if took > 5:
+            raise SystemExit(f"a second connection was closed after {took:.1f} s")
+        part.await_event(venue, "second_closed", participant="ALPHA")
+        alpha.send("1", "112=here|", quietly=True)
+        alpha.await_field("112=here", quietly=True)
+        part.print(f"a second connection was closed after {took:.1f} s, and the first goes on")
+        # its machine is gone, and tries again each second on another
+        since = time.monotonic()
+        again = try_until_served(venue, alpha)
+        took = time.monotonic() - since
+        part.await_event(venue, "line_ended", participant="ALPHA", cause="replaced")
+        again.send("1", "112=back|", quietly=True)
+        again.await_field("112=back", quietly=True)
+        if not 8.5 <= took <= 20:
+            raise SystemExit(f"a participant is back after {took:.1f} s")
+        part.print(f"a participant whose connection is dead is back after {took:.1f} s")
+        part.end(venue, 0)
+
+
+def try_until_served(venue, old):
+    """A new connection of a client, tried each second until its Logon is answered."""
+    deadline = time.monotonic() + 30
+    while time.monotonic() < deadline:
+        client = client_of(venue, old.name)
+        client.number = old.number
+        try:
+            log_on(client)
+            return client
+        except (OSError, SystemExit):
+            time.sleep(1)
+    raise SystemExit(f"{old.name} is not served")
+
+
+def clock(part):
+    with tempfile.TemporaryDirectory() as folder:
+        library = os.path.join(folder, "step_clock.so")
+        if not shutil.which("cc") or subprocess.run(["cc", "-shared", "-fPIC", "-o", library, STEP_CLOCK], check=False).returncode:
+            raise NotRun("no C compiler (cc) that makes shared libraries")
+        shift = os.path.join(folder, "shift")
+        step_clock(shift, "0")
+        with part.venue(env={**os.environ, "LD_PRELOAD": library, "SHIFT": shift}) as venue:
+            venue.await_start()
+            alpha = logged_on(venue, "ALPHA", heartbeat=0)
+            # (the first look at the clock comes with the first turn of the worker)
+            time.sleep(2)
+            for to, name, moment in (("3600", "clock_forward", "leaps"), ("0", "clock_back", "stands")):
+                step_clock(shift, to)
+                part.await_event(venue, name, moment=moment)
+                alpha.send("1", "112=here|", quietly=True)
+                alpha.await_field("112=here", quietly=True)
+            part.end(venue, 0)
+
+
+def step_clock(path, shift):
+    with open(path + ".new", "w", encoding="ascii") as file:
+        file.write(f"{shift}\n")
+    os.replace(path + ".new", path)
+
+
+def eras(part):
+    with part.venue() as venue:
+        venue.await_start()
+        alpha = logged_on(venue, "ALPHA")
+        for count in range(ERAS):
+            alpha.number = 0
+            log_on(alpha, more="141=Y|")
+            # (256 events wait, and more are lost)
+            time.sleep(0.1 if count % 100 == 0 else 0)
+        part.await_event(venue, "era_begun", participant="ALPHA", era=str(ERAS), of="1000")
+        part.end(venue, 0)
+
+
+def slow(part):
+    """ALPHA's order is filled by small ones of three others, and it reads nothing."""
+    each = QUEUED // 3 + 9000
+    with part.venue() as venue:
+        venue.await_start()
+        alpha = logged_on(venue, "ALPHA")
+        alpha.send("D", limit_order("a1", 1, 10_000_000), quietly=True)
+        alpha.await_field("150=0", quietly=True)
+        sellers = [Seller(logged_on(venue, name), each) for name in ("BETA", "DELTA", "EPSILON")]
+        for seller in sellers:
+            seller.start()
+        try:
+            part.await_event(venue, "cut", seconds=15, participant="ALPHA")
+        except SystemExit:
+            fills = sum(seller.fills for seller in sellers)
+            if fills < QUEUED or any(is_of(event, "line_fault", {"participant": "ALPHA"}) for event in venue.events()):
+                raise NotRun(f"this machine does not make {QUEUED} replies in five seconds") from None
+            raise
+        wait_until(lambda: not is_served(venue, "ALPHA"), 15, "ALPHA is served after it was cut")
+
+
+class Seller:
+    """A client that sells ten in each of its orders, and reads the answers."""
+
+    def __init__(self, client, count):
+        at = timestamp()
+        orders = (f"11=s{k}|55=IRS5Y|54=2|38=10|40=2|44=2.5|" for k in range(count))
+        self.flow = b"".join(message("D", client.name, k + 2, order, at) for k, order in enumerate(orders))
+        self.client = client
+        self.fills = 0
+
+    def start(self):
+        self.client.connection.settimeout(None)
+        for work in (self.send, self.receive):
+            threading.Thread(target=work, daemon=True).start()
+
+    def send(self):
+        with contextlib.suppress(OSError):
+            self.client.connection.sendall(self.flow)
+
+    def receive(self):
+        with contextlib.suppress(OSError):
+            while more := self.client.connection.recv(1 << 18):
+                self.fills += more.count(b"\x01150=F\x01")
+
+
+def confined(longest_file):
+    def confine():
+        resource.setrlimit(resource.RLIMIT_FSIZE, (longest_file, longest_file))
+
+    # (Python ignores the signal of a file that is too long, and so does a process that it starts like this)
+    return {"restore_signals": False, "preexec_fn": confine}
+
+
+def failing(part):
+    with tempfile.TemporaryDirectory() as folder:
+        trail = os.path.join(folder, "trail")
+        with part.venue("--trail", trail, **confined(400_000)) as venue:
+            venue.await_start()
+            alpha = logged_on(venue, "ALPHA")
+            beta = logged_on(venue, "BETA")
+            since = time.monotonic()
+            with contextlib.suppress(OSError):
+                for k in range(300):
+                    alpha.send("D", limit_order(f"a{k}", 1, 1), quietly=True)
+            seconds_until_end(beta, since, 30)
+            venue.process.wait(60)
+            part.compare("status, output and faults", ended(venue), STOPPED)
+            part.await_event(venue, "trail_refused")
+            for client in (alpha, beta):
+                part.await_event(venue, "cut", participant=client.name)
+            for name in PARTICIPANTS:
+                part.await_event(venue, "port_shut", participant=name, cause="over")
+
+
+def ended(venue):
+    return venue.process.returncode, venue.process.stdout.read(), venue.faults()
+
+
+def starts(part):
+    with tempfile.TemporaryDirectory() as folder:
+        os.chmod(folder, 0o755)
+        trail = os.path.join(folder, "trail")
+        with part.venue("--trail", trail) as venue:
+            venue.await_start()
+            part.end(venue, 0)
+        for what, path, how in refused_starts(part, folder, trail):
+            with part.venue("--trail", path, **how) as venue:
+                venue.process.wait(30)
+                part.compare(what, (*ended(venue), venue.log().count(" at 127.0.0.1:")), (*STOPPED, 0))
+
+
+def refused_starts(part, folder, trail):
+    """Where a venue may not begin: what it is, the trail, and how the process is started."""
+    yield "no space for a trail", os.path.join(folder, "new"), confined(8192)
+    yield "no space for a row", trail, confined(8192)
+    if os.getuid() == 0:
+        part.copy_to(folder)
+        how = {"preexec_fn": lambda: os.setuid(65534)}
+        yield "a file that may not be written", trail, how
+        yield "a folder that may not be written", os.path.join(folder, "other"), how
+        full = os.path.join(folder, "full")
+        os.mkdir(full)
+        if subprocess.run(["mount", "-t", "tmpfs", "-o", "size=256k", "tmpfs", full], capture_output=True).returncode == 0:
+            try:
+                with contextlib.suppress(OSError), open(os.path.join(full, "filling"), "wb") as file:
+                    file.write(b"x" * (1 << 20))
+                yield "a full disk", os.path.join(full, "trail"), {}
+            finally:
+                subprocess.run(["umount", full], check=True)
+        else:
+            part.print("a full disk: not run: no file system may be mounted")
+    else:
+        os.chmod(trail, 0o444)
+        yield "a file that may not be written", trail, {}
+        os.chmod(folder, 0o555)
+        yield "a folder that may not be written", os.path.join(folder, "other"), {}
+        os.chmod(folder, 0o755)
+
+
+def unread(part):
+    stop_file = StopFile()
+    port = part.ports.pop(0)
+    command = serve_command(part.program, Files(), port, *stop_file.words)
+    venue = subprocess.Popen(command, stdin=subprocess.DEVNULL, stdout=subprocess.PIPE, stderr=subprocess.PIPE)
+    try:
+        fcntl.fcntl(venue.stderr, fcntl.F_SETPIPE_SZ, 4096)
+        deadline = time.monotonic() + 20
+        beta = None
+        while beta is None:
+            with contextlib.suppress(OSError):
+                beta = Client("BETA", port + 1)
+            if time.monotonic() > deadline:
+                raise SystemExit("the venue does not listen")
+        log_on(beta)
+        # more lines than the pipe holds
+        for _ in range(15):
+            for _ in range(10):
+                for k in (0, 2, 3, 4):
+                    with contextlib.suppress(OSError):
+                        Client(PARTICIPANTS[k], port + k).close()
+            time.sleep(0.2)
+        slowest = 0.0
+        for k in range(200):
+            began = time.monotonic()
+            beta.send("D", limit_order(f"b{k}", 1, 1, symbol="NOPE"), quietly=True)
+            beta.await_field("150=8", quietly=True)
+            slowest = max(slowest, time.monotonic() - began)
+        part.print(f"the slowest of 200 round trips: {slowest * 1000:.0f} ms")
+        began = time.monotonic()
+        stop_file.end(venue, 30)
+        part.print(f"ended after {time.monotonic() - began:.1f} s")
+        part.compare("closing and status", (venue.stdout.read(), venue.returncode), (b"closed sessions 5 taken 200\n", 0))
+    finally:
+        venue.kill()
+        venue.wait()
+
+
+PARTS = [stop, eof, worker, session, refusals, gaps, hour, places, clock, eras, slow, failing, starts, unread]
+
+
+def run(part, test):
+    """Runs a part, and returns how it ended."""
+    try:
+        test(part)
+    except NotRun as why:
+        return f"not run: {why}"
+    except (SystemExit, Exception) as failure:  # pylint: disable=broad-except
+        return f"FAILED: {type(failure).__name__}: {failure}"
+    return "passed"
+
+
+def main():
+    if len(sys.argv) < 3:
+        raise SystemExit(__doc__)
+    first, program, asked = int(sys.argv[1]), sys.argv[2], sys.argv[3:]
+    tests = [test for test in [*PARTS, turns] if not asked or test.__name__ in asked]
+    ports = iter(range(first, first + PORTS, 5))
+    needed = {turns: 2, starts: 7}
+    parts = {test: Part(program, [next(ports) for _ in range(needed.get(test, 1))]) for test in tests}
+    failed = []
+
+    def report(test, outcome):
+        if outcome.startswith("not run"):
+            print(f"{NAME}, {test.__name__}: {outcome}")
+        else:
+            print(f"-- {test.__name__}: {outcome}")
+        print("".join(f"   {line}\n" for line in parts[test].lines), end="", flush=True)
+        if outcome.startswith("FAILED"):
+            failed.append(test.__name__)
+
+    with concurrent.futures.ThreadPoolExecutor(len(PARTS)) as pool:
+        running = {pool.submit(run, parts[test], test): test for test in tests if test is not turns}
+        for done in concurrent.futures.as_completed(running):
+            report(running[done], done.result())
+    if turns in tests:
+        report(turns, run(parts[turns], turns))
+    if failed:
+        raise SystemExit(f"failed: {' '.join(failed)}")
+    print("the operator's day is as expected")
+
+
+if __name__ == "__main__":
+    main()
