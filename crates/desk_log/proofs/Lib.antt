@@ -1,0 +1,10 @@
+pub mod FirstPiece
+pub mod Integers
+pub mod Texts
+pub mod Scan
+pub mod Numbering
+pub mod Firsts
+pub mod Conflicts
+pub mod OwedRows
+pub mod Saying
+pub mod Joining

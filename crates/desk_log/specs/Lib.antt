@@ -1,0 +1,11 @@
+pub mod Pieces
+pub mod Frames
+pub mod Bodies
+pub mod Numbered
+pub mod Once
+pub mod Comparing
+pub mod Parts
+pub mod Report
+pub mod Reading
+pub mod Owed
+pub mod Compares

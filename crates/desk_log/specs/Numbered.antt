@@ -1,0 +1,59 @@
+-- The frames of a log from the one to the other, in the order of the log, by era and number.
+use Rattle.std.specs.Prelude.{ℕ, ◌+◌, ◌==◌, ◌||◌, List, [], ◌∷◌, ◌++◌, Bool, true, false, Option, Some, None, slice_range, if◌then◌else◌}
+use Rattle.desk_log.specs.declared.frames.Span.{Span}
+use Rattle.desk_log.specs.declared.numbered.Place.{Place}
+use Rattle.desk_log.specs.declared.numbered.Numbered.{Numbered}
+use Rattle.desk_log.specs.Bodies.{is_between, is_first, is_session, next_in, number_in, text_of}
+
+abbrev pub body_at : List ℕ → Span → List ℕ
+body_at log s = slice_range log s.start s.end
+
+-- the number of a frame from the one to the other
+abbrev pub number_between : (from to body : List ℕ) → Option ℕ
+number_between from to body = if is_between from to body then number_in body else None
+
+-- a Logon numbered 1 begins an era, and so does the first frame
+abbrev pub era_at : ℕ → ℕ → List ℕ → ℕ
+era_at era number body = if era == 0 || is_first number body then era + 1 else era
+
+abbrev pub era_behind : ℕ → Option ℕ → List ℕ → ℕ
+era_behind era None body = era
+era_behind era (Some n) body = era_at era n body
+
+abbrev pub numbered_as : ℕ → ℕ → List ℕ → Span → Numbered
+numbered_as era n body s = record { place = record { era = era; number = n }; next = next_in n body; session = is_session body; body = s }
+
+abbrev pub numbered_if : ℕ → Option ℕ → List ℕ → Span → List Numbered
+numbered_if era None body s = []
+numbered_if era (Some n) body s = numbered_as (era_at era n body) n body s ∷ []
+
+abbrev pub numbered_from : (from to log : List ℕ) → ℕ → List Span → List Numbered
+numbered_from from to log era [] = []
+numbered_from from to log era (s ∷ ss) =
+    numbered_if era (number_between from to (body_at log s)) (body_at log s) s
+    ++ numbered_from from to log (era_behind era (number_between from to (body_at log s)) (body_at log s)) ss
+
+-- the frames with these bodies, from the one to the other
+abbrev pub numbered_in : (from to log : List ℕ) → List Span → List Numbered
+numbered_in from to log ss = numbered_from from to log 0 ss
+
+-- an application message: its place, and where its body stands
+abbrev pub Logged : Type 0
+Logged = Place × Span
+
+abbrev pub logged_if : Bool → Numbered → List Logged
+logged_if true f = []
+logged_if false f = (f.place, f.body) ∷ []
+
+-- the application messages among them
+abbrev pub logged_in : List Numbered → List Logged
+logged_in [] = []
+logged_in (f ∷ fs) = logged_if f.session f ++ logged_in fs
+
+-- the application text of a message
+abbrev pub text_at : List ℕ → Span → List ℕ
+text_at log s = text_of (body_at log s)
+
+abbrev pub texts_in : List ℕ → List Logged → List (List ℕ)
+texts_in log [] = []
+texts_in log (l ∷ ls) = text_at log l.1 ∷ texts_in log ls

@@ -1,0 +1,20 @@
+//! A desk's own FIX log against what the rows of a trail owe it.
+#![tactic(auto)]
+
+mod bodies;
+mod comparing;
+mod fault;
+mod frames;
+mod numbered;
+mod once;
+mod owed;
+mod parts;
+mod pieces;
+mod printing;
+mod reading;
+mod report;
+
+pub use comparing::Comparison;
+pub use fault::{LogFault, NoLog};
+pub use frames::FrameFault;
+pub use printing::print_comparison;

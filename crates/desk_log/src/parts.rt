@@ -1,0 +1,57 @@
+//! Sentences, part by part.
+ghost use Rattle.std.specs.Prelude.{◌≡◌, ◌++◌, OnOk, decimal};
+ghost use Rattle.desk_log.specs.Parts as specs;
+
+use itoa::Buffer;
+use std::alloc::AllocError;
+
+/// A part of a sentence.
+#[derive(Clone, Copy)]
+pub(crate) enum Part<'a> {
+    Bytes(&'a [u8]),
+    Number(u64),
+    /// A text of FIX, with | for SOH.
+    Fix(&'a [u8]),
+}
+
+fn append_number(out: &mut Vec<u8>, number: u64) -> Result<(), AllocError>
+    ensures { OnOk result (out.new.items ≡ out.old.items ++ decimal number) }
+{
+    let mut digits = Buffer::new();
+    out.extend_from_slice(digits.format(number).as_bytes())
+}
+
+fn visible_byte(byte: u8) -> u8
+    ensures { result ≡ specs.visible_byte byte }
+{
+    if byte == 1 { b'|' } else { byte }
+}
+
+fn append_fix(out: &mut Vec<u8>, text: &[u8]) -> Result<(), AllocError>
+    ensures { OnOk result (out.new.items ≡ out.old.items ++ specs.visible text.now) }
+{
+    for byte in text {
+        out.push(visible_byte(*byte))?;
+    }
+    Ok(())
+}
+
+fn append_part(out: &mut Vec<u8>, part: &Part) -> Result<(), AllocError>
+    ensures { OnOk result (out.new.items ≡ out.old.items ++ specs.shown part.now) }
+{
+    match part {
+        Part::Bytes(bytes) => out.extend_from_slice(bytes),
+        Part::Number(number) => append_number(out, *number),
+        Part::Fix(text) => append_fix(out, text),
+    }
+}
+
+/// Appends parts, one behind the other.
+pub(crate) fn append_parts(out: &mut Vec<u8>, parts: &[Part]) -> Result<(), AllocError>
+    ensures { OnOk result (out.new.items ≡ out.old.items ++ specs.all_shown parts.now) }
+{
+    for part in parts {
+        append_part(out, part)?;
+    }
+    Ok(())
+}

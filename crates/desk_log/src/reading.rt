@@ -1,0 +1,43 @@
+//! A log, read.
+
+ghost use Rattle.std.specs.Prelude.{◌≡◌, IfOk, length};
+ghost use Rattle.desk_log.specs.Reading as specs;
+
+use crate::frames::{Span, bodies_in};
+use crate::numbered::{Ends, Numbered, Place, logged_in, numbered_in};
+use crate::once::{Conflict, conflict_in, first_in, listed};
+use std::alloc::{AllocError, Global};
+
+/// What was read of a log.
+#[derive(Drop)]
+pub struct Reading {
+    /// The number of frames, of both directions.
+    pub bodies: usize,
+    /// The frames from the one to the other.
+    pub frames: Vec<Numbered>,
+    /// The application messages among them.
+    pub logged: Vec<(Place, Span)>,
+    /// Each of these once, by era and number.
+    pub once: Vec<(Place, Span)>,
+    /// Two of one place with different texts.
+    pub conflict: Option<Conflict>,
+}
+
+/// Reads a log.
+pub(crate) fn read(alloc: Global, ends: &Ends, log: &[u8]) -> Result<Reading, AllocError>
+    ensures { IfOk result (λ reading. specs.IsReading ends.now.from.now ends.now.to.now log.now reading) }
+{
+    let bodies = bodies_in(alloc, log)?;
+    let frames = numbered_in(alloc, ends, log, &bodies)?;
+    let logged = logged_in(alloc, &frames)?;
+    let kept = first_in(alloc, &logged)?;
+    let once = listed(alloc, &kept)?;
+    let conflict = conflict_in(alloc, log, &kept, &logged)?;
+    Ok(Reading {
+        bodies: bodies.len(),
+        frames,
+        logged,
+        once,
+        conflict,
+    })
+}

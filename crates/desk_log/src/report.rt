@@ -1,0 +1,349 @@
+//! What is printed of a comparison.
+
+ghost use Rattle.std.specs.Prelude.{◌≡◌, ◌++◌, OnOk, IfOk, option_map, slice_get};
+ghost use Rattle.desk_log.specs.Report as specs;
+
+use crate::comparing::{Compared, Comparison};
+use crate::frames::{BrokenFrame, FrameFault, Span, first_broken, line_of, outside};
+use crate::numbered::{Ends, Place, text_at};
+use crate::once::Conflict;
+use crate::owed::Owed;
+use crate::parts::{Part, append_parts};
+use crate::reading::Reading;
+use std::alloc::{AllocError, Global};
+
+fn append_all(out: &mut Vec<u8>, owed: usize, desk: &[u8]) -> Result<(), AllocError>
+    ensures { OnOk result (out.new.items ≡ out.old.items ++ specs.all_received owed desk.now) }
+{
+    append_parts(
+        out,
+        &[
+            Part::Bytes(b"all "),
+            Part::Number(owed as u64),
+            Part::Bytes(b" messages that "),
+            Part::Bytes(desk),
+            Part::Bytes(b" was owed were received, in order\n"),
+        ],
+    )
+}
+
+fn append_first(out: &mut Vec<u8>, count: usize, owed: usize, desk: &[u8]) -> Result<(), AllocError>
+    ensures { OnOk result (out.new.items ≡ out.old.items ++ specs.first_received count owed desk.now) }
+{
+    append_parts(
+        out,
+        &[
+            Part::Bytes(b"the first "),
+            Part::Number(count as u64),
+            Part::Bytes(b" of the "),
+            Part::Number(owed as u64),
+            Part::Bytes(b" messages that "),
+            Part::Bytes(desk),
+            Part::Bytes(b" was owed were received, in order; "),
+        ],
+    )
+}
+
+fn row_at(owed: &[Owed], at: usize) -> u64
+    ensures { result ≡ specs.row_of (slice_get owed.now at) }
+{
+    match owed.get(at) {
+        Some(owed) => owed.row,
+        None => 0,
+    }
+}
+
+fn append_rows(out: &mut Vec<u8>, missing: usize, first: u64, last: u64) -> Result<(), AllocError>
+    ensures { OnOk result (out.new.items ≡ out.old.items ++ specs.rows_missing missing first last) }
+{
+    append_parts(
+        out,
+        &[
+            Part::Bytes(b"the last "),
+            Part::Number(missing as u64),
+            Part::Bytes(b" were not (rows "),
+            Part::Number(first),
+            Part::Bytes(b" to "),
+            Part::Number(last),
+            Part::Bytes(b")\n"),
+        ],
+    )
+}
+
+fn append_missing(out: &mut Vec<u8>, count: usize, owed: &[Owed]) -> Result<(), AllocError>
+    ensures { OnOk result (out.new.items ≡ out.old.items ++ specs.last_missing count owed.now) }
+{
+    let missing = owed.len().saturating_sub(count);
+    let last = owed.len().saturating_sub(1);
+    append_rows(out, missing, row_at(owed, count), row_at(owed, last))
+}
+
+fn append_owed_row(out: &mut Vec<u8>, owed: &Owed) -> Result<(), AllocError>
+    ensures { OnOk result (out.new.items ≡ out.old.items ++ specs.owed_row owed.now) }
+{
+    append_parts(
+        out,
+        &[
+            Part::Bytes(b"    owed at row "),
+            Part::Number(owed.row),
+            Part::Bytes(b": "),
+            Part::Fix(owed.text.as_slice()),
+            Part::Bytes(b"\n"),
+        ],
+    )
+}
+
+fn append_owed(out: &mut Vec<u8>, owed: &[Owed], at: usize) -> Result<(), AllocError>
+    ensures { OnOk result (out.new.items ≡ out.old.items ++ specs.owed_line (slice_get owed.now at)) }
+{
+    match owed.get(at) {
+        Some(owed) => append_owed_row(out, owed),
+        None => out.extend_from_slice(b"    owed: nothing more\n"),
+    }
+}
+
+fn append_logged(
+    alloc: Global,
+    out: &mut Vec<u8>,
+    log: &[u8],
+    logged: &(Place, Span),
+) -> Result<(), AllocError>
+    ensures { OnOk result (out.new.items ≡ out.old.items ++ specs.logged_line log.now logged.now) }
+{
+    let text = text_at(alloc, log, logged.1)?;
+    append_parts(
+        out,
+        &[
+            Part::Bytes(b"    in the log, number "),
+            Part::Number(logged.0.number),
+            Part::Bytes(b" of era "),
+            Part::Number(logged.0.era as u64),
+            Part::Bytes(b", line "),
+            Part::Number(line_of(logged.1.start, log) as u64),
+            Part::Bytes(b": "),
+            Part::Fix(text.as_slice()),
+            Part::Bytes(b"\n"),
+        ],
+    )
+}
+
+fn append_text(alloc: Global, out: &mut Vec<u8>, log: &[u8], span: Span) -> Result<(), AllocError>
+    ensures { OnOk result (out.new.items ≡ out.old.items ++ specs.text_line log.now span) }
+{
+    let text = text_at(alloc, log, span)?;
+    append_parts(
+        out,
+        &[
+            Part::Bytes(b"    line "),
+            Part::Number(line_of(span.start, log) as u64),
+            Part::Bytes(b": "),
+            Part::Fix(text.as_slice()),
+            Part::Bytes(b"\n"),
+        ],
+    )
+}
+
+fn append_conflict_head(out: &mut Vec<u8>, place: Place) -> Result<(), AllocError>
+    ensures { OnOk result (out.new.items ≡ out.old.items ++ specs.conflict_head place) }
+{
+    append_parts(
+        out,
+        &[
+            Part::Bytes(b"the log has two texts of number "),
+            Part::Number(place.number),
+            Part::Bytes(b" of era "),
+            Part::Number(place.era as u64),
+            Part::Bytes(b"\n"),
+        ],
+    )
+}
+
+fn append_conflict(
+    alloc: Global,
+    out: &mut Vec<u8>,
+    log: &[u8],
+    conflict: &Conflict,
+) -> Result<(), AllocError>
+    ensures { OnOk result (out.new.items ≡ out.old.items ++ specs.conflict_lines log.now conflict.now) }
+{
+    append_conflict_head(out, conflict.place)?;
+    append_text(alloc, out, log, conflict.first)?;
+    append_text(alloc, out, log, conflict.second)
+}
+
+fn append_logged_at(
+    alloc: Global,
+    out: &mut Vec<u8>,
+    log: &[u8],
+    once: &[(Place, Span)],
+    at: usize,
+) -> Result<(), AllocError>
+    ensures { OnOk result (out.new.items ≡ out.old.items ++ specs.logged_if_line log.now (slice_get once.now at)) }
+{
+    match once.get(at) {
+        Some(logged) => append_logged(alloc, out, log, logged),
+        None => Ok(()),
+    }
+}
+
+fn append_difference(
+    alloc: Global,
+    out: &mut Vec<u8>,
+    count: usize,
+    log: &[u8],
+    desk: &[u8],
+    owed: &[Owed],
+    once: &[(Place, Span)],
+) -> Result<(), AllocError>
+    ensures { OnOk result (out.new.items ≡ out.old.items ++ specs.differs_lines count log.now desk.now owed.now once.now) }
+{
+    append_first(out, count, owed.len(), desk)?;
+    out.extend_from_slice(b"then the log differs\n")?;
+    append_owed(out, owed, count)?;
+    append_logged_at(alloc, out, log, once, count)
+}
+
+fn append_part(
+    out: &mut Vec<u8>,
+    count: usize,
+    desk: &[u8],
+    owed: &[Owed],
+) -> Result<(), AllocError>
+    ensures { OnOk result (out.new.items ≡ out.old.items ++ specs.part_line count desk.now owed.now) }
+{
+    append_first(out, count, owed.len(), desk)?;
+    append_missing(out, count, owed)
+}
+
+/// Appends what a comparison says.
+fn append_said(
+    alloc: Global,
+    out: &mut Vec<u8>,
+    compared: &Compared,
+    log: &[u8],
+    desk: &[u8],
+    owed: &[Owed],
+    reading: &Reading,
+) -> Result<(), AllocError>
+    ensures { OnOk result (out.new.items ≡ out.old.items ++ specs.said compared.now.comparison reading.now.conflict compared.now.count log.now desk.now owed.now reading.now.once.items) }
+{
+    match compared.comparison {
+        Comparison::All => append_all(out, owed.len(), desk),
+        Comparison::FirstPart => append_part(out, compared.count, desk, owed),
+        Comparison::Differs => match &reading.conflict {
+            Some(conflict) => append_conflict(alloc, out, log, conflict),
+            None => append_difference(alloc, out, compared.count, log, desk, owed, &reading.once),
+        },
+    }
+}
+
+fn fault_words(fault: FrameFault) -> &'static [u8]
+    ensures { result.now ≡ specs.fault_words fault }
+{
+    match fault {
+        FrameFault::Length => {
+            b" of the log begins as a frame and is none: BodyLength (9) is wrong\n"
+        }
+        FrameFault::Checksum => {
+            b" of the log begins as a frame and is none: CheckSum (10) is wrong\n"
+        }
+    }
+}
+
+fn append_broken(
+    out: &mut Vec<u8>,
+    log: &[u8],
+    broken: &Option<BrokenFrame>,
+) -> Result<(), AllocError>
+    ensures { OnOk result (out.new.items ≡ out.old.items ++ specs.broken_line log.now broken.now) }
+{
+    match broken {
+        Some(broken) => append_parts(
+            out,
+            &[
+                Part::Bytes(b"line "),
+                Part::Number(line_of(broken.at, log) as u64),
+                Part::Bytes(fault_words(broken.fault)),
+            ],
+        ),
+        None => Ok(()),
+    }
+}
+
+fn append_frames(
+    out: &mut Vec<u8>,
+    ends: &Ends,
+    bodies: usize,
+    frames: usize,
+) -> Result<(), AllocError>
+    ensures { OnOk result (out.new.items ≡ out.old.items ++ specs.frames_said ends.now.from.now ends.now.to.now bodies frames) }
+{
+    append_parts(
+        out,
+        &[
+            Part::Bytes(b"in the log: "),
+            Part::Number(bodies as u64),
+            Part::Bytes(b" frames, "),
+            Part::Number(frames as u64),
+            Part::Bytes(b" of them from "),
+            Part::Bytes(ends.from),
+            Part::Bytes(b" to "),
+            Part::Bytes(ends.to),
+        ],
+    )
+}
+
+fn append_messages(
+    out: &mut Vec<u8>,
+    logged: usize,
+    once: usize,
+    passed: usize,
+) -> Result<(), AllocError>
+    ensures { OnOk result (out.new.items ≡ out.old.items ++ specs.messages_said logged once passed) }
+{
+    append_parts(
+        out,
+        &[
+            Part::Bytes(b"; "),
+            Part::Number(logged as u64),
+            Part::Bytes(b" application messages, "),
+            Part::Number(once as u64),
+            Part::Bytes(b" without the repeats; "),
+            Part::Number(passed as u64),
+            Part::Bytes(b" bytes in no frame\n"),
+        ],
+    )
+}
+
+fn append_counts(
+    out: &mut Vec<u8>,
+    ends: &Ends,
+    log: &[u8],
+    reading: &Reading,
+) -> Result<(), AllocError>
+    ensures { OnOk result (out.new.items ≡ out.old.items ++ specs.counts_line ends.now.from.now ends.now.to.now log.now reading.now) }
+{
+    let frames = reading.frames.len();
+    let logged = reading.logged.len();
+    let once = reading.once.len();
+    append_frames(out, ends, reading.bodies, frames)?;
+    append_messages(out, logged, once, outside(log))
+}
+
+/// What is printed of a comparison.
+pub(crate) fn report(
+    alloc: Global,
+    ends: &Ends,
+    log: &[u8],
+    compared: &Compared,
+    owed: &[Owed],
+    reading: &Reading,
+) -> Result<Vec<u8>, AllocError>
+    ensures { IfOk result (λ text. text.items ≡ specs.report ends.now.from.now ends.now.to.now log.now compared.now owed.now reading.now) }
+{
+    let mut text = Vec::new(alloc);
+    append_said(alloc, &mut text, compared, log, ends.to, owed, reading)?;
+    append_counts(&mut text, ends, log, reading)?;
+    append_broken(&mut text, log, &first_broken(log))?;
+    Ok(text)
+}

@@ -1,0 +1,172 @@
+//! Requests for quotes, quotes and the responses to them in words.
+ghost use Rattle.std.specs.Prelude.{◌≡◌, ◌++◌, OnOk};
+ghost use Rattle.std.specs.List.{flat_map};
+ghost use Rattle.message_words.specs.Parts.{parts_text};
+ghost use Rattle.message_words.specs.Words.{response_parts, asked_words, maker_words, quote_parts, request_parts, request_refused_parts, status_parts, withdrawal_parts};
+
+use crate::names::{asked_side, response_name, side_value, status_name, withdrawal_name};
+use crate::parts::{
+    Part, append_parts, bytes, identifier_value, moment_value, number, number_value, price_value,
+    quantity_value, small_number, text_value,
+};
+use fix_dictionary::{
+    Party, Quote, QuoteCancel, QuoteRequest, QuoteRequestReject, QuoteResponse, QuoteStatusReport,
+};
+use std::alloc::{AllocError, Global};
+use trade_blotter::append;
+
+macro_rules! part {
+    ($before:expr, $value:expr) => {
+        Part {
+            before: $before,
+            value: $value,
+        }
+    };
+}
+
+fn append_asking(alloc: Global, text: &mut Vec<u8>, d: &QuoteRequest) -> Result<(), AllocError>
+    ensures { OnOk result (text.new.items ≡ text.old.items ++ parts_text (request_parts d.now)) }
+{
+    append_parts(
+        alloc,
+        text,
+        &[
+            part!(b"request ", bytes(d.request_id.as_slice())),
+            part!(b" for quotes", bytes(b"")),
+            part!(asked_side(d.side), number(d.quantity.get())),
+            part!(b" ", bytes(d.symbol.as_slice())),
+        ],
+    )
+}
+
+fn append_asked(text: &mut Vec<u8>, parties: &[Party]) -> Result<(), AllocError>
+    ensures { OnOk result (text.new.items ≡ text.old.items ++ flat_map asked_words parties.now) }
+{
+    for party in parties {
+        append(text, &[b", asking ", party.id.as_slice()])?;
+    }
+    Ok(())
+}
+
+pub(crate) fn append_request(
+    alloc: Global,
+    text: &mut Vec<u8>,
+    d: &QuoteRequest,
+) -> Result<(), AllocError>
+    ensures { OnOk result (text.new.items ≡ text.old.items ++ (parts_text (request_parts d.now) ++ flat_map asked_words d.now.parties)) }
+{
+    append_asking(alloc, text, d)?;
+    append_asked(text, d.parties.as_slice())
+}
+
+fn append_quoted(alloc: Global, text: &mut Vec<u8>, d: &Quote) -> Result<(), AllocError>
+    ensures { OnOk result (text.new.items ≡ text.old.items ++ parts_text (quote_parts d.now)) }
+{
+    append_parts(
+        alloc,
+        text,
+        &[
+            part!(b"quote ", bytes(d.quote_id.as_slice())),
+            part!(b" in request ", bytes(d.request_id.as_slice())),
+            part!(b" for ", bytes(d.symbol.as_slice())),
+            part!(b", bid ", price_value(d.bid_price)),
+            part!(b" for ", quantity_value(d.bid_size)),
+            part!(b", offer ", price_value(d.offer_price)),
+            part!(b" for ", quantity_value(d.offer_size)),
+            part!(b", until ", moment_value(d.valid_until)),
+        ],
+    )
+}
+
+fn append_makers(text: &mut Vec<u8>, parties: &[Party]) -> Result<(), AllocError>
+    ensures { OnOk result (text.new.items ≡ text.old.items ++ flat_map maker_words parties.now) }
+{
+    for party in parties {
+        append(text, &[b", of ", party.id.as_slice()])?;
+    }
+    Ok(())
+}
+
+pub(crate) fn append_quote(alloc: Global, text: &mut Vec<u8>, d: &Quote) -> Result<(), AllocError>
+    ensures { OnOk result (text.new.items ≡ text.old.items ++ (parts_text (quote_parts d.now) ++ flat_map maker_words d.now.parties)) }
+{
+    append_quoted(alloc, text, d)?;
+    append_makers(text, d.parties.as_slice())
+}
+
+pub(crate) fn append_withdrawal(
+    alloc: Global,
+    text: &mut Vec<u8>,
+    d: &QuoteCancel,
+) -> Result<(), AllocError>
+    ensures { OnOk result (text.new.items ≡ text.old.items ++ parts_text (withdrawal_parts d.now)) }
+{
+    append_parts(
+        alloc,
+        text,
+        &[
+            part!(withdrawal_name(d.cancel_type), bytes(b"")),
+            part!(b" ", identifier_value(&d.quote_id)),
+        ],
+    )
+}
+
+pub(crate) fn append_response(
+    alloc: Global,
+    text: &mut Vec<u8>,
+    d: &QuoteResponse,
+) -> Result<(), AllocError>
+    ensures { OnOk result (text.new.items ≡ text.old.items ++ parts_text (response_parts d.now)) }
+{
+    append_parts(
+        alloc,
+        text,
+        &[
+            part!(response_name(d.response_type), bytes(d.quote_id.as_slice())),
+            part!(b" ", side_value(d.side)),
+            part!(b" as ", bytes(d.response_id.as_slice())),
+        ],
+    )
+}
+
+pub(crate) fn append_status(
+    alloc: Global,
+    text: &mut Vec<u8>,
+    d: &QuoteStatusReport,
+) -> Result<(), AllocError>
+    ensures { OnOk result (text.new.items ≡ text.old.items ++ parts_text (status_parts d.now)) }
+{
+    append_parts(
+        alloc,
+        text,
+        &[
+            part!(b"status:", bytes(b"")),
+            part!(b" quote ", identifier_value(&d.quote_id)),
+            part!(b" in request ", identifier_value(&d.request_id)),
+            part!(b" by response ", identifier_value(&d.response_id)),
+            part!(b" for ", identifier_value(&d.symbol)),
+            part!(b" ", bytes(status_name(d.status))),
+            part!(b", 300=", number_value(d.reject_reason)),
+            part!(b" ", text_value(&d.text)),
+        ],
+    )
+}
+
+pub(crate) fn append_request_refused(
+    alloc: Global,
+    text: &mut Vec<u8>,
+    d: &QuoteRequestReject,
+) -> Result<(), AllocError>
+    ensures { OnOk result (text.new.items ≡ text.old.items ++ parts_text (request_refused_parts d.now)) }
+{
+    append_parts(
+        alloc,
+        text,
+        &[
+            part!(b"request ", bytes(d.request_id.as_slice())),
+            part!(b" for ", bytes(d.symbol.as_slice())),
+            part!(b" refused, 658=", small_number(d.reject_reason.get())),
+            part!(b" ", text_value(&d.text)),
+        ],
+    )
+}

@@ -1,0 +1,4 @@
+pub mod Firsts
+pub mod Waiting
+pub mod Linked
+pub mod Texts

@@ -1,0 +1,60 @@
+//! What an answer says of orders that enter.
+
+ghost use Rattle.std.specs.Prelude.{◌≡◌, ◌++◌, [], OnOk};
+ghost use Rattle.std.specs.List.{cons_option};
+ghost use Rattle.resting_orders.specs.Noting.{entered_as, entered_by, orders_after};
+
+use crate::noted::EnteredOrder;
+use participants::Who;
+use std::alloc::AllocError;
+use venue_rules::{OrderReport, Reply, ReplyBody};
+
+fn entered_as(owner: Who, report: &OrderReport) -> Option<EnteredOrder>
+    ensures { result ≡ entered_as owner report.now report.now.order }
+{
+    match report.order {
+        Some(number) => Some(EnteredOrder {
+            number,
+            owner,
+            id: report.id,
+            quantity: report.left,
+        }),
+        None => None,
+    }
+}
+
+/// The order that a reply reports as new, or as a replacement.
+fn entered_by(reply: &Reply) -> Option<EnteredOrder>
+    ensures { result ≡ entered_by reply.now }
+{
+    match &reply.what {
+        ReplyBody::OrderEntered(report) => entered_as(reply.to, report),
+        ReplyBody::OrderReplaced(report) => entered_as(reply.to, &report.order),
+        _ => None,
+    }
+}
+
+fn push_order(orders: &mut Vec<EnteredOrder>, order: Option<EnteredOrder>) -> Result<(), AllocError>
+    ensures { OnOk result (orders.new.items ≡ orders.old.items ++ cons_option order []) }
+{
+    match order {
+        Some(order) => match orders.push(order) {
+            Ok(()) => Ok(()),
+            Err(_) => Err(AllocError),
+        },
+        None => Ok(()),
+    }
+}
+
+/// Keeps the orders that enter by an answer.
+pub(crate) fn push_orders(
+    orders: &mut Vec<EnteredOrder>,
+    replies: &[Reply],
+) -> Result<(), AllocError>
+    ensures { OnOk result (orders.new.items ≡ orders_after orders.old.items replies.now) }
+{
+    for reply in replies {
+        push_order(orders, entered_by(reply))?;
+    }
+    Ok(())
+}

@@ -1,0 +1,12 @@
+//! The trades of a day as a table for a spreadsheet, each with how it was made: moment, row, orders, quote, aggressor
+//! and cross, read off the replies to the rows of a trail.
+#![tactic(auto)]
+
+mod execution;
+mod executions;
+mod fields;
+mod printing;
+mod replaying;
+mod sources;
+
+pub use printing::print_trade_table;

@@ -1,0 +1,3 @@
+mod Encoding
+mod Digests
+mod SameTrails
