@@ -83,4 +83,5 @@ def older_trail(folder, version):
 
 def replayed(program, trail, *options):
     ended = subprocess.run([program, *options, trail], capture_output=True, text=True, check=False)
-    return ended.returncode, ended.stdout, ended.stderr
+    # (an indented second line names what is at fault)
+    return ended.returncode, ended.stdout, re.sub(r"\n  .*\n", "\n", ended.stderr)

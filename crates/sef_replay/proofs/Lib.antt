@@ -3,5 +3,5 @@ pub mod Ends
 pub mod Causes
 pub mod Stops
 pub mod Older
-pub mod Trades
 pub mod Asked
+pub mod OverBytes

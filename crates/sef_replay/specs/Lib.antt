@@ -2,6 +2,6 @@ pub mod Failures
 pub mod Day
 pub mod Stops
 pub mod Older
-pub mod Trade
-pub mod Question
+pub mod Asked
 pub mod Reports
+pub mod Copied

@@ -1,40 +1,64 @@
 //! The command line.
 
 use crate::failure::{Failure, Stop};
-use crate::form::Form;
 use crate::refused::Refused;
-use crate::words::{AskedWords, NarrowingWords};
 use clap::error::ErrorKind;
 use clap::{Arg, ArgAction, ArgMatches, Command, Error};
+use message_words::Form as AnswersForm;
 use std::alloc::{AllocError, Global};
 use std::{env, io};
+use trail_questions::{AskedWords, BookForm, BookWords, NarrowingWords};
 
 /// The request of the command line.
 #[derive(Drop)]
 pub enum Task {
-    /// `TRAIL`, with `--csv` for a table
+    /// `TRAIL`
     Print {
         path: String,
-        form: Form,
     },
-    /// `--migrate TRAIL`, with `--csv` for a table: first updates a trail of an older version to version 3.
+    /// `--migrate TRAIL`: first updates a trail of an older version to version 3.
     Migrate {
         path: String,
-        form: Form,
     },
-    /// `TRAIL --trade WORD`
-    Trade {
-        path: String,
-        word: String,
-    },
-    /// `TRAIL --answers` or `TRAIL --book SYMBOL`, with `--csv` for a table
+    /// `TRAIL` and a question
     Ask {
         path: String,
         words: AskedWords,
-        form: Form,
+    },
+    /// `TRAIL --against FILE --desk NAME`
+    Against {
+        path: String,
+        desk: String,
+        log: String,
     },
     /// `--help`: the text was printed.
     Help,
+}
+
+/// What is printed: each is printed alone.
+#[derive(Clone, Copy, PartialEq, Eq)]
+enum Mode {
+    Day,
+    Migrate,
+    Trade,
+    Why,
+    Answers,
+    Book,
+    Against,
+    Digest,
+}
+
+/// A word that narrows what is printed, or gives it a form.
+#[derive(Clone, Copy)]
+enum Word {
+    To,
+    From,
+    Row,
+    Order,
+    Room,
+    Desk,
+    Csv,
+    Json,
 }
 
 /// Arguments that are understood each, and do not go together.
@@ -42,26 +66,78 @@ pub enum Task {
 enum Misfit {
     /// No trail is named.
     NoTrail,
-    /// Two of what is printed, each of which is printed alone.
-    Two,
-    /// `--migrate` or `--csv` with something that has no such form.
-    Form,
-    /// What narrows answers, without `--answers`.
-    Narrowed,
+    /// Two of what is printed.
+    Two(Mode, Mode),
+    /// A word that goes with something else.
+    Astray(Word),
+    /// Two forms.
+    Forms,
+    /// A log without the name of its desk.
+    NoDesk,
 }
 
-fn misfit_reason(misfit: Misfit) -> &'static str {
-    match misfit {
-        Misfit::NoTrail => "no TRAIL is named: the file that keeps the trail",
-        Misfit::Two => "--trade, --answers, --book and --migrate go one at a time",
-        Misfit::Form => "--trade goes without --csv",
-        Misfit::Narrowed =>
-            "--to, --from and --order go with --answers, --row with --answers or --book",
+/// The word of what is printed.
+fn mode_word(mode: Mode) -> &'static str {
+    match mode {
+        Mode::Day => "TRAIL",
+        Mode::Migrate => "--migrate",
+        Mode::Trade => "--trade",
+        Mode::Why => "--why",
+        Mode::Answers => "--answers",
+        Mode::Book => "--book",
+        Mode::Against => "--against",
+        Mode::Digest => "--digest",
+    }
+}
+
+/// Whether a word goes with what is printed.
+fn goes_with(word: Word, mode: Mode) -> bool {
+    match word {
+        Word::To | Word::From | Word::Order | Word::Room => mode == Mode::Answers,
+        Word::Row => mode == Mode::Answers || mode == Mode::Book || mode == Mode::Digest,
+        Word::Csv => mode == Mode::Day || mode == Mode::Answers || mode == Mode::Book,
+        Word::Json => mode == Mode::Answers,
+        Word::Desk => mode == Mode::Against,
+    }
+}
+
+/// With what a word goes.
+fn place_of(word: Word) -> &'static str {
+    match word {
+        Word::To => "--to goes with --answers",
+        Word::From => "--from goes with --answers",
+        Word::Row => "--row goes with --answers, --book or --digest",
+        Word::Order => "--order goes with --answers",
+        Word::Room => "--room goes with --answers",
+        Word::Desk => "--desk goes with --against",
+        Word::Csv =>
+            "--csv goes with the trades of a trail, which --migrate updates before, or with --answers or --book",
+        Word::Json => "--json goes with --answers",
     }
 }
 
 fn misfit_refused(alloc: Global, misfit: Misfit) -> Refused {
-    Refused::of_command_line(alloc, misfit_reason(misfit))
+    match misfit {
+        Misfit::NoTrail => {
+            Refused::of_command_line(alloc, "no TRAIL is named: the file that keeps the trail")
+        }
+        Misfit::Two(one, other) => {
+            Refused::of_two(
+                alloc,
+                mode_word(one),
+                mode_word(other),
+                "each is printed alone",
+            )
+        }
+        Misfit::Astray(word) => Refused::of_command_line(alloc, place_of(word)),
+        Misfit::NoDesk => {
+            Refused::of_command_line(
+                alloc,
+                "--against goes with --desk: the participant whose log it is",
+            )
+        }
+        Misfit::Forms => Refused::of_two(alloc, "--csv", "--json", "one form at a time"),
+    }
 }
 
 /// The request in the process's arguments.
@@ -99,14 +175,21 @@ const EXAMPLES: &str = "Examples:
   sef_replay day.trail                 each trade of the day: T1 book IRS5Y 60 @ 2.5 buyer ALPHA seller BETA
   sef_replay day.trail --csv           the same, for a spreadsheet
   sef_replay day.trail --trade T1      the evidence for this trade, a fact a line
+  sef_replay day.trail --why 12        why the message of row 12 was refused, and when it would pass
   sef_replay day.trail --answers       each message and each reply to it, as FIX has it and in words
   sef_replay day.trail --answers --to BETA      what BETA is owed: each message once, in order, with its row
   sef_replay day.trail --answers --from BETA    what BETA sent, and each reply to it, to whomever
-  sef_replay day.trail --answers --order O3     the rows that report on this number: a replacement has another
-  sef_replay day.trail --book IRS5Y --row 7     the book after row 7
+  sef_replay day.trail --answers --order O3     the life of this order, with what replaced it
+  sef_replay day.trail --answers --room R1      the conversation about a request for quotes
+  sef_replay day.trail --answers --json         the same, an object a line
+  sef_replay day.trail --book IRS5Y    the orders that rest at the end of the day, with their owners
+  sef_replay day.trail --book IRS5Y --row 7     the same after row 7
+  sef_replay day.trail --against messages.log --desk BETA    whether BETA's log has what it was owed, in order
+  sef_replay day.trail --digest        the number of rows, and the digest of the trail's content; with --row, up to a row
   sef_replay --migrate day.trail       of a trail of an older version, which is changed for good: copy it before
 
-Read from a copy of the file and of its log (day.trail-wal), if there is one. docs/COMPLIANCE.md explains what is printed.";
+The files are read whole and not written, but for --migrate: media that cannot be written, a copy without a log, and the
+trail of a venue that runs can be read. docs/COMPLIANCE.md explains what is printed.";
 
 /// An argument without a value.
 fn flag<'a>(alloc: Global, name: &'a str, help: &'a str) -> Arg<'a> {
@@ -133,12 +216,13 @@ fn with_migrate<'a>(alloc: Global, command: Command<'a>) -> Result<Command<'a>, 
     ))
 }
 
-fn with_csv<'a>(alloc: Global, command: Command<'a>) -> Result<Command<'a>, AllocError> {
-    command.arg(flag(
+fn with_forms<'a>(alloc: Global, command: Command<'a>) -> Result<Command<'a>, AllocError> {
+    let command = command.arg(flag(
         alloc,
         "csv",
         "Prints comma-separated values, for a spreadsheet",
-    ))
+    ))?;
+    command.arg(flag(alloc, "json", "Prints an object a line"))
 }
 
 fn with_trade<'a>(alloc: Global, command: Command<'a>) -> Result<Command<'a>, AllocError> {
@@ -157,6 +241,15 @@ fn option<'a>(alloc: Global, name: &'a str, value: &'a str, help: &'a str) -> Ar
         .value_name(value)
         .help(help)
         .action(ArgAction::Set)
+}
+
+fn with_why<'a>(alloc: Global, command: Command<'a>) -> Result<Command<'a>, AllocError> {
+    command.arg(option(
+        alloc,
+        "why",
+        "N",
+        "Prints why the message of this row was refused, by the rules' list of causes",
+    ))
 }
 
 fn with_answers<'a>(alloc: Global, command: Command<'a>) -> Result<Command<'a>, AllocError> {
@@ -190,7 +283,7 @@ fn with_row<'a>(alloc: Global, command: Command<'a>) -> Result<Command<'a>, Allo
         alloc,
         "row",
         "N[-M]",
-        "Of the answers, these rows; the book after this row",
+        "Of the answers, these rows; the book after this row; the digest up to it",
     ))
 }
 
@@ -199,7 +292,7 @@ fn with_order<'a>(alloc: Global, command: Command<'a>) -> Result<Command<'a>, Al
         alloc,
         "order",
         "ORDER",
-        "Of the answers, the rows that report on this order, as O3",
+        "Of the answers, the rows of this order's life, as O3",
     ))
 }
 
@@ -208,18 +301,44 @@ fn with_book<'a>(alloc: Global, command: Command<'a>) -> Result<Command<'a>, All
         alloc,
         "book",
         "SYMBOL",
-        "Prints the book of this instrument",
+        "Prints the book of this instrument, each order with its owner",
     ))
 }
 
-/// The arguments of answers and books.
+fn with_against<'a>(alloc: Global, command: Command<'a>) -> Result<Command<'a>, AllocError> {
+    let command = command.arg(option(
+        alloc,
+        "against",
+        "FILE",
+        "Compares a desk's own log of FIX messages with what it was owed",
+    ))?;
+    command.arg(option(alloc, "desk", "NAME", "The participant whose log it is"))
+}
+
+fn with_digest<'a>(alloc: Global, command: Command<'a>) -> Result<Command<'a>, AllocError> {
+    command.arg(flag(
+        alloc,
+        "digest",
+        "Prints how many rows the trail has, and the digest of its content",
+    ))
+}
+
+/// The arguments of answers, books, logs and digests.
 fn with_questions<'a>(alloc: Global, command: Command<'a>) -> Result<Command<'a>, AllocError> {
     let command = with_answers(alloc, command)?;
     let command = with_to(alloc, command)?;
     let command = with_from(alloc, command)?;
     let command = with_row(alloc, command)?;
     let command = with_order(alloc, command)?;
-    with_book(alloc, command)
+    let command = command.arg(option(
+        alloc,
+        "room",
+        "ROOM",
+        "Of the answers, the rows of the conversation in this room, as R1",
+    ))?;
+    let command = with_book(alloc, command)?;
+    let command = with_against(alloc, command)?;
+    with_digest(alloc, command)
 }
 
 /// The program's command. Each argument is added by a function of its own: several in one function cost the proof a
@@ -232,8 +351,9 @@ fn program<'a>(alloc: Global) -> Result<Command<'a>, AllocError> {
         .after_help(EXAMPLES);
     let command = with_trail(alloc, command)?;
     let command = with_migrate(alloc, command)?;
-    let command = with_csv(alloc, command)?;
+    let command = with_forms(alloc, command)?;
     let command = with_trade(alloc, command)?;
+    let command = with_why(alloc, command)?;
     with_questions(alloc, command)
 }
 
@@ -249,52 +369,108 @@ fn task_of(alloc: Global, given: &ArgMatches<'_>) -> Result<Result<Task, Misfit>
     let Some(path) = given.get_str("trail") else {
         return Ok(Err(Misfit::NoTrail));
     };
-    if let Some(misfit) = misfit_of(given) {
+    let mode = match mode_given(given) {
+        Ok(mode) => mode,
+        Err(misfit) => return Ok(Err(misfit)),
+    };
+    if let Some(misfit) = misfit_of(given, mode) {
         return Ok(Err(misfit));
     }
-    let task = task_at(alloc, given, String::from_str(alloc, path)?)?;
+    let task = task_at(alloc, given, mode, String::from_str(alloc, path)?)?;
     Ok(Ok(task))
 }
 
-/// Whether two of what is printed are asked for.
-fn are_two(given: &ArgMatches<'_>) -> bool {
-    let trade = given.get_str("trade").is_some();
-    let book = given.get_str("book").is_some();
-    let answers = given.get_flag("answers");
-    let migrates = given.get_flag("migrate");
-    (trade && (book || answers || migrates))
-        || (book && (answers || migrates))
-        || (answers && migrates)
+/// One more of what is printed, if it is given.
+fn and_mode(so_far: Result<Mode, Misfit>, is_given: bool, mode: Mode) -> Result<Mode, Misfit> {
+    match so_far {
+        Ok(Mode::Day) if is_given => Ok(mode),
+        Ok(other) if is_given => Err(Misfit::Two(other, mode)),
+        so_far => so_far,
+    }
 }
 
-fn misfit_of(given: &ArgMatches<'_>) -> Option<Misfit> {
-    if are_two(given) {
-        return Some(Misfit::Two);
-    }
-    if given.get_flag("csv") && given.get_str("trade").is_some() {
-        return Some(Misfit::Form);
-    }
-    let narrows = given.get_str("to").is_some()
-        || given.get_str("from").is_some()
-        || given.get_str("order").is_some();
-    let in_answers = given.get_flag("answers");
-    let in_book = given.get_str("book").is_some();
-    let row = given.get_str("row").is_some();
-    if (narrows && !in_answers) || (row && !in_answers && !in_book) {
-        return Some(Misfit::Narrowed);
-    }
-    None
+/// What is printed.
+fn mode_given(given: &ArgMatches<'_>) -> Result<Mode, Misfit> {
+    let mode = and_mode(Ok(Mode::Day), given.get_flag("migrate"), Mode::Migrate);
+    let mode = and_mode(mode, given.get_str("trade").is_some(), Mode::Trade);
+    let mode = and_mode(mode, given.get_str("why").is_some(), Mode::Why);
+    let mode = and_mode(mode, given.get_flag("answers"), Mode::Answers);
+    let mode = and_mode(mode, given.get_str("book").is_some(), Mode::Book);
+    let mode = and_mode(mode, given.get_str("against").is_some(), Mode::Against);
+    and_mode(mode, given.get_flag("digest"), Mode::Digest)
 }
 
-fn task_at(alloc: Global, given: &ArgMatches<'_>, path: String) -> Result<Task, AllocError> {
-    let form = form_of(given);
-    if let Some(word) = word_given(alloc, given, "trade")? {
-        return Ok(Task::Trade { path, word });
+/// The misfit of a word, where it is given and goes with something else.
+fn astray(is_given: bool, word: Word, mode: Mode) -> Option<Misfit> {
+    if is_given && !goes_with(word, mode) {
+        Some(Misfit::Astray(word))
+    } else {
+        None
     }
-    if let Some(words) = asked_in(alloc, given)? {
-        return Ok(Task::Ask { path, words, form });
+}
+
+fn misfit_of(given: &ArgMatches<'_>, mode: Mode) -> Option<Misfit> {
+    let csv = given.get_flag("csv");
+    let json = given.get_flag("json");
+    if csv && json {
+        return Some(Misfit::Forms);
     }
-    Ok(printing_of(path, given.get_flag("migrate"), form))
+    if mode == Mode::Against && given.get_str("desk").is_none() {
+        return Some(Misfit::NoDesk);
+    }
+    astray(given.get_str("to").is_some(), Word::To, mode)
+        .or(astray(given.get_str("from").is_some(), Word::From, mode))
+        .or(astray(given.get_str("row").is_some(), Word::Row, mode))
+        .or(astray(given.get_str("order").is_some(), Word::Order, mode))
+        .or(astray(given.get_str("room").is_some(), Word::Room, mode))
+        .or(astray(given.get_str("desk").is_some(), Word::Desk, mode))
+        .or(astray(csv, Word::Csv, mode))
+        .or(astray(json, Word::Json, mode))
+}
+
+fn task_at(
+    alloc: Global,
+    given: &ArgMatches<'_>,
+    mode: Mode,
+    path: String,
+) -> Result<Task, AllocError> {
+    match mode {
+        Mode::Day => Ok(day_of(given, path)),
+        Mode::Migrate => Ok(Task::Migrate { path }),
+        Mode::Against => {
+            let log = required_word(alloc, given, "against")?;
+            let desk = required_word(alloc, given, "desk")?;
+            Ok(Task::Against { path, desk, log })
+        }
+        Mode::Book => {
+            let words = AskedWords::Book(book_in(alloc, given)?, book_form_of(given));
+            Ok(Task::Ask { path, words })
+        }
+        Mode::Digest => {
+            let words = AskedWords::Digest(word_given(alloc, given, "row")?);
+            Ok(Task::Ask { path, words })
+        }
+        Mode::Trade => {
+            let words = AskedWords::Evidence(required_word(alloc, given, "trade")?);
+            Ok(Task::Ask { path, words })
+        }
+        Mode::Why => {
+            let words = AskedWords::Why(required_word(alloc, given, "why")?);
+            Ok(Task::Ask { path, words })
+        }
+        Mode::Answers => {
+            let words = AskedWords::Answers(narrowing_in(alloc, given)?, answers_form_of(given));
+            Ok(Task::Ask { path, words })
+        }
+    }
+}
+
+/// The value of an argument that is given.
+fn required_word(alloc: Global, given: &ArgMatches<'_>, name: &str) -> Result<String, AllocError> {
+    match given.get_str(name) {
+        Some(word) => String::from_str(alloc, word),
+        None => Ok(String::new(alloc)),
+    }
 }
 
 /// The value of an argument, if it is given.
@@ -309,47 +485,54 @@ fn word_given(
     }
 }
 
-fn narrowing_in(
-    alloc: Global,
-    given: &ArgMatches<'_>,
-    row: Option<String>,
-) -> Result<NarrowingWords, AllocError> {
+fn narrowing_in(alloc: Global, given: &ArgMatches<'_>) -> Result<NarrowingWords, AllocError> {
     let to = word_given(alloc, given, "to")?;
     let from = word_given(alloc, given, "from")?;
+    let row = word_given(alloc, given, "row")?;
     let order = word_given(alloc, given, "order")?;
+    let room = word_given(alloc, given, "room")?;
     Ok(NarrowingWords {
         to,
         from,
         row,
         order,
+        room,
     })
 }
 
-fn asked_in(alloc: Global, given: &ArgMatches<'_>) -> Result<Option<AskedWords>, AllocError> {
+fn book_in(alloc: Global, given: &ArgMatches<'_>) -> Result<BookWords, AllocError> {
+    let symbol = required_word(alloc, given, "book")?;
     let row = word_given(alloc, given, "row")?;
-    if let Some(symbol) = word_given(alloc, given, "book")? {
-        return Ok(Some(AskedWords::Book(symbol, row)));
-    }
-    if given.get_flag("answers") {
-        let words = narrowing_in(alloc, given, row)?;
-        return Ok(Some(AskedWords::Answers(words)));
-    }
-    Ok(None)
+    Ok(BookWords { symbol, row })
 }
 
-fn form_of(given: &ArgMatches<'_>) -> Form {
+fn book_form_of(given: &ArgMatches<'_>) -> BookForm {
     if given.get_flag("csv") {
-        Form::Table
+        BookForm::Table
     } else {
-        Form::Lines
+        BookForm::Lines
     }
 }
 
-fn printing_of(path: String, migrates: bool, form: Form) -> Task {
-    if migrates {
-        Task::Migrate { path, form }
+fn answers_form_of(given: &ArgMatches<'_>) -> AnswersForm {
+    if given.get_flag("csv") {
+        AnswersForm::Table
+    } else if given.get_flag("json") {
+        AnswersForm::Json
     } else {
-        Task::Print { path, form }
+        AnswersForm::Lines
+    }
+}
+
+/// The trades, as lines or as a table.
+fn day_of(given: &ArgMatches<'_>, path: String) -> Task {
+    if given.get_flag("csv") {
+        Task::Ask {
+            path,
+            words: AskedWords::Table,
+        }
+    } else {
+        Task::Print { path }
     }
 }
 

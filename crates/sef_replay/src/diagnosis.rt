@@ -1,11 +1,15 @@
 //! A second look at a refused trail, for the line below the refusal.
 
 use audit_trail::Trail;
+use instruments::Instruments;
+use participants::Participants;
 use sqlite::types::ValueRef;
-use sqlite::{Alter, Connection};
+use sqlite::{Alter, Connection, Row};
 use std::alloc::{AllocError, Global};
 use trail_decoder::integer_at;
 use venue_rules::TrailFault;
+
+const SELECT_FILES: &str = "SELECT participants, instruments FROM head";
 
 const SELECT_MOMENT: &str = "SELECT moment FROM item WHERE n = ?1";
 
@@ -42,8 +46,49 @@ fn line_of<S: Alter>(
     match fault {
         TrailFault::BadRow(n) => row_line(alloc, conn, n),
         TrailFault::BadDelay(x) => delay_line(alloc, x),
+        TrailFault::OtherFiles => files_line(alloc, conn),
         _ => Ok(None),
     }
+}
+
+/// A line on the stored file that its reader refuses.
+fn files_line<S: Alter>(
+    alloc: Global,
+    conn: &mut Connection<S>,
+) -> Result<Option<String>, AllocError> {
+    let rows = match conn.query_all(SELECT_FILES, &[]) {
+        Ok(rows) => rows,
+        Err(_) => return Ok(None),
+    };
+    let line = match rows.first() {
+        Some(row) => texts_line(alloc, bytes_at(row, 0), bytes_at(row, 1))?,
+        None => None,
+    };
+    drop(rows);
+    Ok(line)
+}
+
+fn bytes_at(row: &Row, at: usize) -> &[u8] {
+    match row.get_ref(at) {
+        Ok(ValueRef::Blob(bytes)) => bytes,
+        _ => &[],
+    }
+}
+
+fn texts_line(
+    alloc: Global,
+    participants: &[u8],
+    instruments: &[u8],
+) -> Result<Option<String>, AllocError> {
+    if let Err(fault) = Participants::read(alloc, participants) {
+        let line = format!(in alloc; "the stored participant file: {fault}")?;
+        return Ok(Some(line));
+    }
+    if let Err(fault) = Instruments::read(alloc, instruments) {
+        let line = format!(in alloc; "the stored instrument file: {fault}")?;
+        return Ok(Some(line));
+    }
+    Ok(None)
 }
 
 fn delay_line(alloc: Global, x: i64) -> Result<Option<String>, AllocError> {

@@ -1,12 +1,13 @@
 //! The program's exit statuses other than 0.
 
 ghost use Rattle.std.specs.Prelude.{◌≡◌};
-ghost use Rattle.sef_replay.specs.Failures.{code_failure, open_failure, status_of, trail_failure};
+ghost use Rattle.sef_replay.specs.Failures.{asked_failure, code_failure, open_failure, status_of, trail_failure};
 ghost use Rattle.sef_replay.specs.declared.failure.Failure.TheVariants.{Stopped as Stops};
 
 use sqlite::{Error as StoreError, ErrorCode};
 use std::alloc::AllocError;
 use thiserror::Error;
+use trail_questions::{AskedFault, Unknown};
 use venue_rules::TrailFault;
 
 /// The cause of status 1.
@@ -26,29 +27,6 @@ pub enum Stop {
     Trail,
 }
 
-/// What the command line names and the day has not, or a word of the wrong form.
-#[derive(Clone, Copy, Debug, PartialEq, Eq, Error)]
-pub enum Unknown {
-    /// `--trade`: a trade.
-    #[error("trade")]
-    Trade,
-    /// `--to`: a participant.
-    #[error("participant")]
-    Recipient,
-    /// `--from`: a participant.
-    #[error("participant")]
-    Sender,
-    /// `--book`: an instrument.
-    #[error("instrument")]
-    Instrument,
-    /// `--row`: a row, or the first and the last of some.
-    #[error("row")]
-    Row,
-    /// `--order`: an order that an answer reports on.
-    #[error("order")]
-    Order,
-}
-
 /// Why the program ends with a status other than 0. Its text goes to standard error.
 #[derive(Debug, Drop, Error)]
 pub enum Failure {
@@ -64,6 +42,9 @@ pub enum Failure {
     /// Status 3.
     #[error("{0} refused")]
     Unknown(Unknown),
+    /// Status 4: the answer was printed, and it is that what was compared differs.
+    #[error("compared, and not the same")]
+    Differs,
 }
 
 impl Failure {
@@ -76,6 +57,7 @@ impl Failure {
             Failure::CommandLine => 2,
             Failure::Trail(_) => 3,
             Failure::Unknown(_) => 3,
+            Failure::Differs => 4,
         }
     }
 }
@@ -91,6 +73,19 @@ impl From<Stop> for Failure {
 
     fn from(stop: Stop) -> Failure {
         Failure::Stopped(stop)
+    }
+}
+
+impl From<AskedFault> for Failure {
+    ghost from_gives = { λ fault failure. failure ≡ asked_failure fault };
+
+    fn from(fault: AskedFault) -> Failure {
+        match fault {
+            AskedFault::Memory => Failure::Stopped(Stop::Memory),
+            AskedFault::Output => Failure::Stopped(Stop::Output),
+            AskedFault::Unknown(what) => Failure::Unknown(what),
+            AskedFault::Differs => Failure::Differs,
+        }
     }
 }
 

@@ -3,6 +3,8 @@
 
 mod asking;
 mod command_line;
+mod copied;
+mod copying;
 mod diagnosis;
 mod failure;
 mod file;
@@ -10,102 +12,153 @@ mod form;
 mod market;
 mod migrating;
 mod printing;
-mod question;
 mod refused;
 mod replaying;
 mod report;
-mod trade;
-mod words;
 
 pub use asking::print_asked;
 use command_line::{Task, task_given};
+pub use copied::{Copied, print_copied};
+use copying::{copied_from, file_at};
 use diagnosis::fault_line;
-pub use failure::{Failure, Stop, Unknown};
+pub use failure::{Failure, Stop};
+use file::is_database;
 pub use form::Form;
 pub use migrating::print_migrated;
 pub use printing::print_day;
-pub use question::{BookAfter, Narrowing, Question};
-use refused::{Refused, reason_of};
-use report::{Report, parted, print_wanted};
+use refused::{Refused, absent_in, misspelt_in};
+pub use report::print_wanted;
 use sqlite::{Alter, Connection};
 use std::alloc::Global;
 use std::io::Write;
 use std::process::ExitCode;
-pub use trade::{print_trade, trade_number};
-use words::{AskedWords, question_of, unknown_in};
+use trail_bytes::open_bytes;
+use trail_questions::{AskedWords, NoLog, Question, Unknown, question_of};
 
-// Generic over the store, so that the contracts of `print_wanted` are passed on in one call.
-fn print_and_close<S: Alter + Drop, W: Write>(
-    alloc: Global,
-    conn: Connection<S>,
-    wanted: Report,
-    writer: &mut W,
-) -> Result<(), Failure> {
-    let (emitted, conn) = parted(print_wanted(alloc, conn, wanted, writer));
-    drop(conn);
-    emitted
-}
+/// The seed of a store in memory, which keeps nothing that somebody could foresee.
+const SEED: u64 = 0;
 
-/// Prints the report of the trail at a path. The file is checked first, so that no file is made, and none that is no
-/// database is touched.
-fn print_trail(rt: &HostRuntime, path: &str, wanted: Report) -> Result<(), Failure> {
-    file::require_database(rt, path)?;
-    match Connection::open(rt, path) {
-        Ok(conn) => print_and_close(rt.alloc(), conn, wanted, &mut rt.stdout()),
-        Err(error) => Err(Failure::from(error)),
+/// The bytes of a trail's files. A file that does not begin as an SQLite database does is refused.
+fn trail_at(rt: &HostRuntime, path: &str) -> Result<Copied, Refused> {
+    let copied = copied_from(rt, path)?;
+    match is_database(rt.alloc(), copied.db.as_slice()) {
+        Ok(true) => Ok(copied),
+        Ok(false) => Err(Refused::of_word(
+            rt.alloc(),
+            Failure::Trail(1),
+            path,
+            "it does not begin as an SQLite database",
+        )),
+        Err(_) => Err(Refused::from(Failure::Stopped(Stop::Memory))),
     }
 }
 
-/// The failure, with a line on the row (3) or the delay (5) at fault.
+/// Prints the answer to a question about the trail at a path, and its trades where there is none. Its files are read,
+/// and nothing is written but the report.
+fn print_trail(
+    rt: &HostRuntime,
+    path: &str,
+    wanted: &Option<Question<'_>>,
+) -> Result<(), Refused> {
+    let copied = trail_at(rt, path)?;
+    match print_copied(rt.alloc(), copied, SEED, wanted, &mut rt.stdout()) {
+        Ok(()) => Ok(()),
+        Err(failure) => Err(with_fault(rt, path, failure)),
+    }
+}
+
+/// The failure, with a line on what is at fault in the stored files (2), a row (3) or the delays (5).
 fn with_fault(rt: &HostRuntime, path: &str, failure: Failure) -> Refused {
     let reason = match failure {
-        Failure::Trail(number) if number == 3 || number == 5 => fault_at(rt, path),
+        Failure::Trail(number) if number == 2 || number == 3 || number == 5 => fault_at(rt, path),
         _ => None,
     };
     Refused { failure, reason }
 }
 
 fn fault_at(rt: &HostRuntime, path: &str) -> Option<String> {
-    match Connection::open(rt, path) {
+    let copied = match copied_from(rt, path) {
+        Ok(copied) => copied,
+        Err(_) => return None,
+    };
+    let Copied { log, db } = copied;
+    match open_bytes(rt.alloc(), log.as_slice(), db.as_slice(), SEED) {
         Ok(conn) => fault_line(rt.alloc(), conn),
         Err(_) => None,
     }
 }
 
-/// Prints the evidence for the trade in a word.
-fn print_trade_in(rt: &HostRuntime, path: &str, word: &str) -> Result<(), Refused> {
-    let Some(number) = trade_number(word) else {
-        return Err(Refused::of_word(
-            rt.alloc(),
-            Failure::Unknown(Unknown::Trade),
-            word,
-            "a trade is written as T3",
-        ));
-    };
-    match print_trail(rt, path, Report::Trade(number)) {
-        Ok(()) => Ok(()),
-        Err(Failure::Unknown(unknown)) => Err(Refused::of_word(
-            rt.alloc(),
-            Failure::Unknown(unknown),
-            word,
-            reason_of(unknown),
-        )),
-        Err(failure) => Err(with_fault(rt, path, failure)),
-    }
-}
-
 /// Prints the answer to the question in these words.
-fn ask(rt: &HostRuntime, path: &str, words: &AskedWords, form: Form) -> Result<(), Refused> {
-    let question = question_of(rt.alloc(), words)?;
-    match print_trail(rt, path, Report::Asked(question, form)) {
+fn ask(rt: &HostRuntime, path: &str, words: &AskedWords) -> Result<(), Refused> {
+    let question = match question_of(words) {
+        Ok(question) => question,
+        Err(unknown) => return Err(misspelt_in(rt.alloc(), words, unknown)),
+    };
+    match print_trail(rt, path, &Some(question)) {
         Ok(()) => Ok(()),
-        Err(Failure::Unknown(unknown)) => Err(unknown_in(rt.alloc(), words, unknown)),
-        Err(failure) => Err(with_fault(rt, path, failure)),
+        Err(
+            Refused {
+                failure: Failure::Unknown(unknown),
+                ..
+            },
+        ) => Err(absent_in(rt.alloc(), words, unknown)),
+        Err(refused) => Err(refused),
     }
 }
 
-fn print_days(rt: &HostRuntime, path: &str, wanted: Report) -> Result<(), Refused> {
-    match print_trail(rt, path, wanted) {
+/// Prints how the log of a desk at a path agrees with what it was owed.
+fn ask_against(rt: &HostRuntime, path: &str, desk: String, log: &str) -> Result<(), Refused> {
+    let bytes = match file_at(rt, log) {
+        Ok(bytes) => bytes,
+        Err(refused) => {
+            return Err(Refused {
+                failure: log_failure(refused.failure),
+                reason: refused.reason,
+            });
+        }
+    };
+    ask(rt, path, &AskedWords::Against(desk, bytes))
+}
+
+/// A file that is not there is no log.
+fn log_failure(failure: Failure) -> Failure {
+    match failure {
+        Failure::Trail(_) => Failure::Unknown(Unknown::Log(NoLog {
+            frames: 0,
+            broken: None,
+        })),
+        failure => failure,
+    }
+}
+
+// Generic over the store, so that the contracts of `print_migrated` are passed on in one call.
+fn migrate_and_close<S: Alter + Drop, W: Write>(
+    alloc: Global,
+    conn: Connection<S>,
+    form: Form,
+    writer: &mut W,
+) -> Result<(), Failure> {
+    match print_migrated(alloc, conn, form, writer) {
+        Ok(conn) => {
+            drop(conn);
+            Ok(())
+        }
+        Err((failure, conn)) => {
+            drop(conn);
+            Err(failure)
+        }
+    }
+}
+
+/// Makes the trail at a path one of version 3, in the file itself, and prints its trades. The file is checked first, so
+/// that no file is made, and none that is no database is touched.
+fn migrate(rt: &HostRuntime, path: &str, form: Form) -> Result<(), Refused> {
+    drop(trail_at(rt, path)?);
+    let printed = match Connection::open(rt, path) {
+        Ok(conn) => migrate_and_close(rt.alloc(), conn, form, &mut rt.stdout()),
+        Err(error) => Err(Failure::from(error)),
+    };
+    match printed {
         Ok(()) => Ok(()),
         Err(failure) => Err(with_fault(rt, path, failure)),
     }
@@ -113,10 +166,10 @@ fn print_days(rt: &HostRuntime, path: &str, wanted: Report) -> Result<(), Refuse
 
 fn run(rt: &HostRuntime) -> Result<(), Refused> {
     match task_given(rt)? {
-        Task::Print { path, form } => print_days(rt, &path, Report::Day(form)),
-        Task::Migrate { path, form } => print_days(rt, &path, Report::MigratedDay(form)),
-        Task::Trade { path, word } => print_trade_in(rt, &path, &word),
-        Task::Ask { path, words, form } => ask(rt, &path, &words, form),
+        Task::Print { path } => print_trail(rt, &path, &None),
+        Task::Migrate { path } => migrate(rt, &path, Form::Lines),
+        Task::Ask { path, words } => ask(rt, &path, &words),
+        Task::Against { path, desk, log } => ask_against(rt, &path, desk, &log),
         Task::Help => Ok(()),
     }
 }

@@ -11,11 +11,12 @@ use Rattle.venue_rules.specs.Market.{Market}
 use Rattle.venue_rules.specs.Messages.{message}
 use Rattle.venue_rules.specs.Run.{Input, after, answer_input, replies_to, run_from}
 use Rattle.venue_core.specs.Replay.{AreEmitted}
-use Rattle.trail_answers.specs.declared.form.Form.{Form}
+use Rattle.message_words.specs.declared.form.Form.{Form}
 use Rattle.trail_answers.specs.Entries.{heading, reply_if, reply_text}
 use Rattle.trail_answers.specs.Laws.{MessagesAreOwed, MessagesAreEmitted}
 use Rattle.trail_answers.specs.Owed.{OwedMessage, EmitsOwed, owed_message, owed_message_text, owed_messages_from, owed_messages_of, messages, owed_to}
 use Rattle.trail_answers.specs.Emitted.{EmitsAnswers, emitted_from}
+use Rattle.trail_answers.specs.Sought.{Seen, seen_after, unseen}
 
 abbrev to_messages : List Reply → List App
 to_messages rs = map (λ (r : Reply). message r.what) rs
@@ -78,17 +79,18 @@ kept_texts form file r who (x ∷ xs) = by (kept_texts form file r who xs) (x.to
     by rec true = ap (λ (l : List ℕ). reply_text form file r x ++ l) rec
     by rec false = rec
 
-emitted_owed_messages : (form : Form) (m : Market) (who : ℕ) (h : History) (rs : List TrailRow) (is : List Input) → emitted_from form m (owed_to who) h rs is ≡ flat_map (owed_message_text form m.participants) (owed_messages_from m who h rs is)
-emitted_owed_messages form m who h [] is = refl
-emitted_owed_messages form m who h (r ∷ rs) [] = refl
-emitted_owed_messages form m who h (r ∷ rs) (i ∷ is) =
+emitted_owed_messages : (form : Form) (m : Market) (who : ℕ) (known : Seen) (h : History) (rs : List TrailRow) (is : List Input)
+    → emitted_from form m (owed_to who) known h rs is ≡ flat_map (owed_message_text form m.participants) (owed_messages_from m who h rs is)
+emitted_owed_messages form m who known h [] is = refl
+emitted_owed_messages form m who known h (r ∷ rs) [] = refl
+emitted_owed_messages form m who known h (r ∷ rs) (i ∷ is) =
     let a = answer_input m h i in
     let here = replies_to who a.replies in
-    (λ k. (kept_texts form m.participants r who a.replies ∙ row_texts form m.participants r here) k ++ emitted_owed_messages form m who (after h a) rs is k)
+    (λ k. (kept_texts form m.participants r who a.replies ∙ row_texts form m.participants r here) k ++ emitted_owed_messages form m who (seen_after (owed_to who) known i a.replies) (after h a) rs is k)
     ∙ sym (texts_join (owed_message_text form m.participants) (map (owed_message r) here) (owed_messages_from m who (after h a) rs is))
 
 pub owed_messages_emitted : MessagesAreEmitted
-owed_messages_emitted form m who rs is = ap (λ (l : List ℕ). heading form ++ l) (emitted_owed_messages form m who no_history rs is)
+owed_messages_emitted form m who rs is = ap (λ (l : List ℕ). heading form ++ l) (emitted_owed_messages form m who (unseen (owed_to who)) no_history rs is)
 
 -- the output for one participant is what it is owed
 pub emits_owed : MessagesAreOwed → MessagesAreEmitted → (form : Form) (m : Market) (rs : List TrailRow) (who : ℕ) (before after : Option (List ℕ)) → EmitsAnswers form m (owed_to who) rs before after → EmitsOwed form m rs who before after

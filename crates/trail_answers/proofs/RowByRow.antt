@@ -3,24 +3,28 @@ use Rattle.std.proofs.Common.{◌≡◌, ℕ, ◌+◌, ◌<◌, inl, inr, ◌⊎
 use Rattle.std.proofs.KnownBytes.{Appends-kept, Appends-trans, Keeps-trans}
 use Rattle.std.proofs.lemmas.List.{take_more}
 use Rattle.std.specs.Io.KnownBytes.{Appends, Keeps}
+use Rattle.std.specs.List.{list_any}
 use Rattle.participants.specs.ParticipantFile.{ParticipantFile}
 use Rattle.venue_rules.specs.declared.replies.Reply.{Reply}
 use Rattle.venue_rules.specs.declared.trail.TrailRow.{TrailRow}
 use Rattle.venue_rules.specs.Answer.{Answer}
 use Rattle.venue_rules.specs.Facts.{History, no_history}
 use Rattle.venue_rules.specs.Market.{Market}
-use Rattle.venue_rules.specs.Run.{Input, after, answer_input, rows, run, run_from}
-use Rattle.venue_core.specs.Replay.{AreFitting, AreEmitted, Emits}
+use Rattle.venue_rules.specs.Run.{Input, after, answer_input, run, run_from}
+use Rattle.venue_core.specs.Replay.{AreEmitted, Emits}
 use Rattle.venue_core.specs.VenueFacts.{IsAfter, IsAnswer, IsHistory}
 use Rattle.venue_core.specs.State.{State}
 use Rattle.venue_core.specs.Taking.{IsSame, Stands, Takes}
+use Rattle.message_words.specs.declared.form.Form.{Form}
+use Rattle.row_replay.specs.Laws.{AreTheirs}
 use Rattle.trail_answers.specs.declared.fault.AnswersFault.{AnswersFault}
-use Rattle.trail_answers.specs.declared.fault.AnswersFault.TheVariants.{Memory, Output, NoInstrument, NoOrder}
-use Rattle.trail_answers.specs.declared.form.Form.{Form}
+use Rattle.trail_answers.specs.declared.fault.AnswersFault.TheVariants.{Memory, Output, NoOrder, NoRoom}
 use Rattle.trail_answers.specs.declared.scope.Scope.{Scope}
 use Rattle.trail_answers.specs.Entries.{entries_text, heading}
-use Rattle.trail_answers.specs.Emitted.{AreOf, BeginsRows, HasNoOrder, IsEmittedOf, IsFailed, EmitsAnswers, EmitsRow, above, emitted_at, emitted_from, emitted_on, reports_from}
-use Rattle.trail_answers.specs.Sought.{is_order_sought, is_row_sought, is_sender_sought, is_sought}
+use Rattle.trail_answers.specs.Emitted.{BeginsRows, HasNoOrder, HasNoRoom, IsEmittedOf, IsFailed, EmitsAnswers, EmitsRow, above, comes, emitted_at, emitted_from, emitted_on, seen_from, seen_on}
+use Rattle.trail_answers.specs.Life.{Life, after_replies, after_reply, at_input, is_about, is_asked, life_after, with_reply}
+use Rattle.trail_answers.specs.Sought.{Seen, is_order_there, is_room_there, is_row_sought, is_sender_sought, is_sought, is_there, seen_after, unseen}
+use Rattle.trail_answers.specs.Talk.{Talk, opens, talk_after}
 
 -- one row more
 more_rows : (rs : List TrailRow) (is : List Input) (r : TrailRow) (i : Input) → AreEmitted rs is → Emits r i → AreEmitted (rs ++ r ∷ []) (is ++ i ∷ [])
@@ -29,140 +33,176 @@ more_rows [] (j ∷ is) r i emitted emits = absurd emitted
 more_rows (x ∷ rs) [] r i emitted emits = absurd emitted
 more_rows (x ∷ rs) (j ∷ is) r i emitted emits = (emitted.0, more_rows rs is r i emitted.1 emits)
 
-text_more : (form : Form) (m : Market) (scope : Scope) (h : History) (rs : List TrailRow) (is : List Input) (r : TrailRow) (i : Input) → AreEmitted rs is
-    → emitted_from form m scope h (rs ++ r ∷ []) (is ++ i ∷ []) ≡ emitted_from form m scope h rs is ++ emitted_at form m.participants scope r i (answer_input m (run_from m h is).history i).replies
-text_more form m scope h [] [] r i emitted = append-nil (emitted_at form m.participants scope r i (answer_input m h i).replies)
-text_more form m scope h [] (j ∷ is) r i emitted = absurd emitted
-text_more form m scope h (x ∷ rs) [] r i emitted = absurd emitted
-text_more form m scope h (x ∷ rs) (j ∷ is) r i emitted =
+seen_more : (m : Market) (scope : Scope) (known : Seen) (h : History) (is : List Input) (i : Input)
+    → seen_from m scope known h (is ++ i ∷ []) ≡ seen_after scope (seen_from m scope known h is) i (answer_input m (run_from m h is).history i).replies
+seen_more m scope known h [] i = refl
+seen_more m scope known h (j ∷ is) i = seen_more m scope (seen_after scope known j (answer_input m h j).replies) (after h (answer_input m h j)) is i
+
+text_more : (form : Form) (m : Market) (scope : Scope) (known : Seen) (h : History) (rs : List TrailRow) (is : List Input) (r : TrailRow) (i : Input) → AreEmitted rs is
+    → emitted_from form m scope known h (rs ++ r ∷ []) (is ++ i ∷ [])
+    ≡ emitted_from form m scope known h rs is
+    ++ emitted_at form m.participants scope (seen_after scope (seen_from m scope known h is) i (answer_input m (run_from m h is).history i).replies) r i (answer_input m (run_from m h is).history i).replies
+text_more form m scope known h [] [] r i emitted = append-nil (emitted_at form m.participants scope (seen_after scope known i (answer_input m h i).replies) r i (answer_input m h i).replies)
+text_more form m scope known h [] (j ∷ is) r i emitted = absurd emitted
+text_more form m scope known h (x ∷ rs) [] r i emitted = absurd emitted
+text_more form m scope known h (x ∷ rs) (j ∷ is) r i emitted =
     let a = answer_input m h j in
-    let here = emitted_at form m.participants scope x j a.replies in
-    ap (λ (l : List ℕ). here ++ l) (text_more form m scope (after h a) rs is r i emitted.1)
-    ∙ sym (append_assoc here (emitted_from form m scope (after h a) rs is) (emitted_at form m.participants scope r i (answer_input m (run_from m (after h a) is).history i).replies))
-
-or_assoc : (a b c : Bool) → (a || (b || c)) ≡ ((a || b) || c)
-or_assoc true b c = refl
-or_assoc false b c = refl
-
-or_false : (a : Bool) → (a || false) ≡ a
-or_false true = refl
-or_false false = refl
-
--- whether an answer reports on the order, with one row more
-reports_more : (m : Market) (order : Option ℕ) (h : History) (rs : List TrailRow) (is : List Input) (r : TrailRow) (i : Input) → AreEmitted rs is
-    → reports_from m order h (rs ++ r ∷ []) (is ++ i ∷ []) ≡ (reports_from m order h rs is || is_order_sought order (answer_input m (run_from m h is).history i).replies)
-reports_more m order h [] [] r i emitted = or_false (is_order_sought order (answer_input m h i).replies)
-reports_more m order h [] (j ∷ is) r i emitted = absurd emitted
-reports_more m order h (x ∷ rs) [] r i emitted = absurd emitted
-reports_more m order h (x ∷ rs) (j ∷ is) r i emitted =
-    let a = answer_input m h j in
-    let here = is_order_sought order a.replies in
-    ap (λ (b : Bool). here || b) (reports_more m order (after h a) rs is r i emitted.1)
-    ∙ or_assoc here (reports_from m order (after h a) rs is) (is_order_sought order (answer_input m (run_from m (after h a) is).history i).replies)
+    let next = seen_after scope known j a.replies in
+    let here = emitted_at form m.participants scope next x j a.replies in
+    let last = (answer_input m (run_from m (after h a) is).history i).replies in
+    ap (λ (l : List ℕ). here ++ l) (text_more form m scope next (after h a) rs is r i emitted.1)
+    ∙ sym (append_assoc here (emitted_from form m scope next (after h a) rs is) (emitted_at form m.participants scope (seen_after scope (seen_from m scope next (after h a) is) i last) r i last))
 
 abbrev pub TakesOne : Type 0
 TakesOne = (i : Input) (s between s' : State) (a : Answer) → IsSame s between → IsAnswer s i a → s'.market ≡ between.market → IsAfter between a s' → Takes s i a s'
 
--- a venue plans the input of a row, the text of its replies is written, and it applies the plan
-pub emits : TakesOne → (form : Form) (scope : Scope) (r : TrailRow) (i : Input) (s mid s' : State) (a : Answer) (replies : List Reply) (began reports begins : Bool) (text : List ℕ) (before after : Option (List ℕ))
-    → Emits r i → IsSame s mid → IsAnswer s i a → s'.market ≡ mid.market → IsAfter mid a s' → replies ≡ a.replies → reports ≡ is_order_sought scope.order replies → begins ≡ (began || reports)
-    → text ≡ above form (reports && not began) ++ emitted_at form s.market.participants scope r i replies → Appends before after text → EmitsRow form scope r began begins s s' before after
-emits law form scope r i s mid s' a replies began reports begins text held now item same own market goes said those begun is written = record {
+-- a venue plans the input of a row, what it says is noted, the text of its replies is written, and it applies the plan
+pub emits : TakesOne → (form : Form) (scope : Scope) (r : TrailRow) (i : Input) (s mid s' : State) (a : Answer) (replies : List Reply) (known knows : Seen) (now : Bool) (text : List ℕ) (before after : Option (List ℕ))
+    → Emits r i → IsSame s mid → IsAnswer s i a → s'.market ≡ mid.market → IsAfter mid a s' → replies ≡ a.replies → knows ≡ seen_after scope known i replies → now ≡ comes scope known knows
+    → text ≡ above form now ++ emitted_at form s.market.participants scope knows r i replies → Appends before after text → EmitsRow form scope r known knows s s' before after
+emits law form scope r i s mid s' a replies known knows now text held after item same own market goes said noted come is written = record {
   input = i;
   answer = a;
   emits = item;
   takes = law i s mid s' a same own market goes;
-  begun = λ h stands. begun ∙ ap (λ (b : Bool). began || b) (those ∙ ap (is_order_sought scope.order) (answered h stands));
-  written = λ h stands. subst (Appends held now)
-      (is ∙ ap (λ (b : Bool). above form (b && not began) ++ emitted_at form s.market.participants scope r i replies) those
-      ∙ ap (λ (l : List Reply). above form (is_order_sought scope.order l && not began) ++ emitted_at form s.market.participants scope r i l) (answered h stands))
+  seen = λ h stands. noted ∙ ap (seen_after scope known i) (answered h stands);
+  written = λ h stands. subst (Appends held after)
+      (is ∙ ap (λ (b : Bool). above form b ++ emitted_at form s.market.participants scope knows r i replies) come
+      ∙ ap (λ (l : List Reply). above form (comes scope known knows) ++ emitted_at form s.market.participants scope knows r i l) (answered h stands))
       written;
 }
   where
     answered : (h : History) → IsHistory s h → replies ≡ (answer_input s.market h i).replies
     answered h stands = said ∙ ap (λ (x : Answer). x.replies) (own h stands)
 
--- a row of which no reply reports on the order is not printed
-not_sought : (scope : Scope) (r : TrailRow) (replies : List Reply) → is_order_sought scope.order replies ≡ false → is_sought scope r replies ≡ false
-not_sought scope r replies none = by (is_row_sought scope.rows r.n) (is_sender_sought scope.from r.who) (is_order_sought scope.order replies) none
-  where
-    by : (a b c : Bool) → c ≡ false → (a && (b && c)) ≡ false
-    by false b c none = refl
-    by true false c none = refl
-    by true true c none = none
+-- What is there stays there.
 
-no_text : (form : Form) (file : ParticipantFile) (scope : Scope) (r : TrailRow) (i : Input) (replies : List Reply) → is_order_sought scope.order replies ≡ false → emitted_at form file scope r i replies ≡ []
-no_text form file scope r i replies none = ap (λ (b : Bool). if b then entries_text form file scope.to r i replies else []) (not_sought scope r replies none)
+reply_stays : (l : Life) (r : Reply) → l.there ≡ true → (after_reply l r).there ≡ true
+reply_stays l r is = by (is_about l r)
+  where
+    by : (b : Bool) → (if b then with_reply l r else l).there ≡ true
+    by true = refl
+    by false = is
+
+replies_stay : (l : Life) (rs : List Reply) → l.there ≡ true → (after_replies l rs).there ≡ true
+replies_stay l [] is = is
+replies_stay l (r ∷ rs) is = replies_stay (after_reply l r) rs (reply_stays l r is)
+
+life_stays : (order : Option ℕ) (l : Life) (i : Input) (rs : List Reply) → l.there ≡ true → (life_after order l i rs).there ≡ true
+life_stays None l i rs is = is
+life_stays (Some number) l i rs is = replies_stay (at_input l i) rs (ap (λ (b : Bool). b || is_asked l i) is)
+
+talk_stays : (room : Option ℕ) (t : Talk) (i : Input) (rs : List Reply) → t.opened ≡ true → (talk_after room t i rs).opened ≡ true
+talk_stays None t i rs is = is
+talk_stays (Some room) t i rs is = ap (λ (b : Bool). b || list_any (λ (r : Reply). opens room r.what) rs) is
+
+and_true : (c d : Bool) → c ≡ true → d ≡ true → (c && d) ≡ true
+and_true true true one two = refl
+and_true true false one two = two
+and_true false d one two = one
+
+both : (a b c d : Bool) → (a ≡ true → c ≡ true) → (b ≡ true → d ≡ true) → (a && b) ≡ true → (c && d) ≡ true
+both true true c d one two is = and_true c d (one refl) (two refl)
+both true false c d one two is = absurd (cc)
+both false b c d one two is = absurd (cc)
+
+or_stays : (n a b : Bool) → (a ≡ true → b ≡ true) → (n || a) ≡ true → (n || b) ≡ true
+or_stays true a b so is = refl
+or_stays false a b so is = so is
+
+stays_there : (scope : Scope) (known : Seen) (i : Input) (rs : List Reply) → is_there scope known ≡ true → is_there scope (seen_after scope known i rs) ≡ true
+stays_there scope known i rs is = both (is_order_there scope known) (is_room_there scope known) (is_order_there scope (seen_after scope known i rs)) (is_room_there scope (seen_after scope known i rs))
+    (or_stays (is_none scope.order) known.life.there (life_after scope.order known.life i rs).there (life_stays scope.order known.life i rs))
+    (or_stays (is_none scope.room) known.talk.opened (talk_after scope.room known.talk i rs).opened (talk_stays scope.room known.talk i rs))
+    is
+
+-- a row is not printed while what is sought is not there
+not_sought : (scope : Scope) (known : Seen) (r : TrailRow) → is_there scope known ≡ false → is_sought scope known r ≡ false
+not_sought scope known r none = by (is_row_sought scope.rows r.n) (is_sender_sought scope.from r.who) (is_none scope.order || known.life.here) (is_none scope.room || known.talk.here) (is_there scope known) none
+  where
+    by : (a b c d e : Bool) → e ≡ false → (a && (b && (c && (d && e)))) ≡ false
+    by false b c d e none = refl
+    by true false c d e none = refl
+    by true true false d e none = refl
+    by true true true false e none = refl
+    by true true true true e none = none
+
+no_text : (form : Form) (file : ParticipantFile) (scope : Scope) (known : Seen) (r : TrailRow) (i : Input) (replies : List Reply) → is_there scope known ≡ false → emitted_at form file scope known r i replies ≡ []
+no_text form file scope known r i replies none = ap (λ (b : Bool). if b then entries_text form file scope.to r i replies else []) (not_sought scope known r none)
 
 -- the text so far, and that of a row: the names of the fields come once
-joined : (form : Form) (began reports : Bool) (text row : List ℕ) → (began ≡ false → text ≡ []) → (reports ≡ false → row ≡ [])
-    → (above form began ++ text) ++ (above form (reports && not began) ++ row) ≡ above form (began || reports) ++ (text ++ row)
-joined form true reports text row none silent = by reports
+joined : (form : Form) (was is : Bool) (text row : List ℕ) → (was ≡ true → is ≡ true) → (was ≡ false → text ≡ []) → (is ≡ false → row ≡ [])
+    → (above form was ++ text) ++ (above form (is && not was) ++ row) ≡ above form is ++ (text ++ row)
+joined form true true text row stays none silent = append_assoc (heading form) text row
+joined form true false text row stays none silent = absurd (no_longer (stays refl))
   where
-    by : (b : Bool) → (heading form ++ text) ++ (above form (b && false) ++ row) ≡ heading form ++ (text ++ row)
-    by true = append_assoc (heading form) text row
-    by false = append_assoc (heading form) text row
-joined form false true text row none silent = (λ k. none refl k ++ (heading form ++ row)) ∙ sym (λ k. heading form ++ (none refl k ++ row))
-joined form false false text row none silent = refl
+    no_longer : false ≡ true → ⊥
+    no_longer e = absurd (cc)
+joined form false true text row stays none silent = (λ k. none refl k ++ (heading form ++ row)) ∙ sym (λ k. heading form ++ (none refl k ++ row))
+joined form false false text row stays none silent = refl
 
-still_silent : (began reports : Bool) (text row : List ℕ) → (began ≡ false → text ≡ []) → (reports ≡ false → row ≡ []) → (began || reports) ≡ false → text ++ row ≡ []
-still_silent true reports text row none silent never = absurd (cc)
-still_silent false reports text row none silent never = λ k. none refl k ++ silent never k
+still_silent : (was is : Bool) (text row : List ℕ) → (was ≡ true → is ≡ true) → (was ≡ false → text ≡ []) → (is ≡ false → row ≡ []) → is ≡ false → text ++ row ≡ []
+still_silent true true text row stays none silent never = absurd (cc)
+still_silent true false text row stays none silent never = absurd (no_longer (stays refl))
+  where
+    no_longer : false ≡ true → ⊥
+    no_longer e = absurd (cc)
+still_silent false is text row stays none silent never = λ k. none refl k ++ silent never k
 
 abbrev pub StandsOn : Type 0
 StandsOn = (m : Market) (is : List Input) (i : Input) (s s' : State) (a : Answer) → Stands m is s → Takes s i a s' → Stands m (is ++ i ∷ []) s'
 
 -- and for the market of a run
-here_in : (form : Form) (m : Market) (scope : Scope) (r : TrailRow) (i : Input) (began begins : Bool) (h : History) (s : State) (mid after : Option (List ℕ)) → s.market ≡ m
-    → begins ≡ (began || is_order_sought scope.order (answer_input s.market h i).replies)
-    → Appends mid after (above form (is_order_sought scope.order (answer_input s.market h i).replies && not began) ++ emitted_at form s.market.participants scope r i (answer_input s.market h i).replies)
-    → (begins ≡ (began || is_order_sought scope.order (answer_input m h i).replies))
-    × Appends mid after (above form (is_order_sought scope.order (answer_input m h i).replies && not began) ++ emitted_at form m.participants scope r i (answer_input m h i).replies)
-here_in form m scope r i began begins h s mid after same begun written = (
-  subst (λ (n : Market). begins ≡ (began || is_order_sought scope.order (answer_input n h i).replies)) same begun,
-  subst (λ (n : Market). Appends mid after (above form (is_order_sought scope.order (answer_input n h i).replies && not began) ++ emitted_at form n.participants scope r i (answer_input n h i).replies)) same written,
+here_in : (form : Form) (m : Market) (scope : Scope) (r : TrailRow) (i : Input) (known knows : Seen) (h : History) (s : State) (mid after : Option (List ℕ)) → s.market ≡ m
+    → knows ≡ seen_after scope known i (answer_input s.market h i).replies
+    → Appends mid after (above form (comes scope known knows) ++ emitted_at form s.market.participants scope knows r i (answer_input s.market h i).replies)
+    → (knows ≡ seen_after scope known i (answer_input m h i).replies)
+    × Appends mid after (above form (comes scope known knows) ++ emitted_at form m.participants scope knows r i (answer_input m h i).replies)
+here_in form m scope r i known knows h s mid after same noted written = (
+  subst (λ (n : Market). knows ≡ seen_after scope known i (answer_input n h i).replies) same noted,
+  subst (λ (n : Market). Appends mid after (above form (comes scope known knows) ++ emitted_at form n.participants scope knows r i (answer_input n h i).replies)) same written,
 )
 
-one_more : StandsOn → (form : Form) (m : Market) (scope : Scope) (rs : List TrailRow) (r : TrailRow) (began begins : Bool) (s s' : State) (before mid after : Option (List ℕ))
-    → IsEmittedOf form m scope rs began s before mid → EmitsRow form scope r began begins s s' mid after → IsEmittedOf form m scope (rs ++ r ∷ []) begins s' before after
-one_more law form m scope rs r began begins s s' before mid after so_far here =
+one_more : StandsOn → (form : Form) (m : Market) (scope : Scope) (rs : List TrailRow) (r : TrailRow) (known knows : Seen) (s s' : State) (before mid after : Option (List ℕ))
+    → IsEmittedOf form m scope rs known s before mid → EmitsRow form scope r known knows s s' mid after → IsEmittedOf form m scope (rs ++ r ∷ []) knows s' before after
+one_more law form m scope rs r known knows s s' before mid after so_far here =
     let h = (run m so_far.items).history in
     let i = here.input in
     let replies = (answer_input m h i).replies in
-    let reports = is_order_sought scope.order replies in
-    let row = emitted_at form m.participants scope r i replies in
+    let own = here_in form m scope r i known knows h s mid after so_far.stands.market (here.seen h so_far.stands.history) (here.written h so_far.stands.history) in
+    let row = emitted_at form m.participants scope knows r i replies in
     let text = emitted_on form m scope rs so_far.items in
-    let own = here_in form m scope r i began begins h s mid after so_far.stands.market (here.begun h so_far.stands.history) (here.written h so_far.stands.history) in
-    let longer : emitted_on form m scope (rs ++ r ∷ []) (so_far.items ++ i ∷ []) ≡ text ++ row = text_more form m scope no_history rs so_far.items r i so_far.emitted in
-    let quiet : reports ≡ false → row ≡ [] = no_text form m.participants scope r i replies in
+    let noted : knows ≡ seen_after scope (seen_on m scope so_far.items) i replies = own.0 ∙ ap (λ (k : Seen). seen_after scope k i replies) so_far.seen in
+    let longer : emitted_on form m scope (rs ++ r ∷ []) (so_far.items ++ i ∷ []) ≡ text ++ row =
+    text_more form m scope (unseen scope) no_history rs so_far.items r i so_far.emitted ∙ ap (λ (k : Seen). text ++ emitted_at form m.participants scope k r i replies) (sym noted) in
+    let stays : is_there scope known ≡ true → is_there scope knows ≡ true = λ is. subst (λ (k : Seen). is_there scope k ≡ true) (sym own.0) (stays_there scope known i replies is) in
+    let quiet : is_there scope knows ≡ false → row ≡ [] = no_text form m.participants scope knows r i replies in
     record {
       items = so_far.items ++ i ∷ [];
       emitted = more_rows rs so_far.items r i so_far.emitted here.emits;
       stands = law m so_far.items i s s' here.answer so_far.stands here.takes;
-      there = own.0 ∙ ap (λ (b : Bool). b || reports) so_far.there ∙ sym (or_assoc (is_none scope.order) (reports_from m scope.order no_history rs so_far.items) reports)
-          ∙ ap (λ (b : Bool). is_none scope.order || b) (sym (reports_more m scope.order no_history rs so_far.items r i so_far.emitted));
-      silent = λ never. longer ∙ still_silent began reports text row so_far.silent quiet (sym own.0 ∙ never);
-      written = subst (λ (b : Bool). Appends before after (above form b ++ emitted_on form m scope (rs ++ r ∷ []) (so_far.items ++ i ∷ []))) (sym own.0)
-          (subst (λ (l : List ℕ). Appends before after (above form (began || reports) ++ l)) (sym longer)
-          (subst (Appends before after) (joined form began reports text row so_far.silent quiet) (Appends-trans before mid after _ _ so_far.written own.1)));
+      seen = noted ∙ sym (seen_more m scope (unseen scope) no_history so_far.items i);
+      silent = λ never. longer ∙ still_silent (is_there scope known) (is_there scope knows) text row stays so_far.silent quiet never;
+      written = subst (λ (l : List ℕ). Appends before after (above form (is_there scope knows) ++ l)) (sym longer)
+          (subst (Appends before after) (joined form (is_there scope known) (is_there scope knows) text row stays so_far.silent quiet) (Appends-trans before mid after _ _ so_far.written own.1));
     }
 
-pub emitted_more : StandsOn → (form : Form) (m : Market) (scope : Scope) (rs : List TrailRow) (k : ℕ) (r : TrailRow) (began begins : Bool) (s s' : State) (before mid after : Option (List ℕ)) → k < length rs → r ≡ get_or rs k r
-    → IsEmittedOf form m scope (take k rs) began s before mid → EmitsRow form scope r began begins s s' mid after → IsEmittedOf form m scope (take (k + 1) rs) begins s' before after
-emitted_more law form m scope rs k r began begins s s' before mid after low at_k so_far here =
+pub emitted_more : StandsOn → (form : Form) (m : Market) (scope : Scope) (rs : List TrailRow) (k : ℕ) (r : TrailRow) (known knows : Seen) (s s' : State) (before mid after : Option (List ℕ)) → k < length rs → r ≡ get_or rs k r
+    → IsEmittedOf form m scope (take k rs) known s before mid → EmitsRow form scope r known knows s s' mid after → IsEmittedOf form m scope (take (k + 1) rs) knows s' before after
+emitted_more law form m scope rs k r known knows s s' before mid after low at_k so_far here =
     let longer : take (k + 1) rs ≡ take k rs ++ r ∷ [] = take_more rs k r low ∙ ap (λ (x : TrailRow). take k rs ++ x ∷ []) (sym at_k) in
-    subst (λ (l : List TrailRow). IsEmittedOf form m scope l begins s' before after) (sym longer) (one_more law form m scope (take k rs) r began begins s s' before mid after so_far here)
+    subst (λ (l : List TrailRow). IsEmittedOf form m scope l knows s' before after) (sym longer) (one_more law form m scope (take k rs) r known knows s s' before mid after so_far here)
 
 -- before the first
-pub emitted_nothing : (form : Form) (scope : Scope) (s : State) (begun : Bool) (before after : Option (List ℕ)) → IsHistory s no_history → begun ≡ is_none scope.order → Appends before after (above form begun)
-    → IsEmittedOf form s.market scope [] begun s before after
-emitted_nothing form scope s begun before after fresh is written = record {
+pub emitted_nothing : (form : Form) (scope : Scope) (s : State) (known : Seen) (there : Bool) (before after : Option (List ℕ)) → IsHistory s no_history → known ≡ unseen scope → there ≡ is_there scope known → Appends before after (above form there)
+    → IsEmittedOf form s.market scope [] known s before after
+emitted_nothing form scope s known there before after fresh noted is written = record {
   items = [];
   emitted = tt;
   stands = record { market = refl; history = fresh };
-  there = is ∙ sym (or_false (is_none scope.order));
+  seen = noted;
   silent = λ _. refl;
-  written = subst (Appends before after) (sym (append-nil (above form begun))) written;
+  written = subst (Appends before after) (ap (above form) is ∙ sym (append-nil (above form (is_there scope known)))) written;
 }
 
 nothing_appended : (before after : Option (List ℕ)) (text : List ℕ) → text ≡ [] → Appends before after text → Keeps before after
@@ -171,32 +211,64 @@ nothing_appended (Some xs) None text none written = absurd written
 nothing_appended (Some xs) (Some ys) text none written = written ∙ ap (λ (l : List ℕ). xs ++ l) none ∙ append-nil xs
 
 -- an allocation fails at a row
-pub begins : (form : Form) (m : Market) (scope : Scope) (rs : List TrailRow) (k : ℕ) (begun : Bool) (s : State) (before mid after : Option (List ℕ)) → k < length rs → IsEmittedOf form m scope (take k rs) begun s before mid → Keeps mid after
+pub begins : (form : Form) (m : Market) (scope : Scope) (rs : List TrailRow) (k : ℕ) (known : Seen) (s : State) (before mid after : Option (List ℕ)) → k < length rs → IsEmittedOf form m scope (take k rs) known s before mid → Keeps mid after
     → Keeps before after ⊎ BeginsRows form m scope rs before after
-begins form m scope rs k true s before mid after low so_far kept =
-    inr (record { count = k; few = low; items = so_far.items; emitted = so_far.emitted; written = Appends-kept before mid after _ so_far.written kept })
-begins form m scope rs k false s before mid after low so_far kept = inl (Keeps-trans before mid after (nothing_appended before mid _ (so_far.silent refl) so_far.written) kept)
+begins form m scope rs k known s before mid after low so_far kept = by (is_there scope known) so_far.silent so_far.written
+  where
+    by : (b : Bool) → (b ≡ false → emitted_on form m scope (take k rs) so_far.items ≡ []) → Appends before mid (above form b ++ emitted_on form m scope (take k rs) so_far.items) → Keeps before after ⊎ BeginsRows form m scope rs before after
+    by true silent written = inr (record { count = k; few = low; items = so_far.items; emitted = so_far.emitted; written = Appends-kept before mid after _ written kept })
+    by false silent written = inl (Keeps-trans before mid after (nothing_appended before mid _ (silent refl) written) kept)
 
--- the inputs of the rows of inputs are these inputs
-abbrev pub EmitTheirInputs : Type 0
-EmitTheirInputs = (rs : List TrailRow) (is emitted : List Input) → rs ≡ rows is → AreFitting is → AreEmitted rs emitted → emitted ≡ is
+there_on : (scope : Scope) (known knows : Seen) (b : Bool) → known ≡ knows → is_there scope known ≡ b → is_there scope knows ≡ b
+there_on scope known knows b same is = subst (λ (k : Seen). is_there scope k ≡ b) same is
 
-pub are_of : EmitTheirInputs → (rs : List TrailRow) (items : List Input) → AreEmitted rs items → AreOf rs items
-are_of law rs items emitted = record { emitted = emitted; of_run = λ is same fits. law rs is items same fits emitted }
-
-pub emits_all : EmitTheirInputs → (form : Form) (m : Market) (scope : Scope) (rs : List TrailRow) (s : State) (before after : Option (List ℕ)) → IsEmittedOf form m scope rs true s before after → EmitsAnswers form m scope rs before after
-emits_all law form m scope rs s before after done = record { items = done.items; emitted = are_of law rs done.items done.emitted; written = done.written }
+pub emits_all : AreTheirs → (form : Form) (m : Market) (scope : Scope) (rs : List TrailRow) (known : Seen) (s : State) (before after : Option (List ℕ)) → IsEmittedOf form m scope rs known s before after → is_there scope known ≡ true
+    → EmitsAnswers form m scope rs before after
+emits_all law form m scope rs known s before after done is = record {
+  items = done.items;
+  emitted = law rs done.items done.emitted;
+  there = there_on scope known (seen_on m scope done.items) true done.seen is;
+  written = subst (λ (b : Bool). Appends before after (above form b ++ emitted_on form m scope rs done.items)) is done.written;
+}
 
 -- the order is not there
-pub none_there : EmitTheirInputs → (form : Form) (m : Market) (scope : Scope) (rs : List TrailRow) (s : State) (before after : Option (List ℕ)) → IsEmittedOf form m scope rs false s before after → HasNoOrder m scope rs
-none_there law form m scope rs s before after done = record { items = done.items; emitted = are_of law rs done.items done.emitted; none = sym done.there }
+pub no_order : AreTheirs → (form : Form) (m : Market) (scope : Scope) (rs : List TrailRow) (known : Seen) (s : State) (before after : Option (List ℕ)) → IsEmittedOf form m scope rs known s before after → is_order_there scope known ≡ false
+    → HasNoOrder m scope rs
+no_order law form m scope rs known s before after done none = record {
+  items = done.items;
+  emitted = law rs done.items done.emitted;
+  none = subst (λ (k : Seen). is_order_there scope k ≡ false) done.seen none;
+}
 
-pub nothing_there : (form : Form) (m : Market) (scope : Scope) (rs : List TrailRow) (s : State) (before after : Option (List ℕ)) → IsEmittedOf form m scope rs false s before after → Keeps before after
-nothing_there form m scope rs s before after done = nothing_appended before after _ (done.silent refl) done.written
+-- or the room
+pub no_room : AreTheirs → (form : Form) (m : Market) (scope : Scope) (rs : List TrailRow) (known : Seen) (s : State) (before after : Option (List ℕ)) → IsEmittedOf form m scope rs known s before after → is_room_there scope known ≡ false
+    → HasNoRoom m scope rs
+no_room law form m scope rs known s before after done none = record {
+  items = done.items;
+  emitted = law rs done.items done.emitted;
+  none = subst (λ (k : Seen). is_room_there scope k ≡ false) done.seen none;
+}
+
+pub nothing_there : (form : Form) (m : Market) (scope : Scope) (rs : List TrailRow) (known : Seen) (s : State) (before after : Option (List ℕ)) → IsEmittedOf form m scope rs known s before after → is_there scope known ≡ false
+    → Keeps before after
+nothing_there form m scope rs known s before after done none = nothing_appended before after _ (done.silent none) (subst (λ (b : Bool). Appends before after (above form b ++ emitted_on form m scope rs done.items)) none done.written)
 
 -- what failed is not that it is not there
 pub never_none : {R : Type 0} (fault : AnswersFault) → IsFailed fault → fault ≡ NoOrder → R
 never_none Memory failed is = absurd (cc)
 never_none Output failed is = absurd (cc)
-never_none NoInstrument failed is = absurd failed
 never_none NoOrder failed is = absurd failed
+never_none NoRoom failed is = absurd failed
+
+pub never_roomless : {R : Type 0} (fault : AnswersFault) → IsFailed fault → fault ≡ NoRoom → R
+never_roomless Memory failed is = absurd (cc)
+never_roomless Output failed is = absurd (cc)
+never_roomless NoOrder failed is = absurd failed
+never_roomless NoRoom failed is = absurd failed
+
+-- what is not there is no failure
+pub not_memory : {R : Type 0} (fault : AnswersFault) → (IsFailed fault → ⊥) → fault ≡ Memory → R
+not_memory Memory never is = absurd (never tt)
+not_memory Output never is = absurd (cc)
+not_memory NoOrder never is = absurd (cc)
+not_memory NoRoom never is = absurd (cc)

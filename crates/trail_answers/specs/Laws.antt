@@ -4,7 +4,7 @@ use Rattle.venue_rules.specs.declared.trail.TrailRow.{TrailRow}
 use Rattle.venue_rules.specs.Market.{Market}
 use Rattle.venue_rules.specs.Run.{Input, owed}
 use Rattle.venue_core.specs.Replay.{AreEmitted}
-use Rattle.trail_answers.specs.declared.form.Form.{Form}
+use Rattle.message_words.specs.declared.form.Form.{Form}
 use Rattle.trail_answers.specs.Owed.{owed_messages_of, owed_messages_text, messages, owed_to}
 use Rattle.trail_answers.specs.Emitted.{answers}
 

@@ -1,10 +1,8 @@
--- a sentence as parts
-pub mod Parts
--- a message in words, and its kind
-pub mod Words
-pub mod Kinds
--- the text of a message and of a reply, as lines and as rows of a table
+-- the text of a message and of a reply, as lines, as rows of a table and as objects of JSON
 pub mod Entries
+-- the life of an order, and the conversation of a room
+pub mod Life
+pub mod Talk
 -- which rows are printed
 pub mod Sought
 -- the text of a day
@@ -13,8 +11,3 @@ pub mod Emitted
 pub mod Owed
 -- what every day keeps
 pub mod Laws
--- the book of an instrument
-pub mod Picture
--- why a message is refused
-pub mod Causes
-pub mod Why

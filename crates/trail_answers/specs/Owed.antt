@@ -10,10 +10,10 @@ use Rattle.venue_rules.specs.Facts.{History, no_history}
 use Rattle.venue_rules.specs.Market.{Market}
 use Rattle.venue_rules.specs.Messages.{message}
 use Rattle.venue_rules.specs.Run.{Input, after, answer_input, owed, replies_to}
-use Rattle.trail_answers.specs.declared.form.Form.{Form}
+use Rattle.message_words.specs.declared.form.Form.{Form}
 use Rattle.trail_answers.specs.declared.scope.Scope.{Scope}
 use Rattle.trail_answers.specs.Entries.{heading, message_text}
-use Rattle.trail_answers.specs.Emitted.{AreOf}
+use Rattle.row_replay.specs.Inputs.{AreOf}
 
 -- a message that is owed to a participant, and the row at whose answer it is
 pub record OwedMessage : Type 0 where
@@ -46,7 +46,7 @@ owed_messages_text form file ls = heading form ++ flat_map (owed_message_text fo
 
 -- it is asked what this participant is owed
 abbrev pub owed_to : ℕ → Scope
-owed_to who = record { to = Some who; from = None; rows = None; order = None }
+owed_to who = record { to = Some who; from = None; rows = None; order = None; room = None }
 
 -- What was written are the messages that a participant is owed (`owed`, the word of the headline) for the inputs of
 -- these rows, in order, each once, each with its row, and no other byte.

@@ -15,12 +15,12 @@ pub enum AnswersFault {
     /// A write failed.
     #[error("output")]
     Output,
-    /// No instrument has this symbol.
-    #[error("no such instrument")]
-    NoInstrument,
-    /// No answer of the day reports on this order.
+    /// No row of the day is about this order.
     #[error("no such order")]
     NoOrder,
+    /// No request of the day was sent in this room.
+    #[error("no such room")]
+    NoRoom,
 }
 
 impl From<AllocError> for AnswersFault {

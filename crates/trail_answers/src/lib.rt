@@ -1,34 +1,20 @@
-//! The venue's answers on a day, from the rows of its trail: each message and each reply to it; a book; why a message
-//! was refused.
+//! The venue's answers on a day, from the rows of its trail: each message and each reply to it.
 #![tactic(auto)]
 
-mod cause_lines;
-mod causes;
 mod emitting;
 mod entry;
 mod fault;
-mod form;
-mod kinds;
 mod laws;
-mod names;
-mod orders;
-mod parts;
-mod picture;
-mod prices;
+mod life;
+mod objects;
 mod printing;
-mod rooms;
 mod scope;
 mod sought;
 mod table;
-mod visible;
-mod why;
-mod words;
+mod talk;
 
-pub use cause_lines::print_why;
 pub use fault::AnswersFault;
-pub use form::Form;
-pub use laws::{causes_are_first, messages_are_owed};
-pub use picture::print_book;
+pub use laws::messages_are_owed;
+pub use message_words::Form;
 pub use printing::print_answers;
 pub use scope::{RowSpan, Scope};
-pub use why::{Why, why_at};

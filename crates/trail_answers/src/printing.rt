@@ -1,54 +1,52 @@
 //! The answers of a day, printed row by row.
 
-ghost use Rattle.std.specs.Prelude.{◌≡◌, ℕ, ◌≤◌, ◌⊎◌, All, is_none, length, IfErr, IfOk, OnOk};
+ghost use Rattle.std.specs.Prelude.{◌≡◌, ℕ, ◌≤◌, ◌⊎◌, true, false, All, length, IfErr, IfOk, OnOk};
 ghost use Rattle.std.specs.Io.KnownBytes.{Appends, Keeps};
 ghost use Rattle.venue_rules.specs.Facts.{no_history};
 ghost use Rattle.venue_core.specs.Plan.{most_items};
 ghost use Rattle.venue_core.specs.Replay.{IsItem};
 ghost use Rattle.venue_core.specs.VenueFacts.{IsHistory};
 ghost use Rattle.trail_answers.specs.Owed.{EmitsOwed, owed_to};
-ghost use Rattle.trail_answers.specs.Emitted.{BeginsRows, HasNoOrder, IsEmittedOf, IsFailed, EmitsAnswers, above};
-ghost use Rattle.trail_answers.specs.declared.fault.AnswersFault.TheVariants.{Memory, NoInstrument, NoOrder};
+ghost use Rattle.trail_answers.specs.Emitted.{BeginsRows, HasNoOrder, HasNoRoom, IsEmittedOf, IsFailed, EmitsAnswers, above};
+ghost use Rattle.trail_answers.specs.Sought.{is_order_there, is_room_there, is_there, seen_of};
+ghost use Rattle.trail_answers.specs.declared.fault.AnswersFault.TheVariants.{Memory, NoOrder, NoRoom};
 
 use crate::emitting::{emit_row, write_text};
 use crate::fault::AnswersFault;
-use crate::form::Form;
 use crate::laws::messages_are_owed;
 use crate::scope::Scope;
+use crate::sought::{Seen, is_order_there, is_room_there, is_there, unseen};
 use crate::table::append_heading;
 use instruments::Instruments;
+use message_words::Form;
 use participants::Participants;
+use row_replay::rows_have_their_inputs;
 use std::alloc::Global;
 use std::io::Write;
-use venue_core::{Venue, day_goes_on, rows_emit_their_inputs};
+use venue_core::{Venue, day_goes_on};
 use venue_rules::TrailRow;
 
-/// Writes the names of the fields, unless an order is sought: then they come with the first row that reports on it.
-/// Returns whether they came.
+/// Writes the names of the fields, unless an order or a room is sought that is not there yet: then they come with the
+/// row after which it is.
 fn begin<W: Write>(
     alloc: Global,
     form: Form,
-    order: Option<u64>,
+    is_there: bool,
     writer: &mut W,
-) -> Result<bool, AnswersFault>
-    ensures begun { IfOk result (λ begun. begun ≡ is_none order) }
-    ensures written { IfOk result (λ begun. Appends (W.contents writer.old) (W.contents writer.new) (above form begun)) }
+) -> Result<(), AnswersFault>
+    ensures written { OnOk result (Appends (W.contents writer.old) (W.contents writer.new) (above form is_there)) }
     ensures unwritten { IfErr result (λ fault. fault ≡ Memory → Keeps (W.contents writer.old) (W.contents writer.new)) }
     ensures failed { IfErr result IsFailed }
 {
-    match order {
-        Some(_) => Ok(false),
-        None => {
-            let mut text = Vec::new(alloc);
-            append_heading(alloc, &mut text, form)?;
-            write_text(&text, writer)?;
-            Ok(true)
-        }
+    let mut text = Vec::new(alloc);
+    if is_there {
+        append_heading(alloc, &mut text, form)?;
     }
+    write_text(&text, writer)
 }
 
 /// Has a venue on which nothing has happened take the inputs of the rows, one after another, and writes the text of
-/// each as it comes. Returns whether an answer reports on the order that is sought, or none is sought.
+/// each as it comes. Returns what is known then of the order and the room that are sought.
 #[tactic(auto, using(crate::proofs::RowByRow::emitted_more, crate::proofs::RowByRow::emitted_nothing, crate::proofs::RowByRow::begins))]
 fn emit_rows<W: Write>(
     alloc: Global,
@@ -57,25 +55,43 @@ fn emit_rows<W: Write>(
     scope: &Scope,
     rows: &[TrailRow],
     writer: &mut W,
-) -> Result<bool, AnswersFault>
+) -> Result<Seen, AnswersFault>
     requires kept { All IsItem rows.now }
     requires few { length rows.now ≤ most_items }
     requires fresh { IsHistory venue.old no_history }
     requires first { venue.old.items ≡ 0 }
-    ensures emitted { IfOk result (λ begun. IsEmittedOf form venue.old.market scope.now rows.now begun venue.new (W.contents writer.old) (W.contents writer.new)) }
+    ensures emitted { IfOk result (λ seen. IsEmittedOf form venue.old.market scope.now rows.now (seen_of seen) venue.new (W.contents writer.old) (W.contents writer.new)) }
     ensures begun { IfErr result (λ fault. fault ≡ Memory → Keeps (W.contents writer.old) (W.contents writer.new) ⊎ BeginsRows form venue.old.market scope.now rows.now (W.contents writer.old) (W.contents writer.new)) }
     ensures failed { IfErr result IsFailed }
 {
     day_goes_on();
-    let mut begun = begin(alloc, form, scope.order, writer)?;
+    let mut seen = unseen(alloc, scope)?;
+    begin(alloc, form, is_there(scope, &seen), writer)?;
     for row in rows {
-        begun = emit_row(alloc, venue, form, scope, begun, row, writer)?;
+        emit_row(alloc, venue, form, scope, &mut seen, row, writer)?;
     }
-    Ok(begun)
+    Ok(seen)
+}
+
+/// Whether what is sought is there, or else what is not.
+fn find_sought(scope: &Scope, seen: &Seen) -> Result<(), AnswersFault>
+    ensures there { OnOk result (is_there scope.now (seen_of seen.now) ≡ true) }
+    ensures order { IfErr result (λ fault. fault ≡ NoOrder → is_order_there scope.now (seen_of seen.now) ≡ false) }
+    ensures room { IfErr result (λ fault. fault ≡ NoRoom → is_room_there scope.now (seen_of seen.now) ≡ false) }
+    ensures none { IfErr result (λ fault. is_there scope.now (seen_of seen.now) ≡ false) }
+    ensures failed { IfErr result (λ fault. IsFailed fault → ⊥) }
+{
+    if !is_order_there(scope, seen) {
+        return Err(AnswersFault::NoOrder);
+    }
+    if !is_room_there(scope, seen) {
+        return Err(AnswersFault::NoRoom);
+    }
+    Ok(())
 }
 
 /// Writes the answers of the rows, on a venue on which nothing has happened.
-#[tactic(auto, using(crate::proofs::RowByRow::emits_all, crate::proofs::RowByRow::none_there, crate::proofs::RowByRow::nothing_there, crate::proofs::RowByRow::never_none))]
+#[tactic(auto, using(crate::proofs::RowByRow::emits_all, crate::proofs::RowByRow::no_order, crate::proofs::RowByRow::no_room, crate::proofs::RowByRow::nothing_there, crate::proofs::RowByRow::never_none, crate::proofs::RowByRow::never_roomless, crate::proofs::RowByRow::not_memory))]
 fn print_rows<W: Write>(
     alloc: Global,
     venue: &mut Venue,
@@ -91,22 +107,21 @@ fn print_rows<W: Write>(
     ensures emitted { OnOk result (EmitsAnswers form venue.old.market scope.now rows.now (W.contents writer.old) (W.contents writer.new)) }
     ensures begun { IfErr result (λ fault. fault ≡ Memory → Keeps (W.contents writer.old) (W.contents writer.new) ⊎ BeginsRows form venue.old.market scope.now rows.now (W.contents writer.old) (W.contents writer.new)) }
     ensures refused { IfErr result (λ fault. fault ≡ NoOrder → HasNoOrder venue.old.market scope.now rows.now) }
+    ensures roomless { IfErr result (λ fault. fault ≡ NoRoom → HasNoRoom venue.old.market scope.now rows.now) }
     ensures unwritten { IfErr result (λ fault. fault ≡ NoOrder → Keeps (W.contents writer.old) (W.contents writer.new)) }
-    ensures failed { IfErr result (λ fault. fault ≡ NoInstrument → ⊥) }
+    ensures roomless_unwritten { IfErr result (λ fault. fault ≡ NoRoom → Keeps (W.contents writer.old) (W.contents writer.new)) }
 {
-    rows_emit_their_inputs();
-    match emit_rows(alloc, venue, form, scope, rows, writer) {
-        Ok(true) => Ok(()),
-        Ok(false) => Err(AnswersFault::NoOrder),
-        Err(fault) => Err(fault),
-    }
+    rows_have_their_inputs();
+    let seen = emit_rows(alloc, venue, form, scope, rows, writer)?;
+    find_sought(scope, &seen)
 }
 
 /// Prints the answers of the day of a trail's rows, with these participants and instruments: for each row that is
 /// sought the message and each reply to it in order, as FIX has it and in words. The rows are replayed and printed one
 /// by one: besides the venue, no more than one row's answer is kept. Where one participant's replies alone are sought,
-/// the output is what it is owed. `NoOrder` where no answer of the day reports on the order that is sought; nothing is
-/// written then. Where an allocation fails the output is nothing, or that of the first rows, each whole.
+/// the output is what it is owed. `NoOrder` where no row of the day is about the order that is sought, and `NoRoom`
+/// where no request was sent in the room that is; nothing is written then. Where an allocation fails the output is
+/// nothing, or that of the first rows, each whole.
 pub fn print_answers<W: Write>(
     alloc: Global,
     participants: Participants,
@@ -122,8 +137,9 @@ pub fn print_answers<W: Write>(
     ensures owed { (who : ℕ) → scope.now ≡ owed_to who → OnOk result (EmitsOwed form (record { participants = participants; instruments = instruments }) rows.now who (W.contents writer.old) (W.contents writer.new)) }
     ensures begun { IfErr result (λ fault. fault ≡ Memory → Keeps (W.contents writer.old) (W.contents writer.new) ⊎ BeginsRows form (record { participants = participants; instruments = instruments }) scope.now rows.now (W.contents writer.old) (W.contents writer.new)) }
     ensures refused { IfErr result (λ fault. fault ≡ NoOrder → HasNoOrder (record { participants = participants; instruments = instruments }) scope.now rows.now) }
+    ensures roomless { IfErr result (λ fault. fault ≡ NoRoom → HasNoRoom (record { participants = participants; instruments = instruments }) scope.now rows.now) }
     ensures unwritten { IfErr result (λ fault. fault ≡ NoOrder → Keeps (W.contents writer.old) (W.contents writer.new)) }
-    ensures failed { IfErr result (λ fault. fault ≡ NoInstrument → ⊥) }
+    ensures roomless_unwritten { IfErr result (λ fault. fault ≡ NoRoom → Keeps (W.contents writer.old) (W.contents writer.new)) }
 {
     messages_are_owed();
     let mut venue = Venue::open(alloc, participants, instruments)?;

@@ -18,6 +18,8 @@ pub struct Scope {
     pub from: Option<Who>,
     /// These rows.
     pub rows: Option<RowSpan>,
-    /// The rows whose answer reports on the order with this number.
+    /// The rows of the life of the order with this number, its replacements included.
     pub order: Option<u64>,
+    /// The rows of the conversation of the room with this number.
+    pub room: Option<u64>,
 }

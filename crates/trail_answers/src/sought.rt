@@ -1,44 +1,65 @@
 //! Which rows are printed.
-ghost use Rattle.std.specs.Prelude.{◌≡◌};
-ghost use Rattle.std.specs.List.{list_any};
-ghost use Rattle.trail_answers.specs.Sought.{is_number, is_order_sought, is_row_sought, is_sender_sought, is_sought, is_standing, reports_on};
+ghost use Rattle.std.specs.Prelude.{◌≡◌, ℕ, IfOk, OnOk};
+ghost use Rattle.row_replay.specs.Inputs.{input_of};
+ghost use Rattle.trail_answers.specs.Sought.{is_order_there, is_part, is_room_there, is_row_sought, is_sender_sought, is_sought, is_there, seen_after, seen_of, unseen};
 
+use crate::life::{Life, note_life, unborn};
 use crate::scope::{RowSpan, Scope};
+use crate::talk::{Talk, note_talk, unopened};
 use participants::Who;
-use venue_rules::{OrderStatus, Reply, ReplyBody, TrailRow};
+use std::alloc::{AllocError, Global};
+use venue_rules::{Reply, Taken, TrailRow};
 
-fn is_number(number: u64, given: Option<u64>) -> bool
-    ensures { result ≡ is_number number given }
-{
-    match given {
-        Some(given) => given == number,
-        None => false,
-    }
+/// What is known after rows of a day, of the order and the room that are sought.
+#[derive(Drop)]
+pub struct Seen {
+    pub life: Life,
+    pub talk: Talk,
 }
 
-fn is_standing(number: u64, standing: &Option<OrderStatus>) -> bool
-    ensures { result ≡ is_standing number standing.now }
+/// What is known before the first row.
+pub(crate) fn unseen(alloc: Global, scope: &Scope) -> Result<Seen, AllocError>
+    ensures { IfOk result (λ seen. seen_of seen ≡ unseen scope.now) }
 {
-    match standing {
-        Some(standing) => standing.order == number,
-        None => false,
-    }
+    let life = unborn(alloc, scope.order)?;
+    Ok(Seen {
+        life,
+        talk: unopened(alloc),
+    })
 }
 
-/// Whether a reply reports on the order with this number.
-#[tactic(auto, unfolding(crate::specs::Sought::reports_on))]
-fn reports_on(number: u64, what: &ReplyBody) -> bool
-    ensures { result ≡ reports_on number what.now }
+/// Notes what a row says of the order and the room that are sought.
+pub(crate) fn note_row(
+    seen: &mut Seen,
+    scope: &Scope,
+    taken: &Option<Taken>,
+    replies: &[Reply],
+) -> Result<(), AllocError>
+    ensures { (t : ℕ) → OnOk result (seen_of seen.new ≡ seen_after scope.now (seen_of seen.old) (input_of taken.now t) replies.now) }
 {
-    match what {
-        ReplyBody::OrderEntered(report) => is_number(number, report.order),
-        ReplyBody::OrderFilled(report) => is_number(number, report.order.order),
-        ReplyBody::OrderUnfilled(report) => is_number(number, report.order),
-        ReplyBody::OrderCancelled(report) => is_number(number, report.order.order),
-        ReplyBody::OrderReplaced(report) => is_number(number, report.order.order),
-        ReplyBody::ChangeRefused(refused) => is_standing(number, &refused.standing),
-        _ => false,
-    }
+    note_life(&mut seen.life, scope.order, taken, replies)?;
+    note_talk(&mut seen.talk, scope.room, taken, replies)
+}
+
+/// Whether the order that is sought is there, if one is.
+pub(crate) fn is_order_there(scope: &Scope, seen: &Seen) -> bool
+    ensures { result ≡ is_order_there scope.now (seen_of seen.now) }
+{
+    scope.order.is_none() || seen.life.there
+}
+
+/// Whether the room that is sought is there, if one is.
+pub(crate) fn is_room_there(scope: &Scope, seen: &Seen) -> bool
+    ensures { result ≡ is_room_there scope.now (seen_of seen.now) }
+{
+    scope.room.is_none() || seen.talk.opened
+}
+
+/// Whether what is sought is there.
+pub(crate) fn is_there(scope: &Scope, seen: &Seen) -> bool
+    ensures { result ≡ is_there scope.now (seen_of seen.now) }
+{
+    is_order_there(scope, seen) && is_room_there(scope, seen)
 }
 
 fn is_row_sought(wanted: Option<RowSpan>, n: u64) -> bool
@@ -59,32 +80,20 @@ fn is_sender_sought(wanted: Option<Who>, sender: u32) -> bool
     }
 }
 
-/// Whether one of the replies reports on the order with this number.
-fn any_reports_on(number: u64, replies: &[Reply]) -> bool
-    ensures { result ≡ list_any (λ r. reports_on number r.what) replies.now }
+/// Whether the last row is of the order's life and of the room's conversation, as far as they are sought.
+fn is_part(scope: &Scope, seen: &Seen) -> bool
+    ensures { result ≡ is_part scope.now (seen_of seen.now) }
 {
-    for reply in replies {
-        if reports_on(number, &reply.what) {
-            return true;
-        }
-    }
-    false
+    (scope.order.is_none() || seen.life.here)
+        && (scope.room.is_none() || seen.talk.here)
+        && is_there(scope, seen)
 }
 
-pub(crate) fn is_order_sought(wanted: Option<u64>, replies: &[Reply]) -> bool
-    ensures { result ≡ is_order_sought wanted replies.now }
-{
-    match wanted {
-        Some(number) => any_reports_on(number, replies),
-        None => true,
-    }
-}
-
-/// Whether a row with these replies is printed.
-pub(crate) fn is_sought(scope: &Scope, row: &TrailRow, replies: &[Reply]) -> bool
-    ensures { result ≡ is_sought scope.now row.now replies.now }
+/// Whether a row is printed, after which this is known.
+pub(crate) fn is_sought(scope: &Scope, seen: &Seen, row: &TrailRow) -> bool
+    ensures { result ≡ is_sought scope.now (seen_of seen.now) row.now }
 {
     is_row_sought(scope.rows, row.n)
         && is_sender_sought(scope.from, row.who)
-        && is_order_sought(scope.order, replies)
+        && is_part(scope, seen)
 }

@@ -1,39 +1,20 @@
 //! One message as a row of a table for a spreadsheet: comma-separated values (RFC 4180).
-ghost use Rattle.std.specs.Prelude.{◌≡◌, ◌++◌, ◌∷◌, [], decimal, IfOk, OnOk};
+ghost use Rattle.std.specs.Prelude.{◌≡◌, ◌++◌, ◌∷◌, [], IfOk, OnOk};
 ghost use Rattle.csv.specs.Records.{fields_of, partial_of};
 ghost use Rattle.csv.specs.Writing.{row_text};
-ghost use Rattle.sef_moment.specs.Utc.{utc_text};
-ghost use Rattle.trail_answers.specs.Entries.{answered_at, came_at, came_fields, field_names, fields, heading, reply_fields, said_fields, sent_number, setup, tick_fields};
+ghost use Rattle.message_words.specs.Cells.{setup};
+ghost use Rattle.trail_answers.specs.Entries.{answered_at, came_at, came_fields, clock_fields, field_names, fields, heading, reply_fields, said_fields, sent_number};
 
-use crate::entry::{sender_name, words_of};
-use crate::form::Form;
-use crate::kinds::kind_of;
-use crate::visible::fix_text;
-use csv::{ByteRecord, Terminator, WriterBuilder};
+use csv::ByteRecord;
 use fix_dictionary::App;
-use itoa::Buffer;
+use message_words::{
+    Form, clock_words, fix_text, kind_of, push_moment, push_number, row_bytes, sender_name,
+    words_of,
+};
 use participants::{Participants, Who};
-use sef_moment::{Moment, print_utc};
 use std::alloc::{AllocError, Global};
 use trade_blotter::name_at;
 use venue_rules::TrailRow;
-
-/// The bytes of a row.
-pub(crate) fn row_bytes(alloc: Global, row: &ByteRecord) -> Result<Vec<u8>, AllocError>
-    ensures { IfOk result (λ bytes. bytes.items ≡ row_text setup (fields_of row.now)) }
-{
-    let mut writer = WriterBuilder::new()
-        .terminator(Terminator::CRLF)
-        .from_writer(Vec::new(alloc));
-    // A write into memory fails only where an allocation fails.
-    if writer.write_byte_record(row).is_err() {
-        return Err(AllocError);
-    }
-    match writer.into_inner() {
-        Ok(bytes) => Ok(bytes),
-        Err(_) => Err(AllocError),
-    }
-}
 
 /// The names of the fields.
 fn field_names(alloc: Global) -> Result<ByteRecord, AllocError>
@@ -42,7 +23,15 @@ fn field_names(alloc: Global) -> Result<ByteRecord, AllocError>
     ByteRecord::from_fields(
         alloc,
         &[
-            b"row", b"moment", b"from", b"number", b"era", b"to", b"kind", b"text", b"words",
+            b"row",
+            b"moment_utc",
+            b"from",
+            b"number",
+            b"era",
+            b"to",
+            b"kind",
+            b"text",
+            b"words",
         ],
     )
 }
@@ -60,22 +49,12 @@ pub(crate) fn append_heading(alloc: Global, out: &mut Vec<u8>, form: Form) -> Re
     ensures { OnOk result (out.new.items ≡ out.old.items ++ heading form) }
 {
     match form {
-        Form::Lines => Ok(()),
+        Form::Lines | Form::Json => Ok(()),
         Form::Table => append_names(alloc, out),
     }
 }
 
-/// Adds a number.
-pub(crate) fn push_number(row: &mut ByteRecord, number: u64) -> Result<(), AllocError>
-    requires { partial_of row.old ≡ [] }
-    ensures partial { OnOk result (partial_of row.new ≡ []) }
-    ensures fields { OnOk result (fields_of row.new ≡ fields_of row.old ++ decimal number ∷ []) }
-{
-    let mut buffer = Buffer::new();
-    row.push_field(buffer.format(number).as_bytes())
-}
-
-/// Adds a number of the message; none at a tick.
+/// Adds a number of the message; none at a row of the clock.
 fn push_sent(made: &mut ByteRecord, who: u32, number: u32) -> Result<(), AllocError>
     requires { partial_of made.old ≡ [] }
     ensures partial { OnOk result (partial_of made.new ≡ []) }
@@ -88,17 +67,8 @@ fn push_sent(made: &mut ByteRecord, who: u32, number: u32) -> Result<(), AllocEr
     }
 }
 
-/// Adds a moment.
-pub(crate) fn push_moment(made: &mut ByteRecord, moment: Moment) -> Result<(), AllocError>
-    requires { partial_of made.old ≡ [] }
-    ensures partial { OnOk result (partial_of made.new ≡ []) }
-    ensures fields { OnOk result (fields_of made.new ≡ fields_of made.old ++ utc_text moment ∷ []) }
-{
-    let emitted = print_utc(moment);
-    made.push_field(&emitted)
-}
-
-/// Adds the row, its moment, and the sender of its message with the sequence number and the era; none at a tick.
+/// Adds the row, its moment, and the sender of its message with the sequence number and the era; none at a row of the
+/// clock.
 fn push_came(
     made: &mut ByteRecord,
     participants: &Participants,
@@ -222,15 +192,24 @@ pub(crate) fn append_came_row(
     )
 }
 
-pub(crate) fn append_tick_row(
+pub(crate) fn append_clock_row(
     alloc: Global,
     out: &mut Vec<u8>,
     participants: &Participants,
     row: &TrailRow,
 ) -> Result<(), AllocError>
-    ensures { OnOk result (out.new.items ≡ out.old.items ++ row_text setup (tick_fields participants.now row.now)) }
+    ensures { OnOk result (out.new.items ≡ out.old.items ++ row_text setup (clock_fields participants.now row.now)) }
 {
-    append_fields(alloc, out, participants, row, b"", b"tick", b"", b"")
+    append_fields(
+        alloc,
+        out,
+        participants,
+        row,
+        b"",
+        b"clock",
+        b"",
+        clock_words(),
+    )
 }
 
 pub(crate) fn append_reply_row(

@@ -1,0 +1,7 @@
+use Rattle.std.proofs.Common.{◌≡◌, drop}
+use Rattle.std.specs.List.{list_any}
+use Rattle.trail_answers.specs.Talk.{opens}
+use Rattle.trail_answers.proofs.talk.any_opens.Given as goal
+
+abbrev pub invariant-loop-reply : goal.invariant-loop-reply
+invariant-loop-reply l = list_any (λ r. opens l.room r.what) (drop l.reply-index l.replies) ≡ list_any (λ r. opens l.room r.what) l.replies

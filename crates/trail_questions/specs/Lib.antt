@@ -1,0 +1,12 @@
+pub mod Rows
+pub mod Ending
+pub mod Headed
+pub mod Evidence
+pub mod Answers
+pub mod Why
+pub mod Book
+pub mod Against
+pub mod Digest
+pub mod Question
+pub mod Numbers
+pub mod Words

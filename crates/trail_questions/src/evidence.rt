@@ -1,0 +1,38 @@
+//! The evidence for a trade.
+
+ghost use Rattle.std.specs.Prelude.{◌≤◌, All, length, IfErr, OnOk};
+ghost use Rattle.trade_reconstruction.specs.Emitted.{EmitsTrade};
+ghost use Rattle.venue_core.specs.Plan.{most_items};
+ghost use Rattle.venue_core.specs.Replay.{IsItem};
+ghost use Rattle.trail_questions.specs.Ending.{Fails, market_of};
+ghost use Rattle.trail_questions.specs.Evidence.{IsUnknownTrade};
+
+use crate::fault::{AskedFault, Unknown};
+use instruments::Instruments;
+use participants::Participants;
+use std::alloc::Global;
+use std::io::Write;
+use trade_reconstruction::{EvidenceFault, print_evidence};
+use venue_rules::TrailRow;
+
+/// Prints the evidence for the trade with this number.
+pub(crate) fn print_evidence_for<W: Write>(
+    alloc: Global,
+    participants: Participants,
+    instruments: Instruments,
+    rows: &[TrailRow],
+    number: u64,
+    writer: &mut W,
+) -> Result<(), AskedFault>
+    requires kept { All IsItem rows.now }
+    requires few { length rows.now ≤ most_items }
+    ensures emitted { OnOk result (EmitsTrade (market_of participants instruments) rows.now number (W.contents writer.old) (W.contents writer.new)) }
+    ensures failed { IfErr result (Fails ⊥ ⊥ (IsUnknownTrade number (market_of participants instruments) rows.now) (W.contents writer.old) (W.contents writer.new)) }
+{
+    match print_evidence(alloc, participants, instruments, rows, number, writer) {
+        Ok(()) => Ok(()),
+        Err(EvidenceFault::Memory) => Err(AskedFault::Memory),
+        Err(EvidenceFault::Output) => Err(AskedFault::Output),
+        Err(EvidenceFault::NoTrade) => Err(AskedFault::Unknown(Unknown::Trade)),
+    }
+}

@@ -1,0 +1,23 @@
+//! Questions about a day, and their answers from the rows of its trail.
+#![tactic(auto)]
+
+mod against;
+mod answers;
+mod book;
+mod digest;
+mod evidence;
+mod fault;
+mod headed;
+mod numbers;
+mod question;
+mod trades;
+mod why;
+mod words;
+
+pub use answers::Narrowing;
+pub use book::BookAfter;
+pub use fault::{AskedFault, BrokenLine, NoLog, Unknown};
+pub use numbers::{order_number, plain_number, room_number, span_in, trade_number};
+pub use question::{Question, print_question};
+pub use resting_orders::Form as BookForm;
+pub use words::{AskedWords, BookWords, NarrowingWords, question_of};
