@@ -17,8 +17,7 @@
 --           line 52: 35=8|37=O5|..
 --
 --   and below it what was read:
---       in the log: 811 frames, 431 of them from SEF to BETA; 412 application messages, 
---         
+--       in the log: 811 frames, 431 of them from SEF to BETA; 412 application messages,
 --         409 without the repeats; 12034 bytes in no frame
 --       line 17 of the log begins as a frame and is none: CheckSum (10) is wrong
 use Rattle.std.specs.Prelude.{ℕ, ◌-◌, List, [], ◌∷◌, ◌++◌, length, slice_get, Option, Some, None, decimal, codes}

@@ -55,11 +55,7 @@ fn trail_at(rt: &HostRuntime, path: &str) -> Result<Copied, Refused> {
 
 /// Prints the answer to a question about the trail at a path, and its trades where there is none. Its files are read,
 /// and nothing is written but the report.
-fn print_trail(
-    rt: &HostRuntime,
-    path: &str,
-    wanted: &Option<Question<'_>>,
-) -> Result<(), Refused> {
+fn print_trail(rt: &HostRuntime, path: &str, wanted: &Option<Question<'_>>) -> Result<(), Refused> {
     let copied = trail_at(rt, path)?;
     match print_copied(rt.alloc(), copied, SEED, wanted, &mut rt.stdout()) {
         Ok(()) => Ok(()),
