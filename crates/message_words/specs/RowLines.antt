@@ -12,8 +12,8 @@ use Rattle.participants.specs.ParticipantFile.{ParticipantFile}
 use Rattle.participants.specs.Relations.{name_of}
 use Rattle.venue_rules.specs.declared.trail.TrailRow.{TrailRow}
 use Rattle.message_words.specs.Parts.{Part, words_alone}
-use Rattle.message_words.specs.Visible.{fix_text}
-use Rattle.message_words.specs.Words.{words}
+use Rattle.message_words.specs.Visible.{fix_text, readable}
+use Rattle.message_words.specs.Words.{came_words, words}
 
 -- who sent what a row keeps: nobody at a row of the clock
 abbrev pub sender_name : ParticipantFile → ℕ → List ℕ
@@ -36,8 +36,9 @@ came_said r from text words =
     ∷ words_alone (codes "\n")
     ∷ []
 
+-- the text is the row's own, byte by byte; the words are those of the message that it spells
 abbrev pub came_parts : ParticipantFile → TrailRow → App → List Part
-came_parts file r a = came_said r (sender_name file r.who) (fix_text a) (words a)
+came_parts file r a = came_said r (sender_name file r.who) (readable r.text) (came_words a)
 
 abbrev pub clock_parts : TrailRow → List Part
 clock_parts r = (codes "row ", Some (decimal r.n)) ∷ (codes " at ", Some (utc_text r.moment)) ∷ (codes ": ", Some clock_words) ∷ words_alone (codes "\n") ∷ []

@@ -1,5 +1,5 @@
 -- A message in words: its parts, in the order of a sentence.
-use Rattle.std.specs.Prelude.{ℕ, ◌==◌, List, [], ◌∷◌, ◌++◌, Option, Some, None, bytes_eq, codes, decimal, if◌then◌else◌}
+use Rattle.std.specs.Prelude.{ℕ, Bool, ◌&&◌, ◌==◌, List, [], ◌∷◌, ◌++◌, Option, Some, None, bytes_eq, codes, decimal, if◌then◌else◌}
 use Rattle.std.specs.List.{flat_map}
 use Rattle.sef_moment.specs.Utc.{utc_text}
 use Rattle.fix_fields.specs.Forms.{price_text}
@@ -118,6 +118,19 @@ cross_parts d =
     ∷ (codes " and order type ", other_type d.order_type)
     ∷ []
 
+-- Parties (453).
+
+-- By the rules a request goes to the parties with 447=D and 452=35 (liquidity provider), and to no other.
+abbrev pub is_asked : Party → Bool
+is_asked p = p.source == 68 && p.role == 35
+
+-- another party: its name, the source of the name (447) and its role (452)
+abbrev pub party_parts : Party → List Part
+party_parts p = (codes ", with party ", Some p.id) ∷ (codes " (447=", Some (p.source ∷ [])) ∷ (codes ", 452=", Some (decimal p.role)) ∷ words_alone (codes ")") ∷ []
+
+unfoldable pub party_words : Party → List ℕ
+party_words p = parts_text (party_parts p)
+
 -- Requests for quotes.
 
 abbrev pub request_parts : QuoteRequest → List Part
@@ -128,9 +141,9 @@ request_parts d =
     ∷ (codes " ", Some d.symbol)
     ∷ []
 
--- one of those who are asked
-abbrev pub asked_words : Party → List ℕ
-asked_words p = codes ", asking " ++ p.id
+-- a party of a request: it is asked, or another
+unfoldable pub asked_words : Party → List ℕ
+asked_words p = if is_asked p then codes ", asking " ++ p.id else party_words p
 
 abbrev pub quote_parts : Quote → List Part
 quote_parts d =
@@ -144,9 +157,9 @@ quote_parts d =
     ∷ (codes ", until ", given utc_text d.valid_until)
     ∷ []
 
--- whose quote it is
-abbrev pub maker_words : Party → List ℕ
-maker_words p = codes ", of " ++ p.id
+-- a party of a quote that the venue sends: it names the maker so
+unfoldable pub maker_words : Party → List ℕ
+maker_words p = if is_asked p then codes ", of " ++ p.id else party_words p
 
 abbrev pub withdrawal_parts : QuoteCancel → List Part
 withdrawal_parts d = words_alone (withdrawal_name d.cancel_type) ∷ (codes " ", d.quote_id) ∷ []
@@ -245,7 +258,7 @@ unprocessed_parts d =
 abbrev pub unsupported_parts : List ℕ → List Part
 unsupported_parts kind = (codes "message of type ", Some kind) ∷ words_alone (codes ", which is not supported") ∷ []
 
--- a message in words
+-- a message of the venue in words
 unfoldable pub words : App → List ℕ
 words (app.NewOrderSingle d) = parts_text (order_parts d)
 words (app.OrderCancelRequest d) = parts_text (cancel_parts d)
@@ -264,3 +277,8 @@ words (app.MarketDataSnapshot d) = parts_text (prices_parts d) ++ flat_map entry
 words (app.MarketDataRequestReject d) = parts_text (prices_refused_parts d)
 words (app.BusinessMessageReject d) = parts_text (unprocessed_parts d)
 words (app.Unsupported kind) = parts_text (unsupported_parts kind)
+
+-- A message that came, in words. The parties of a maker's quote are not used: they do not say whose it is.
+unfoldable pub came_words : App → List ℕ
+came_words (app.Quote d) = parts_text (quote_parts d) ++ flat_map party_words d.parties
+came_words a = words a

@@ -22,7 +22,7 @@ pub struct JsonMember<'a> {
     pub value: JsonValue<'a>,
 }
 
-fn hex_digit(n: u8) -> u8
+pub(crate) fn hex_digit(n: u8) -> u8
     requires { n < 16 }
     ensures { result ≡ hex_digit n }
 {

@@ -2,12 +2,12 @@
 ghost use Rattle.std.specs.Prelude.{◌≡◌, ◌++◌, OnOk};
 ghost use Rattle.std.specs.List.{flat_map};
 ghost use Rattle.message_words.specs.Parts.{parts_text};
-ghost use Rattle.message_words.specs.Words.{response_parts, asked_words, maker_words, quote_parts, request_parts, request_refused_parts, status_parts, withdrawal_parts};
+ghost use Rattle.message_words.specs.Words.{response_parts, asked_words, is_asked, maker_words, party_words, quote_parts, request_parts, request_refused_parts, status_parts, withdrawal_parts};
 
 use crate::names::{asked_side, response_name, side_value, status_name, withdrawal_name};
 use crate::parts::{
-    Part, append_parts, bytes, identifier_value, moment_value, number, number_value, price_value,
-    quantity_value, small_number, text_value,
+    Part, Value, append_parts, bytes, identifier_value, moment_value, number, number_value,
+    price_value, quantity_value, small_number, text_value,
 };
 use fix_dictionary::{
     Party, Quote, QuoteCancel, QuoteRequest, QuoteRequestReject, QuoteResponse, QuoteStatusReport,
@@ -39,11 +39,46 @@ fn append_asking(alloc: Global, text: &mut Vec<u8>, d: &QuoteRequest) -> Result<
     )
 }
 
-fn append_asked(text: &mut Vec<u8>, parties: &[Party]) -> Result<(), AllocError>
+/// Whether a request goes to a party.
+fn is_asked(party: &Party) -> bool
+    ensures { result ≡ is_asked party.now }
+{
+    party.source.get() == b'D' && party.role.get() == 35
+}
+
+/// Appends a party that is nobody of the message's own: its name, the source of the name and its role.
+#[tactic(auto, unfolding(crate::specs::Words::party_words))]
+fn append_party(alloc: Global, text: &mut Vec<u8>, party: &Party) -> Result<(), AllocError>
+    ensures { OnOk result (text.new.items ≡ text.old.items ++ party_words party.now) }
+{
+    append_parts(
+        alloc,
+        text,
+        &[
+            part!(b", with party ", bytes(party.id.as_slice())),
+            part!(b" (447=", Some(Value::Byte(party.source.get()))),
+            part!(b", 452=", small_number(party.role.get())),
+            part!(b")", bytes(b"")),
+        ],
+    )
+}
+
+#[tactic(auto, unfolding(crate::specs::Words::asked_words))]
+fn append_asked_party(alloc: Global, text: &mut Vec<u8>, party: &Party) -> Result<(), AllocError>
+    ensures { OnOk result (text.new.items ≡ text.old.items ++ asked_words party.now) }
+{
+    if is_asked(party) {
+        append(text, &[b", asking ", party.id.as_slice()])
+    } else {
+        append_party(alloc, text, party)
+    }
+}
+
+fn append_asked(alloc: Global, text: &mut Vec<u8>, parties: &[Party]) -> Result<(), AllocError>
     ensures { OnOk result (text.new.items ≡ text.old.items ++ flat_map asked_words parties.now) }
 {
     for party in parties {
-        append(text, &[b", asking ", party.id.as_slice()])?;
+        append_asked_party(alloc, text, party)?;
     }
     Ok(())
 }
@@ -56,7 +91,7 @@ pub(crate) fn append_request(
     ensures { OnOk result (text.new.items ≡ text.old.items ++ (parts_text (request_parts d.now) ++ flat_map asked_words d.now.parties)) }
 {
     append_asking(alloc, text, d)?;
-    append_asked(text, d.parties.as_slice())
+    append_asked(alloc, text, d.parties.as_slice())
 }
 
 fn append_quoted(alloc: Global, text: &mut Vec<u8>, d: &Quote) -> Result<(), AllocError>
@@ -78,11 +113,31 @@ fn append_quoted(alloc: Global, text: &mut Vec<u8>, d: &Quote) -> Result<(), All
     )
 }
 
-fn append_makers(text: &mut Vec<u8>, parties: &[Party]) -> Result<(), AllocError>
+#[tactic(auto, unfolding(crate::specs::Words::maker_words))]
+fn append_maker(alloc: Global, text: &mut Vec<u8>, party: &Party) -> Result<(), AllocError>
+    ensures { OnOk result (text.new.items ≡ text.old.items ++ maker_words party.now) }
+{
+    if is_asked(party) {
+        append(text, &[b", of ", party.id.as_slice()])
+    } else {
+        append_party(alloc, text, party)
+    }
+}
+
+fn append_makers(alloc: Global, text: &mut Vec<u8>, parties: &[Party]) -> Result<(), AllocError>
     ensures { OnOk result (text.new.items ≡ text.old.items ++ flat_map maker_words parties.now) }
 {
     for party in parties {
-        append(text, &[b", of ", party.id.as_slice()])?;
+        append_maker(alloc, text, party)?;
+    }
+    Ok(())
+}
+
+fn append_parties(alloc: Global, text: &mut Vec<u8>, parties: &[Party]) -> Result<(), AllocError>
+    ensures { OnOk result (text.new.items ≡ text.old.items ++ flat_map party_words parties.now) }
+{
+    for party in parties {
+        append_party(alloc, text, party)?;
     }
     Ok(())
 }
@@ -91,7 +146,19 @@ pub(crate) fn append_quote(alloc: Global, text: &mut Vec<u8>, d: &Quote) -> Resu
     ensures { OnOk result (text.new.items ≡ text.old.items ++ (parts_text (quote_parts d.now) ++ flat_map maker_words d.now.parties)) }
 {
     append_quoted(alloc, text, d)?;
-    append_makers(text, d.parties.as_slice())
+    append_makers(alloc, text, d.parties.as_slice())
+}
+
+/// Appends a quote as it came: its parties are not used.
+pub(crate) fn append_came_quote(
+    alloc: Global,
+    text: &mut Vec<u8>,
+    d: &Quote,
+) -> Result<(), AllocError>
+    ensures { OnOk result (text.new.items ≡ text.old.items ++ (parts_text (quote_parts d.now) ++ flat_map party_words d.now.parties)) }
+{
+    append_quoted(alloc, text, d)?;
+    append_parties(alloc, text, d.parties.as_slice())
 }
 
 pub(crate) fn append_withdrawal(

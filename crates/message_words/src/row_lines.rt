@@ -4,8 +4,8 @@ ghost use Rattle.message_words.specs.Parts.{parts_text};
 ghost use Rattle.message_words.specs.RowLines.{came_parts, came_said, clock_parts, clock_words, reply_parts, reply_said, sender_name};
 
 use crate::parts::{Part, Value, append_parts, bytes, number};
-use crate::visible::fix_text;
-use crate::words::words_of;
+use crate::visible::{fix_text, readable_text};
+use crate::words::{came_words_of, words_of};
 use fix_dictionary::App;
 use participants::{Participants, Who};
 use std::alloc::{AllocError, Global};
@@ -65,7 +65,7 @@ fn append_came_said<'a>(
     )
 }
 
-/// Appends the lines of the message of a row.
+/// Appends the lines of the message of a row: the row's own text, and the message that it spells in words.
 pub fn append_came_lines(
     alloc: Global,
     text: &mut Vec<u8>,
@@ -75,10 +75,10 @@ pub fn append_came_lines(
 ) -> Result<(), AllocError>
     ensures { OnOk result (text.new.items ≡ text.old.items ++ parts_text (came_parts participants.now row.now app.now)) }
 {
-    let fix = fix_text(alloc, app)?;
-    let said = words_of(alloc, app)?;
+    let kept = readable_text(alloc, row.text.as_slice())?;
+    let said = came_words_of(alloc, app)?;
     let from = sender_name(participants, row.who);
-    append_came_said(alloc, text, row, from, &fix, &said)
+    append_came_said(alloc, text, row, from, &kept, &said)
 }
 
 /// Appends the line of a row of the clock.

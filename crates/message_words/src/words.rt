@@ -1,6 +1,6 @@
 //! A message in words.
 ghost use Rattle.std.specs.Prelude.{◌≡◌, ◌++◌, IfOk, OnOk};
-ghost use Rattle.message_words.specs.Words.{words};
+ghost use Rattle.message_words.specs.Words.{came_words, words};
 
 use crate::orders::{
     append_cancel, append_change_refused, append_cross, append_order, append_replacement,
@@ -11,13 +11,13 @@ use crate::prices::{
     append_unsupported,
 };
 use crate::rooms::{
-    append_quote, append_request, append_request_refused, append_response, append_status,
-    append_withdrawal,
+    append_came_quote, append_quote, append_request, append_request_refused, append_response,
+    append_status, append_withdrawal,
 };
 use fix_dictionary::App;
 use std::alloc::{AllocError, Global};
 
-/// Appends a message in words.
+/// Appends a message of the venue in words.
 #[tactic(auto, unfolding(crate::specs::Words::words))]
 pub fn append_words(alloc: Global, text: &mut Vec<u8>, app: &App) -> Result<(), AllocError>
     ensures { OnOk result (text.new.items ≡ text.old.items ++ words app.now) }
@@ -43,11 +43,31 @@ pub fn append_words(alloc: Global, text: &mut Vec<u8>, app: &App) -> Result<(), 
     }
 }
 
-/// A message in words.
+/// A message of the venue in words.
 pub fn words_of(alloc: Global, app: &App) -> Result<Vec<u8>, AllocError>
     ensures { IfOk result (λ text. text.items ≡ words app.now) }
 {
     let mut text = Vec::new(alloc);
     append_words(alloc, &mut text, app)?;
+    Ok(text)
+}
+
+/// Appends a message that came in words: the parties of a maker's quote do not say whose it is.
+#[tactic(auto, unfolding(crate::specs::Words::came_words))]
+fn append_came_words(alloc: Global, text: &mut Vec<u8>, app: &App) -> Result<(), AllocError>
+    ensures { OnOk result (text.new.items ≡ text.old.items ++ came_words app.now) }
+{
+    match app {
+        App::Quote(d) => append_came_quote(alloc, text, d),
+        _ => append_words(alloc, text, app),
+    }
+}
+
+/// A message that came in words.
+pub fn came_words_of(alloc: Global, app: &App) -> Result<Vec<u8>, AllocError>
+    ensures { IfOk result (λ text. text.items ≡ came_words app.now) }
+{
+    let mut text = Vec::new(alloc);
+    append_came_words(alloc, &mut text, app)?;
     Ok(text)
 }

@@ -1,4 +1,5 @@
--- The text of one message: of the one that came at a row, or of a reply to it. Each has its row.
+-- The text of one message: of the one that came at a row, or of a reply to it. Each has its row. Of a message that came
+-- the text is the row's own, byte by byte, as the trail keeps it; its words are those of the message that it spells.
 --
 --   As lines, the message as FIX has it with | for the byte 1, and then in words:
 --       row 12 at 20250303-14:30:40.999 from BETA, sequence number 3 in era 1: 35=D|11=b2|..
@@ -11,7 +12,7 @@
 --   null where the field is empty:
 --       {"row":12,"moment_utc":"20250303-14:30:40.999","from":null,"number":null,"era":null,"to":"BETA",
 --       "kind":"refused","text":"35=8|..","words":"report E18: .."}
-use Rattle.std.specs.Prelude.{ℕ, ◌-◌, ◌==◌, List, [], ◌∷◌, ◌++◌, Option, Some, None, codes, decimal, if◌then◌else◌}
+use Rattle.std.specs.Prelude.{ℕ, ◌==◌, List, [], ◌∷◌, ◌++◌, Option, Some, None, codes, decimal, if◌then◌else◌}
 use Rattle.std.specs.List.{flat_map}
 use Rattle.csv.specs.Writing.{row_text}
 use Rattle.sef_moment.specs.Utc.{utc_text}
@@ -29,8 +30,8 @@ use Rattle.message_words.specs.Json.{Member, json_null, json_number, json_text, 
 use Rattle.message_words.specs.Kinds.{kind_of}
 use Rattle.message_words.specs.Parts.{parts_text}
 use Rattle.message_words.specs.RowLines.{came_parts, clock_parts, clock_words, reply_parts, sender_name}
-use Rattle.message_words.specs.Visible.{fix_text}
-use Rattle.message_words.specs.Words.{words}
+use Rattle.message_words.specs.Visible.{fix_text, readable, visible}
+use Rattle.message_words.specs.Words.{came_words, words}
 
 -- a number of what was sent: none at a row of the clock
 abbrev pub sent_number : ℕ → ℕ → List ℕ
@@ -57,7 +58,7 @@ abbrev pub answered_at : TrailRow → List (List ℕ)
 answered_at r = decimal r.n ∷ utc_text r.moment ∷ [] ∷ [] ∷ [] ∷ []
 
 abbrev pub came_fields : ParticipantFile → TrailRow → App → List (List ℕ)
-came_fields file r a = fields file r [] (kind_of a) (fix_text a) (words a)
+came_fields file r a = fields file r [] (kind_of a) (readable r.text) (came_words a)
 
 abbrev pub clock_fields : ParticipantFile → TrailRow → List (List ℕ)
 clock_fields file r = fields file r [] (codes "clock") [] clock_words
@@ -89,7 +90,7 @@ members r from number era to kind text words =
     ∷ []
 
 abbrev pub came_members : ParticipantFile → TrailRow → App → List Member
-came_members file r a = members r (sender_json file r.who) (sent_json r.who r.number) (sent_json r.who r.era) json_null (json_text (kind_of a)) (json_text (fix_text a)) (json_text (words a))
+came_members file r a = members r (sender_json file r.who) (sent_json r.who r.number) (sent_json r.who r.era) json_null (json_text (kind_of a)) (json_text (visible r.text)) (json_text (came_words a))
 
 abbrev pub clock_members : ParticipantFile → TrailRow → List Member
 clock_members file r = members r (sender_json file r.who) (sent_json r.who r.number) (sent_json r.who r.era) json_null (json_text (codes "clock")) json_null (json_text clock_words)

@@ -3,12 +3,10 @@
 -- A replacement (35=G) enters as a new order: its report (150=5) has a new number (37), a new identifier of the
 -- sender's (11), and the one that it replaces (41). So an order is known by numbers, and by its participant's
 -- identifiers.
-use Rattle.std.specs.Prelude.{ℕ, Bool, true, false, ◌&&◌, ◌||◌, ◌==◌, List, [], ◌∷◌, ◌++◌, Option, Some, None, is_none, bytes_eq, if◌then◌else◌}
+use Rattle.std.specs.Prelude.{ℕ, Bool, true, false, ◌&&◌, ◌||◌, ◌==◌, List, [], ◌∷◌, ◌++◌, Option, Some, None, bytes_eq, if◌then◌else◌}
 use Rattle.std.specs.List.{list_any}
 use Rattle.fix_dictionary.specs.declared.messages.App.{App}
 use Rattle.fix_dictionary.specs.declared.messages.App.TheVariants.{OrderCancelRequest, OrderCancelReplaceRequest}
-use Rattle.venue_rules.specs.declared.replies.ChangedReport.{ChangedReport}
-use Rattle.venue_rules.specs.declared.replies.OrderReport.{OrderReport}
 use Rattle.venue_rules.specs.declared.replies.OrderStatus.{OrderStatus}
 use Rattle.venue_rules.specs.declared.replies.Reply.{Reply}
 use Rattle.venue_rules.specs.declared.replies.ReplyBody.{ReplyBody}

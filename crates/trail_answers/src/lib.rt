@@ -14,7 +14,7 @@ mod table;
 mod talk;
 
 pub use fault::AnswersFault;
-pub use laws::messages_are_owed;
+pub use laws::{messages_are_owed, orders_are_whole};
 pub use message_words::Form;
 pub use printing::print_answers;
 pub use scope::{RowSpan, Scope};

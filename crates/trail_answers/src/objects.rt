@@ -5,7 +5,8 @@ ghost use Rattle.trail_answers.specs.Entries.{came_members, clock_members, membe
 
 use fix_dictionary::App;
 use message_words::{
-    JsonMember, JsonValue, append_object, clock_words, fix_text, kind_of, sender_name, words_of,
+    JsonMember, JsonValue, append_object, came_words_of, clock_words, fix_text, kind_of,
+    sender_name, visible_text, words_of,
 };
 use participants::{Participants, Who};
 use sef_moment::print_utc;
@@ -86,8 +87,8 @@ pub(crate) fn append_came_object(
 ) -> Result<(), AllocError>
     ensures { OnOk result (out.new.items ≡ out.old.items ++ object_line (came_members participants.now row.now app.now)) }
 {
-    let fix = fix_text(alloc, app)?;
-    let words = words_of(alloc, app)?;
+    let kept = visible_text(alloc, row.text.as_slice())?;
+    let words = came_words_of(alloc, app)?;
     append_said(
         out,
         row,
@@ -97,7 +98,7 @@ pub(crate) fn append_came_object(
             era: sent_value(row.who, row.era),
             to: JsonValue::Null,
             kind: JsonValue::Text(kind_of(app)),
-            text: JsonValue::Text(&fix),
+            text: JsonValue::Text(&kept),
             words: JsonValue::Text(&words),
         },
     )

@@ -8,8 +8,8 @@ ghost use Rattle.trail_answers.specs.Entries.{answered_at, came_at, came_fields,
 use csv::ByteRecord;
 use fix_dictionary::App;
 use message_words::{
-    Form, clock_words, fix_text, kind_of, push_moment, push_number, row_bytes, sender_name,
-    words_of,
+    Form, came_words_of, clock_words, fix_text, kind_of, push_moment, push_number, readable_text,
+    row_bytes, sender_name, words_of,
 };
 use participants::{Participants, Who};
 use std::alloc::{AllocError, Global};
@@ -178,8 +178,8 @@ pub(crate) fn append_came_row(
 ) -> Result<(), AllocError>
     ensures { OnOk result (out.new.items ≡ out.old.items ++ row_text setup (came_fields participants.now row.now app.now)) }
 {
-    let fix = fix_text(alloc, app)?;
-    let said = words_of(alloc, app)?;
+    let kept = readable_text(alloc, row.text.as_slice())?;
+    let said = came_words_of(alloc, app)?;
     append_fields(
         alloc,
         out,
@@ -187,7 +187,7 @@ pub(crate) fn append_came_row(
         row,
         b"",
         kind_of(app),
-        &fix,
+        &kept,
         &said,
     )
 }

@@ -1,5 +1,5 @@
 -- A file in memory after one write at its beginning.
-use Rattle.std.proofs.Common.{◌≡◌, ℕ, ◌<◌, List, [], length, refl, arith}
+use Rattle.std.proofs.Common.{◌≡◌, ℕ, List, [], length, arith}
 use Rattle.sqlite_disk.specs.Disk.{Holds, Torn}
 use Rattle.sqlite_wal.proofs.CreateLemmas.{page_if_held}
 

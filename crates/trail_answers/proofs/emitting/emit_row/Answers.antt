@@ -1,4 +1,4 @@
-use Rattle.std.proofs.Common.{Bool, ◌&&◌, not, ap, ◌∙◌, ◌++◌}
+use Rattle.std.proofs.Common.{◌&&◌, not, ap, ◌∙◌, ◌++◌}
 use Rattle.participants.specs.ParticipantFile.{ParticipantFile}
 use Rattle.venue_rules.specs.Market.{Market}
 use Rattle.venue_core.specs.Plan.{answer_of}
