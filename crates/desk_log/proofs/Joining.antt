@@ -1,5 +1,5 @@
 -- A comparison, from its parts.
-use Rattle.std.proofs.Common.{◌≡◌, ℕ, List, [], ◌∷◌, length, Option, None, refl, sym, ap, ◌∙◌, subst}
+use Rattle.std.proofs.Common.{◌≡◌, ℕ, List, [], ◌∷◌, length, Option, refl, sym, ap, ◌∙◌, subst}
 use Rattle.std.specs.Io.KnownBytes.{Appends}
 use Rattle.participants.specs.Relations.{name_of}
 use Rattle.participants.specs.ParticipantFile.{ParticipantFile}
@@ -15,7 +15,7 @@ use Rattle.desk_log.specs.declared.reading.Reading.{Reading}
 use Rattle.desk_log.specs.Compares.{Agrees, Compares, HasNone}
 use Rattle.desk_log.specs.Comparing.{Says, agreed, comparison_of, owed_texts as kept_texts}
 use Rattle.desk_log.specs.Numbered.{texts_in}
-use Rattle.desk_log.specs.Owed.{IsOwed, OwedText, owed_of, owed_texts, owed_views, texts_of}
+use Rattle.desk_log.specs.Owed.{IsOwed, owed_texts, owed_views, texts_of}
 use Rattle.desk_log.specs.Reading.{IsReading}
 use Rattle.desk_log.specs.Report.{report}
 use Rattle.desk_log.proofs.OwedRows.{texts_are_owed}

@@ -8,3 +8,5 @@ pub mod Conflicts
 pub mod OwedRows
 pub mod Saying
 pub mod Joining
+pub mod Gaps
+pub mod Missings

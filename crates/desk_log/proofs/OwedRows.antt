@@ -2,19 +2,18 @@
 use Rattle.std.proofs.Common.{◌≡◌, ℕ, ◌+◌, ◌<◌, ◌==◌, Bool, true, false, List, [], ◌∷◌, ◌++◌, length, take, get_or, map, if◌then◌else◌, refl, sym, ap, ◌∙◌, subst, append_assoc, append-nil}
 use Rattle.std.proofs.lemmas.List.{take_more}
 use Rattle.fix_dictionary.specs.Text.{app_text}
-use Rattle.fix_dictionary.specs.declared.messages.App.{App}
 use Rattle.venue_rules.specs.declared.replies.Reply.{Reply}
 use Rattle.venue_rules.specs.declared.trail.TrailRow.{TrailRow}
 use Rattle.venue_rules.specs.Answer.{Answer}
 use Rattle.venue_rules.specs.Facts.{History, no_history}
 use Rattle.venue_rules.specs.Market.{Market}
 use Rattle.venue_rules.specs.Messages.{message}
-use Rattle.venue_rules.specs.Run.{Input, after, answer_input, owed, replies_to, run, run_from}
+use Rattle.venue_rules.specs.Run.{Input, after, answer_input, replies_to, run, run_from}
 use Rattle.venue_core.specs.Replay.{AreEmitted, Emits}
 use Rattle.venue_core.specs.VenueFacts.{IsAfter, IsAnswer, IsHistory}
 use Rattle.venue_core.specs.State.{State}
 use Rattle.venue_core.specs.Taking.{IsSame, Stands, Takes}
-use Rattle.desk_log.specs.Owed.{IsOwed, OwedText, OwesRow, TextsAreOwed, owed_at, owed_by, owed_from, owed_if, owed_of, owed_texts, texts_of}
+use Rattle.desk_log.specs.Owed.{IsOwed, OwedText, OwesRow, TextsAreOwed, owed_at, owed_by, owed_from, texts_of}
 
 -- one row more
 more_rows : (rs : List TrailRow) (is : List Input) (r : TrailRow) (i : Input) → AreEmitted rs is → Emits r i → AreEmitted (rs ++ r ∷ []) (is ++ i ∷ [])

@@ -1,5 +1,5 @@
 -- What the body of a frame says.
-use Rattle.std.specs.Prelude.{ℕ, ◌+◌, ◌==◌, ◌&&◌, ◌||◌, not, Bool, true, false, List, [], ◌∷◌, ◌++◌, Option, Some, None, if◌then◌else◌, codes}
+use Rattle.std.specs.Prelude.{ℕ, ◌+◌, ◌==◌, ◌&&◌, ◌||◌, not, Bool, true, List, [], ◌∷◌, ◌++◌, Option, Some, None, if◌then◌else◌, codes}
 use Rattle.fix_fields.specs.Forms.{integer_in}
 use Rattle.desk_log.specs.Frames.{number_of}
 use Rattle.desk_log.specs.Pieces.{begins, first_value, is_piece}

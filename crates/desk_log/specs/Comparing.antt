@@ -1,11 +1,11 @@
 -- The application messages of a log compared with those that are owed.
-use Rattle.std.specs.Prelude.{◌≡◌, ◌≢◌, ℕ, ◌+◌, ◌<◌, ◌==◌, Bool, nat_lt, List, [], ◌∷◌, length, take, slice_get, Option, Some, None, is_some, bytes_eq, if◌then◌else◌}
+use Rattle.std.specs.Prelude.{◌≡◌, ◌≢◌, ℕ, ◌+◌, ◌<◌, ◌==◌, Bool, nat_lt, List, [], ◌∷◌, length, take, slice_get, Option, None, is_some, bytes_eq, if◌then◌else◌}
 use Rattle.desk_log.specs.declared.frames.Span.{Span}
 use Rattle.desk_log.specs.declared.owed.Owed.{Owed}
 use Rattle.desk_log.specs.declared.comparing.Comparison.{Comparison}
 use Rattle.desk_log.specs.declared.comparing.Comparison.TheVariants.{All, FirstPart, Differs}
 use Rattle.desk_log.specs.declared.once.Conflict.{Conflict}
-use Rattle.desk_log.specs.Numbered.{Logged, text_at, texts_in}
+use Rattle.desk_log.specs.Numbered.{Logged, text_at}
 
 abbrev pub owed_texts : List Owed → List (List ℕ)
 owed_texts [] = []

@@ -4,7 +4,9 @@ pub mod Bodies
 pub mod Numbered
 pub mod Once
 pub mod Comparing
+pub mod Missing
 pub mod Parts
+pub mod Naming
 pub mod Report
 pub mod Reading
 pub mod Owed

@@ -1,5 +1,5 @@
 -- The frames of a log from the one to the other, in the order of the log, by era and number.
-use Rattle.std.specs.Prelude.{ℕ, ◌+◌, ◌==◌, ◌||◌, List, [], ◌∷◌, ◌++◌, Bool, true, false, Option, Some, None, slice_range, if◌then◌else◌}
+use Rattle.std.specs.Prelude.{ℕ, ◌+◌, ◌==◌, ◌||◌, List, [], ◌∷◌, ◌++◌, Bool, true, false, Option, Some, None, max, slice_range, if◌then◌else◌}
 use Rattle.desk_log.specs.declared.frames.Span.{Span}
 use Rattle.desk_log.specs.declared.numbered.Place.{Place}
 use Rattle.desk_log.specs.declared.numbered.Numbered.{Numbered}
@@ -20,8 +20,12 @@ abbrev pub era_behind : ℕ → Option ℕ → List ℕ → ℕ
 era_behind era None body = era
 era_behind era (Some n) body = era_at era n body
 
+-- the number behind those that a frame has: its own, and those that a gap fill passes
+abbrev pub behind_in : ℕ → List ℕ → ℕ
+behind_in n body = max (next_in n body) (n + 1)
+
 abbrev pub numbered_as : ℕ → ℕ → List ℕ → Span → Numbered
-numbered_as era n body s = record { place = record { era = era; number = n }; next = next_in n body; session = is_session body; body = s }
+numbered_as era n body s = record { place = record { era = era; number = n }; next = behind_in n body; session = is_session body; body = s }
 
 abbrev pub numbered_if : ℕ → Option ℕ → List ℕ → Span → List Numbered
 numbered_if era None body s = []

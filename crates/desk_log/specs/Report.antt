@@ -4,12 +4,14 @@
 --
 --   or
 --       the first 400 of the 412 messages that BETA was owed were received, in order;
---         the last 12 were not (rows 870 to 880)
+--         the last 12 are not in the log (rows 870 to 880)
+--           messages 403 to 414 are missing; the log goes on with message 415
 --
 --   or
 --       the first 13 of the 412 messages that BETA was owed were received, in order; then the log differs
+--           message 15 (an execution report on O3) is missing; the log goes on with message 16
 --           owed at row 37: 35=8|37=O3|..
---           in the log, number 14 of era 1, line 30: 35=8|37=O4|..
+--           in the log, number 16 of era 1, line 30: 35=8|37=O4|..
 --
 --   or, where two messages of one number have different texts,
 --       the log has two texts of number 14 of era 1
@@ -20,7 +22,7 @@
 --       in the log: 811 frames, 431 of them from SEF to BETA; 412 application messages,
 --         409 without the repeats; 12034 bytes in no frame
 --       line 17 of the log begins as a frame and is none: CheckSum (10) is wrong
-use Rattle.std.specs.Prelude.{ℕ, ◌-◌, List, [], ◌∷◌, ◌++◌, length, slice_get, Option, Some, None, decimal, codes}
+use Rattle.std.specs.Prelude.{ℕ, ◌-◌, ◌==◌, Bool, true, false, List, [], ◌∷◌, ◌++◌, length, drop, slice_get, Option, Some, None, if◌then◌else◌, decimal, codes}
 use Rattle.desk_log.specs.declared.comparing.Compared.{Compared}
 use Rattle.desk_log.specs.declared.comparing.Comparison.{Comparison}
 use Rattle.desk_log.specs.declared.comparing.Comparison.TheVariants.{All, FirstPart, Differs}
@@ -28,29 +30,98 @@ use Rattle.desk_log.specs.declared.frames.BrokenFrame.{BrokenFrame}
 use Rattle.desk_log.specs.declared.frames.FrameFault.{FrameFault}
 use Rattle.desk_log.specs.declared.frames.FrameFault.TheVariants.{Length, Checksum}
 use Rattle.desk_log.specs.declared.frames.Span.{Span}
+use Rattle.desk_log.specs.declared.missing.Missing.{Missing}
+use Rattle.desk_log.specs.declared.numbered.Numbered.{Numbered}
 use Rattle.desk_log.specs.declared.numbered.Place.{Place}
 use Rattle.desk_log.specs.declared.once.Conflict.{Conflict}
 use Rattle.desk_log.specs.declared.owed.Owed.{Owed}
 use Rattle.desk_log.specs.declared.reading.Reading.{Reading}
 use Rattle.desk_log.specs.Frames.{first_broken, line_of, outside}
+use Rattle.desk_log.specs.Comparing.{is_owed}
+use Rattle.desk_log.specs.Missing.{missing_between}
+use Rattle.desk_log.specs.Naming.{field, kind_words, named_of}
 use Rattle.desk_log.specs.Numbered.{Logged, text_at}
 use Rattle.desk_log.specs.Parts.{joined, visible}
 
+-- what was owed and received, or only the first part of it
+
 abbrev pub all_received : ℕ → List ℕ → List ℕ
-all_received n desk = joined (codes "all " ∷ decimal n ∷ codes " messages that " ∷ desk ∷ codes " was owed were received, in order\n" ∷ [])
+all_received n desk =
+    if n == 0 then joined (desk ∷ codes " was owed no message, and the log has none\n" ∷ []) else
+    (if n == 1 then joined (codes "the one message that " ∷ desk ∷ codes " was owed was received\n" ∷ []) else
+    joined (codes "all " ∷ decimal n ∷ codes " messages that " ∷ desk ∷ codes " was owed were received, in order\n" ∷ []))
 
 abbrev pub first_received : (count n : ℕ) → List ℕ → List ℕ
-first_received count n desk = joined (codes "the first " ∷ decimal count ∷ codes " of the " ∷ decimal n ∷ codes " messages that " ∷ desk ∷ codes " was owed were received, in order; " ∷ [])
+first_received count n desk =
+    if count == 1 then joined (codes "the first of the " ∷ decimal n ∷ codes " messages that " ∷ desk ∷ codes " was owed was received; " ∷ []) else
+    joined (codes "the first " ∷ decimal count ∷ codes " of the " ∷ decimal n ∷ codes " messages that " ∷ desk ∷ codes " was owed were received, in order; " ∷ [])
 
 abbrev pub row_of : Option Owed → ℕ
 row_of None = 0
 row_of (Some o) = o.row
 
-abbrev pub rows_missing : (missing first last : ℕ) → List ℕ
-rows_missing missing first last = joined (codes "the last " ∷ decimal missing ∷ codes " were not (rows " ∷ decimal first ∷ codes " to " ∷ decimal last ∷ codes ")\n" ∷ [])
+abbrev pub rows_said : (first last : ℕ) → List ℕ
+rows_said first last =
+    if first == last then joined (codes " (row " ∷ decimal first ∷ codes ")\n" ∷ []) else
+    joined (codes " (rows " ∷ decimal first ∷ codes " to " ∷ decimal last ∷ codes ")\n" ∷ [])
 
-abbrev pub last_missing : ℕ → List Owed → List ℕ
-last_missing count owed = rows_missing (length owed - count) (row_of (slice_get owed count)) (row_of (slice_get owed (length owed - 1)))
+abbrev pub none_received : ℕ → List ℕ → List ℕ
+none_received n desk =
+    if n == 1 then joined (codes "the one message that " ∷ desk ∷ codes " was owed is not in the log" ∷ []) else
+    joined (codes "none of the " ∷ decimal n ∷ codes " messages that " ∷ desk ∷ codes " was owed is in the log" ∷ [])
+
+abbrev pub last_missing : ℕ → List ℕ
+last_missing missing =
+    if missing == 1 then codes "the last is not in the log" else
+    joined (codes "the last " ∷ decimal missing ∷ codes " are not in the log" ∷ [])
+
+abbrev pub part_head : (count n : ℕ) → List ℕ → List ℕ
+part_head count n desk = if count == 0 then none_received n desk else first_received count n desk ++ last_missing (n - count)
+
+abbrev pub differs_head : (count n : ℕ) → List ℕ → List ℕ
+differs_head count n desk =
+    if n == 0 then joined (desk ∷ codes " was owed no message, and the log has some\n" ∷ []) else
+    (if count == 0 then joined (codes "the log differs at the first of the " ∷ decimal n ∷ codes " messages that " ∷ desk ∷ codes " was owed\n" ∷ []) else
+    first_received count n desk ++ codes "then the log differs\n")
+
+-- Numbers that no frame of the log has, between the messages that agree and what comes then. Where the log goes on with
+-- the message that is owed just as many further, these numbers are those of the messages that are owed in between.
+
+abbrev pub before_at : List Logged → ℕ → Option Logged
+before_at once count = if count == 0 then None else slice_get once (count - 1)
+
+abbrev pub missing_at : List Numbered → List Logged → ℕ → Option Missing
+missing_at frames once count = missing_between frames (before_at once count) (slice_get once count)
+
+abbrev pub goes_on : List ℕ → Option Logged → Option Owed → Bool
+goes_on log None o = false
+goes_on log (Some l) None = false
+goes_on log (Some l) (Some o) = is_owed log l.1 o
+
+abbrev pub in_words : List ℕ → List ℕ
+in_words text = joined (kind_words (field (codes "35=") text) ∷ named_of (field (codes "35=") text) text ∷ codes ")" ∷ [])
+
+abbrev pub described : (goes several : Bool) → Option Owed → List ℕ
+described false several owed = []
+described true several None = []
+described true several (Some o) = (if several then codes " (the first: " else codes " (") ++ in_words o.text.items
+
+abbrev pub missing_one : Missing → List ℕ → List ℕ
+missing_one m what = joined (codes "    message " ∷ decimal m.first ∷ what ∷ codes " is missing; the log goes on with message " ∷ decimal m.next ∷ codes "\n" ∷ [])
+
+abbrev pub missing_many : Missing → (last : ℕ) → List ℕ → List ℕ
+missing_many m last what =
+    joined (codes "    messages " ∷ decimal m.first ∷ codes " to " ∷ decimal last ∷ what ∷ codes " are missing; the log goes on with message " ∷ decimal m.next ∷ codes "\n" ∷ [])
+
+-- by how many there are, with the owed messages from the first that was not received on
+abbrev pub missing_said : List ℕ → (many : ℕ) → Missing → Option Logged → List Owed → List ℕ
+missing_said log many m later rest =
+    if many == 1 then missing_one m (described (goes_on log later (slice_get rest many)) false (slice_get rest 0)) else
+    missing_many m (m.next - 1) (described (goes_on log later (slice_get rest many)) true (slice_get rest 0))
+
+abbrev pub missing_line : List ℕ → Option Missing → Option Logged → List Owed → List ℕ
+missing_line log None later rest = []
+missing_line log (Some m) later rest = missing_said log (m.next - m.first) m later rest
 
 abbrev pub owed_row : Owed → List ℕ
 owed_row o = joined (codes "    owed at row " ∷ decimal o.row ∷ codes ": " ∷ visible o.text.items ∷ codes "\n" ∷ [])
@@ -75,19 +146,25 @@ conflict_head p = joined (codes "the log has two texts of number " ∷ decimal p
 abbrev pub conflict_lines : List ℕ → Conflict → List ℕ
 conflict_lines log c = conflict_head c.place ++ (text_line log c.first ++ text_line log c.second)
 
-abbrev pub differs_lines : (count : ℕ) → (log desk : List ℕ) → List Owed → List Logged → List ℕ
-differs_lines count log desk owed once =
-    first_received count (length owed) desk ++ (codes "then the log differs\n" ++ (owed_line (slice_get owed count) ++ logged_if_line log (slice_get once count)))
+abbrev pub gap_line : (count : ℕ) → (log : List ℕ) → List Owed → List Numbered → List Logged → List ℕ
+gap_line count log owed frames once = missing_line log (missing_at frames once count) (slice_get once count) (drop count owed)
 
-abbrev pub part_line : (count : ℕ) → (desk : List ℕ) → List Owed → List ℕ
-part_line count desk owed = first_received count (length owed) desk ++ last_missing count owed
+abbrev pub differs_lines : (count : ℕ) → (log desk : List ℕ) → List Owed → List Numbered → List Logged → List ℕ
+differs_lines count log desk owed frames once =
+    differs_head count (length owed) desk ++ (gap_line count log owed frames once ++ (owed_line (slice_get owed count) ++ logged_if_line log (slice_get once count)))
+
+abbrev pub part_rows : (count : ℕ) → List Owed → List ℕ
+part_rows count owed = rows_said (row_of (slice_get owed count)) (row_of (slice_get owed (length owed - 1)))
+
+abbrev pub part_lines : (count : ℕ) → (log desk : List ℕ) → List Owed → List Numbered → List Logged → List ℕ
+part_lines count log desk owed frames once = part_head count (length owed) desk ++ (part_rows count owed ++ gap_line count log owed frames once)
 
 -- what the comparison says
-abbrev pub said : Comparison → Option Conflict → (count : ℕ) → (log desk : List ℕ) → List Owed → List Logged → List ℕ
-said All conflict count log desk owed once = all_received (length owed) desk
-said FirstPart conflict count log desk owed once = part_line count desk owed
-said Differs None count log desk owed once = differs_lines count log desk owed once
-said Differs (Some c) count log desk owed once = conflict_lines log c
+abbrev pub said : Comparison → Option Conflict → (count : ℕ) → (log desk : List ℕ) → List Owed → List Numbered → List Logged → List ℕ
+said All conflict count log desk owed frames once = all_received (length owed) desk
+said FirstPart conflict count log desk owed frames once = part_lines count log desk owed frames once
+said Differs None count log desk owed frames once = differs_lines count log desk owed frames once
+said Differs (Some c) count log desk owed frames once = conflict_lines log c
 
 -- what was read
 
@@ -98,6 +175,11 @@ fault_words Checksum = codes " of the log begins as a frame and is none: CheckSu
 abbrev pub broken_line : List ℕ → Option BrokenFrame → List ℕ
 broken_line log None = []
 broken_line log (Some b) = joined (codes "line " ∷ decimal (line_of b.at log) ∷ fault_words b.fault ∷ [])
+
+-- where a frame begins that is none: its line, and why
+abbrev pub broken_of : List ℕ → Option BrokenFrame → Option (ℕ × FrameFault)
+broken_of log None = None
+broken_of log (Some b) = Some (line_of b.at log, b.fault)
 
 abbrev pub frames_said : (from to : List ℕ) → (bodies frames : ℕ) → List ℕ
 frames_said from to bodies frames =
@@ -113,5 +195,5 @@ counts_line from to log r = frames_said from to r.bodies (length r.frames.items)
 -- the comparison, and below it what was read
 abbrev pub report : (from to log : List ℕ) → Compared → List Owed → Reading → List ℕ
 report from to log c owed r =
-    said c.comparison r.conflict c.count log to owed r.once.items
+    said c.comparison r.conflict c.count log to owed r.frames.items r.once.items
     ++ (counts_line from to log r ++ broken_line log (first_broken log))

@@ -29,7 +29,12 @@ pub struct Compared {
 }
 
 /// Whether the text of a message is the one that is owed.
-fn is_owed(alloc: Global, log: &[u8], span: Span, owed: &Owed) -> Result<bool, AllocError>
+pub(crate) fn is_owed(
+    alloc: Global,
+    log: &[u8],
+    span: Span,
+    owed: &Owed,
+) -> Result<bool, AllocError>
     ensures { IfOk result (λ same. same ≡ comparing.is_owed log.now span owed.now) }
 {
     let text = text_at(alloc, log, span)?;

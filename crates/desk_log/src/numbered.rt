@@ -18,7 +18,7 @@ pub struct Place {
 #[derive(Clone, Copy)]
 pub struct Numbered {
     pub place: Place,
-    /// The number that is next behind it.
+    /// The number that is due behind it, and above its own.
     pub next: u64,
     pub session: bool,
     pub body: Span,
@@ -74,13 +74,21 @@ fn era_at(era: usize, number: u64, body: &[u8]) -> usize
     }
 }
 
+/// The number behind those that a frame has: its own, and those that a gap fill passes.
+fn behind_in(number: u64, body: &[u8]) -> u64
+    requires { number ≤ 999_999_999 }
+    ensures { result ≡ numbered.behind_in number body.now }
+{
+    next_in(number, body).max(number + 1)
+}
+
 fn numbered_as(era: usize, number: u64, body: &[u8], span: Span) -> Numbered
     requires { number ≤ 999_999_999 }
     ensures { result ≡ numbered.numbered_as era number body.now span }
 {
     Numbered {
         place: Place { era, number },
-        next: next_in(number, body),
+        next: behind_in(number, body),
         session: is_session(body),
         body: span,
     }

@@ -5,6 +5,7 @@ ghost use Rattle.desk_log.specs.Report as specs;
 
 use crate::comparing::{Compared, Comparison};
 use crate::frames::{BrokenFrame, FrameFault, Span, first_broken, line_of, outside};
+use crate::gap::{append_gap, message_at};
 use crate::numbered::{Ends, Place, text_at};
 use crate::once::Conflict;
 use crate::owed::Owed;
@@ -15,6 +16,25 @@ use std::alloc::{AllocError, Global};
 fn append_all(out: &mut Vec<u8>, owed: usize, desk: &[u8]) -> Result<(), AllocError>
     ensures { OnOk result (out.new.items ≡ out.old.items ++ specs.all_received owed desk.now) }
 {
+    if owed == 0 {
+        return append_parts(
+            out,
+            &[
+                Part::Bytes(desk),
+                Part::Bytes(b" was owed no message, and the log has none\n"),
+            ],
+        );
+    }
+    if owed == 1 {
+        return append_parts(
+            out,
+            &[
+                Part::Bytes(b"the one message that "),
+                Part::Bytes(desk),
+                Part::Bytes(b" was owed was received\n"),
+            ],
+        );
+    }
     append_parts(
         out,
         &[
@@ -30,6 +50,18 @@ fn append_all(out: &mut Vec<u8>, owed: usize, desk: &[u8]) -> Result<(), AllocEr
 fn append_first(out: &mut Vec<u8>, count: usize, owed: usize, desk: &[u8]) -> Result<(), AllocError>
     ensures { OnOk result (out.new.items ≡ out.old.items ++ specs.first_received count owed desk.now) }
 {
+    if count == 1 {
+        return append_parts(
+            out,
+            &[
+                Part::Bytes(b"the first of the "),
+                Part::Number(owed as u64),
+                Part::Bytes(b" messages that "),
+                Part::Bytes(desk),
+                Part::Bytes(b" was owed was received; "),
+            ],
+        );
+    }
     append_parts(
         out,
         &[
@@ -53,15 +85,23 @@ fn row_at(owed: &[Owed], at: usize) -> u64
     }
 }
 
-fn append_rows(out: &mut Vec<u8>, missing: usize, first: u64, last: u64) -> Result<(), AllocError>
-    ensures { OnOk result (out.new.items ≡ out.old.items ++ specs.rows_missing missing first last) }
+fn append_rows(out: &mut Vec<u8>, first: u64, last: u64) -> Result<(), AllocError>
+    ensures { OnOk result (out.new.items ≡ out.old.items ++ specs.rows_said first last) }
 {
+    if first == last {
+        return append_parts(
+            out,
+            &[
+                Part::Bytes(b" (row "),
+                Part::Number(first),
+                Part::Bytes(b")\n"),
+            ],
+        );
+    }
     append_parts(
         out,
         &[
-            Part::Bytes(b"the last "),
-            Part::Number(missing as u64),
-            Part::Bytes(b" were not (rows "),
+            Part::Bytes(b" (rows "),
             Part::Number(first),
             Part::Bytes(b" to "),
             Part::Number(last),
@@ -70,12 +110,93 @@ fn append_rows(out: &mut Vec<u8>, missing: usize, first: u64, last: u64) -> Resu
     )
 }
 
-fn append_missing(out: &mut Vec<u8>, count: usize, owed: &[Owed]) -> Result<(), AllocError>
-    ensures { OnOk result (out.new.items ≡ out.old.items ++ specs.last_missing count owed.now) }
+fn append_none(out: &mut Vec<u8>, owed: usize, desk: &[u8]) -> Result<(), AllocError>
+    ensures { OnOk result (out.new.items ≡ out.old.items ++ specs.none_received owed desk.now) }
 {
-    let missing = owed.len().saturating_sub(count);
-    let last = owed.len().saturating_sub(1);
-    append_rows(out, missing, row_at(owed, count), row_at(owed, last))
+    if owed == 1 {
+        return append_parts(
+            out,
+            &[
+                Part::Bytes(b"the one message that "),
+                Part::Bytes(desk),
+                Part::Bytes(b" was owed is not in the log"),
+            ],
+        );
+    }
+    append_parts(
+        out,
+        &[
+            Part::Bytes(b"none of the "),
+            Part::Number(owed as u64),
+            Part::Bytes(b" messages that "),
+            Part::Bytes(desk),
+            Part::Bytes(b" was owed is in the log"),
+        ],
+    )
+}
+
+fn append_last(out: &mut Vec<u8>, missing: usize) -> Result<(), AllocError>
+    ensures { OnOk result (out.new.items ≡ out.old.items ++ specs.last_missing missing) }
+{
+    if missing == 1 {
+        return out.extend_from_slice(b"the last is not in the log");
+    }
+    append_parts(
+        out,
+        &[
+            Part::Bytes(b"the last "),
+            Part::Number(missing as u64),
+            Part::Bytes(b" are not in the log"),
+        ],
+    )
+}
+
+fn append_part_head(
+    out: &mut Vec<u8>,
+    count: usize,
+    owed: usize,
+    desk: &[u8],
+) -> Result<(), AllocError>
+    ensures { OnOk result (out.new.items ≡ out.old.items ++ specs.part_head count owed desk.now) }
+{
+    if count == 0 {
+        return append_none(out, owed, desk);
+    }
+    append_first(out, count, owed, desk)?;
+    append_last(out, owed.saturating_sub(count))
+}
+
+fn append_differs_head(
+    out: &mut Vec<u8>,
+    count: usize,
+    owed: usize,
+    desk: &[u8],
+) -> Result<(), AllocError>
+    ensures { OnOk result (out.new.items ≡ out.old.items ++ specs.differs_head count owed desk.now) }
+{
+    if owed == 0 {
+        return append_parts(
+            out,
+            &[
+                Part::Bytes(desk),
+                Part::Bytes(b" was owed no message, and the log has some\n"),
+            ],
+        );
+    }
+    if count == 0 {
+        return append_parts(
+            out,
+            &[
+                Part::Bytes(b"the log differs at the first of the "),
+                Part::Number(owed as u64),
+                Part::Bytes(b" messages that "),
+                Part::Bytes(desk),
+                Part::Bytes(b" was owed\n"),
+            ],
+        );
+    }
+    append_first(out, count, owed, desk)?;
+    out.extend_from_slice(b"then the log differs\n")
 }
 
 fn append_owed_row(out: &mut Vec<u8>, owed: &Owed) -> Result<(), AllocError>
@@ -171,19 +292,30 @@ fn append_conflict(
     append_text(alloc, out, log, conflict.second)
 }
 
+fn append_logged_if(
+    alloc: Global,
+    out: &mut Vec<u8>,
+    log: &[u8],
+    logged: Option<(Place, Span)>,
+) -> Result<(), AllocError>
+    ensures { OnOk result (out.new.items ≡ out.old.items ++ specs.logged_if_line log.now logged) }
+{
+    match logged {
+        Some(logged) => append_logged(alloc, out, log, &logged),
+        None => Ok(()),
+    }
+}
+
 fn append_logged_at(
     alloc: Global,
     out: &mut Vec<u8>,
     log: &[u8],
-    once: &[(Place, Span)],
+    reading: &Reading,
     at: usize,
 ) -> Result<(), AllocError>
-    ensures { OnOk result (out.new.items ≡ out.old.items ++ specs.logged_if_line log.now (slice_get once.now at)) }
+    ensures { OnOk result (out.new.items ≡ out.old.items ++ specs.logged_if_line log.now (slice_get reading.now.once.items at)) }
 {
-    match once.get(at) {
-        Some(logged) => append_logged(alloc, out, log, logged),
-        None => Ok(()),
-    }
+    append_logged_if(alloc, out, log, message_at(&reading.once, at))
 }
 
 fn append_difference(
@@ -193,26 +325,37 @@ fn append_difference(
     log: &[u8],
     desk: &[u8],
     owed: &[Owed],
-    once: &[(Place, Span)],
+    reading: &Reading,
 ) -> Result<(), AllocError>
-    ensures { OnOk result (out.new.items ≡ out.old.items ++ specs.differs_lines count log.now desk.now owed.now once.now) }
+    ensures { OnOk result (out.new.items ≡ out.old.items ++ specs.differs_lines count log.now desk.now owed.now reading.now.frames.items reading.now.once.items) }
 {
-    append_first(out, count, owed.len(), desk)?;
-    out.extend_from_slice(b"then the log differs\n")?;
+    append_differs_head(out, count, owed.len(), desk)?;
+    append_gap(alloc, out, count, log, owed, reading)?;
     append_owed(out, owed, count)?;
-    append_logged_at(alloc, out, log, once, count)
+    append_logged_at(alloc, out, log, reading, count)
+}
+
+fn append_part_rows(out: &mut Vec<u8>, count: usize, owed: &[Owed]) -> Result<(), AllocError>
+    ensures { OnOk result (out.new.items ≡ out.old.items ++ specs.part_rows count owed.now) }
+{
+    let last = owed.len().saturating_sub(1);
+    append_rows(out, row_at(owed, count), row_at(owed, last))
 }
 
 fn append_part(
+    alloc: Global,
     out: &mut Vec<u8>,
     count: usize,
+    log: &[u8],
     desk: &[u8],
     owed: &[Owed],
+    reading: &Reading,
 ) -> Result<(), AllocError>
-    ensures { OnOk result (out.new.items ≡ out.old.items ++ specs.part_line count desk.now owed.now) }
+    ensures { OnOk result (out.new.items ≡ out.old.items ++ specs.part_lines count log.now desk.now owed.now reading.now.frames.items reading.now.once.items) }
 {
-    append_first(out, count, owed.len(), desk)?;
-    append_missing(out, count, owed)
+    append_part_head(out, count, owed.len(), desk)?;
+    append_part_rows(out, count, owed)?;
+    append_gap(alloc, out, count, log, owed, reading)
 }
 
 /// Appends what a comparison says.
@@ -225,14 +368,14 @@ fn append_said(
     owed: &[Owed],
     reading: &Reading,
 ) -> Result<(), AllocError>
-    ensures { OnOk result (out.new.items ≡ out.old.items ++ specs.said compared.now.comparison reading.now.conflict compared.now.count log.now desk.now owed.now reading.now.once.items) }
+    ensures { OnOk result (out.new.items ≡ out.old.items ++ specs.said compared.now.comparison reading.now.conflict compared.now.count log.now desk.now owed.now reading.now.frames.items reading.now.once.items) }
 {
     match compared.comparison {
         Comparison::All => append_all(out, owed.len(), desk),
-        Comparison::FirstPart => append_part(out, compared.count, desk, owed),
+        Comparison::FirstPart => append_part(alloc, out, compared.count, log, desk, owed, reading),
         Comparison::Differs => match &reading.conflict {
             Some(conflict) => append_conflict(alloc, out, log, conflict),
-            None => append_difference(alloc, out, compared.count, log, desk, owed, &reading.once),
+            None => append_difference(alloc, out, compared.count, log, desk, owed, reading),
         },
     }
 }

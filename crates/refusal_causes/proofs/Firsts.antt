@@ -8,12 +8,10 @@ use Rattle.fix_dictionary.specs.declared.messages.OrderCancelRequest.{OrderCance
 use Rattle.fix_dictionary.specs.declared.messages.OrderCancelReplaceRequest.{OrderCancelReplaceRequest as Replacement}
 use Rattle.fix_dictionary.specs.declared.messages.Quote.{Quote as QuoteMessage}
 use Rattle.fix_dictionary.specs.declared.messages.QuoteCancel.{QuoteCancel as Withdrawal}
-use Rattle.fix_dictionary.specs.declared.messages.QuoteRequest.{QuoteRequest}
 use Rattle.fix_dictionary.specs.declared.messages.QuoteResponse.{QuoteResponse as Response}
 use Rattle.venue_rules.specs.declared.facts.HeldSide.{HeldSide}
 use Rattle.venue_rules.specs.declared.facts.Room.{Room}
 use Rattle.venue_rules.specs.declared.facts.RoomQuote.{RoomQuote}
-use Rattle.venue_rules.specs.declared.replies.Reply.{Reply}
 use Rattle.venue_rules.specs.declared.replies.ReplyBody.{ReplyBody}
 use Rattle.venue_rules.specs.declared.refusals.BusinessRefusal.TheVariants.{QuoteMissing, SideMissing}
 use Rattle.venue_rules.specs.declared.refusals.ResponseRefusal.TheVariants as response
@@ -31,7 +29,7 @@ use Rattle.venue_rules.specs.Quotes.{answer_quote_of, quote_accepted}
 use Rattle.venue_rules.specs.Requests.{opened, request_accepted, request_refusals, request_sent}
 use Rattle.venue_rules.specs.Responses.{answer_hit, answer_hit_at, answer_response_in, answer_response_to, is_other_side, passed, price_for, response_refusals, room_traded, taken_side}
 use Rattle.venue_rules.specs.Rooms.{find_quote, find_room, live_quotes, room_by_number}
-use Rattle.venue_rules.specs.Run.{Input, Message, Tick, answer_due_of}
+use Rattle.venue_rules.specs.Run.{Message, Tick, answer_due_of}
 use Rattle.venue_rules.specs.Withdrawals.{answer_withdrawal_of, both_emitted, cancel_status, not_found, to_maker, to_requester, withdraw_one, withdrawn_all, withdrawn_or}
 use Rattle.refusal_causes.specs.Causes.{Causes, IsFirst, cancel_causes, causes_of, due_causes, found_causes, hit_refused, is_empty, is_no_response, is_of_all, is_of_one, is_pass, named_quotes, no_quote, no_response, price_taken, quote_causes, replace_causes, response_causes, room_causes, withdrawal_causes}
 use Rattle.refusal_causes.specs.Places.{cancel_named, counted_by, cross_named, due_count, due_named, first_named, market_named, named_by, order_named, quote_count, quote_named, replace_count, replace_named, request_named, response_count, response_named, withdrawal_count, withdrawal_named}

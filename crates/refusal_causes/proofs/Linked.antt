@@ -1,5 +1,5 @@
 -- Where a message passes from a moment on, it would trade with a linked order that entered just the delay before.
-use Rattle.std.proofs.Common.{◌≡◌, ℕ, ◌+◌, ◌-◌, ◌≤◌, ◌<◌, Bool, true, false, ◌&&◌, nat_lt, nat_le, List, [], ◌∷◌, find, cond, take, length, Option, Some, None, IfSome, Contains, is_some, refl, sym, ◌∙◌, subst, arith}
+use Rattle.std.proofs.Common.{◌≡◌, ℕ, ◌+◌, ◌-◌, ◌≤◌, ◌<◌, Bool, true, false, ◌&&◌, nat_lt, nat_le, List, [], ◌∷◌, find, cond, take, length, Option, Some, IfSome, Contains, is_some, refl, sym, ◌∙◌, subst, arith}
 use Rattle.std.proofs.lemmas.Bool.Decides.{nat_tests}
 use Rattle.std.proofs.lemmas.List.Elements.{Contains-append_left, Contains-append_right}
 use Rattle.fix_dictionary.specs.declared.messages.App.{App}
@@ -12,10 +12,9 @@ use Rattle.venue_rules.specs.declared.refusals.OrderRefusal.TheVariants as order
 use Rattle.venue_rules.specs.declared.refusals.ChangeRefusal.TheVariants as change
 use Rattle.venue_rules.specs.declared.refusals.CrossRefusal.TheVariants as cross
 use Rattle.venue_rules.specs.declared.replies.ReplyBody.{ReplyBody}
-use Rattle.venue_rules.specs.declared.trail.Taken.{Taken}
 use Rattle.venue_rules.specs.Answer.{Answer, Sender, first_of}
 use Rattle.venue_rules.specs.Answers.{answer_app}
-use Rattle.venue_rules.specs.Book.{Fill, fills, is_linked, is_side_full, is_too_soon, too_soon}
+use Rattle.venue_rules.specs.Book.{fills, is_linked, is_side_full, is_too_soon, too_soon}
 use Rattle.venue_rules.specs.Changes.{Named, IsResting, IsHeld, IsUnknown, answer_replace_of, named, replace_refusals, replace_refused, replaced, replacement, standing}
 use Rattle.venue_rules.specs.Crosses.{cross_accepted, cross_refusals, cross_refused, first_side, side_order}
 use Rattle.venue_rules.specs.Delay.{held, held_capacity}
@@ -25,7 +24,7 @@ use Rattle.venue_rules.specs.Orders.{accepted, order_asked, order_refusals, refu
 use Rattle.instruments.specs.Listing.{delay_of}
 use Rattle.refusal_causes.specs.Causes.{Causes}
 use Rattle.refusal_causes.specs.Places.{cross_waits, first_waits, order_waits, replace_waits, waits}
-use Rattle.refusal_causes.specs.Why.{EndsWithLinked, PassesAfterLinked, PassesFrom, order_entering, replacing, sender_of}
+use Rattle.refusal_causes.specs.Why.{EndsWithLinked, PassesAfterLinked, order_entering, replacing, sender_of}
 use Rattle.refusal_causes.proofs.Waiting.{Stays, neither, not_one, or_else}
 
 -- what one test finds and another does not

@@ -9,7 +9,6 @@ use Rattle.instruments.specs.declared.instruments.Instrument.{Instrument}
 use Rattle.participants.specs.ParticipantFile.{ParticipantFile}
 use Rattle.venue_rules.specs.declared.replies.Reply.{Reply}
 use Rattle.venue_rules.specs.declared.trail.TrailRow.{TrailRow}
-use Rattle.venue_rules.specs.Answer.{Answer}
 use Rattle.venue_rules.specs.Facts.{History}
 use Rattle.venue_rules.specs.Market.{Market}
 use Rattle.venue_rules.specs.Run.{Input, answer_input}

@@ -29,7 +29,7 @@ use Rattle.venue_rules.specs.Rooms.{is_closed, is_open, open_rooms}
 use Rattle.instruments.specs.Listing.{delay_of}
 use Rattle.refusal_causes.specs.Causes.{Causes}
 use Rattle.refusal_causes.specs.Places.{cross_waits, first_waits, order_waits, replace_waits, request_waits, waits}
-use Rattle.refusal_causes.specs.Why.{HoldsBefore, IsBetween, NeverPasses, PassesFrom, sender_of}
+use Rattle.refusal_causes.specs.Why.{HoldsBefore, IsBetween, PassesFrom, sender_of}
 
 abbrev pub IsOne : Bool → Type 0
 IsOne true = Unit {0}

@@ -33,7 +33,7 @@ use Rattle.message_words.specs.Parts.{Part}
 use Rattle.refusal_causes.specs.declared.figures.Figures.{Figures}
 
 abbrev pub no_figures : Figures
-no_figures = record { identifier = None; instrument = None; price = None; tick = None; quantity = None; least = None; filled = None; most = None }
+no_figures = record { identifier = None; instrument = None; price = None; tick = None; quantity = None; least = None; filled = None }
 
 abbrev pub of_identifier : List ℕ → Figures
 of_identifier id = record no_figures { identifier = Some id }
@@ -48,7 +48,7 @@ order_figures file d order.UnsupportedOrder = no_figures
 order_figures file d order.PriceOffTick = record no_figures { instrument = Some d.symbol; price = d.price; tick = Some (pos (tick_of file (instrument_of file d.symbol))) }
 order_figures file d order.QuantityBelowLeast = record no_figures { instrument = Some d.symbol; quantity = Some d.quantity; least = Some (least_of file (instrument_of file d.symbol)) }
 order_figures file d order.LinkedOrderTooRecent = of_instrument d.symbol
-order_figures file d order.BookSideFull = record no_figures { instrument = Some d.symbol; most = Some 200 }
+order_figures file d order.BookSideFull = of_instrument d.symbol
 
 abbrev pub cross_figures : List Instrument → NewOrderCross → CrossRefusal → Figures
 cross_figures file d cross.UnknownInstrument = of_instrument d.symbol
@@ -59,8 +59,8 @@ cross_figures file d cross.OneBuyAndOneSell = no_figures
 cross_figures file d cross.PriceOffTick = record no_figures { instrument = Some d.symbol; price = d.price; tick = Some (pos (tick_of file (instrument_of file d.symbol))) }
 cross_figures file d cross.Quantity = record no_figures { instrument = Some d.symbol; least = Some (least_of file (instrument_of file d.symbol)) }
 cross_figures file d cross.LinkedOrderTooRecent = of_instrument d.symbol
-cross_figures file d cross.BookSideFull = record no_figures { instrument = Some d.symbol; most = Some 200 }
-cross_figures file d cross.TooManyHeld = record no_figures { most = Some 1000 }
+cross_figures file d cross.BookSideFull = of_instrument d.symbol
+cross_figures file d cross.TooManyHeld = no_figures
 
 abbrev pub request_figures : List Instrument → QuoteRequest → RequestRefusal → Figures
 request_figures file d request.DuplicateRequest = of_identifier d.request_id
@@ -69,10 +69,10 @@ request_figures file d request.QuantityBelowLeast = record no_figures { instrume
 request_figures file d request.UnknownParticipant = no_figures
 request_figures file d request.RequesterAmongRecipients = no_figures
 request_figures file d request.RecipientTwice = no_figures
-request_figures file d request.TooManyRecipients = record no_figures { most = Some 12 }
+request_figures file d request.TooManyRecipients = no_figures
 request_figures file d request.TooFewRecipients = no_figures
 request_figures file d request.RecipientsNotUnrelated = no_figures
-request_figures file d request.TooManyRequests = record no_figures { most = Some 1000 }
+request_figures file d request.TooManyRequests = no_figures
 
 abbrev pub quote_figures : List Instrument → Quote → QuoteRefusal → Figures
 quote_figures file d quote.UnknownRequest = of_identifier d.request_id
@@ -160,5 +160,4 @@ figures_parts f =
     ∷ (codes "\n    quantity ", given decimal f.quantity)
     ∷ (codes "\n    least quantity ", given decimal f.least)
     ∷ (codes "\n    filled so far ", given decimal f.filled)
-    ∷ (codes "\n    as many as may be: ", given decimal f.most)
     ∷ []

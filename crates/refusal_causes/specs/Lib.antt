@@ -7,6 +7,8 @@ pub mod Why
 -- the sentence of each cause, and the figures that decide it
 pub mod Sentences
 pub mod Figures
+-- what each sentence says, by the rules' tests
+pub mod Meanings
 -- what is printed
 pub mod Printed
 -- a row of the sample day

@@ -10,7 +10,8 @@
 --           it would trade with O8 of GAMMA, who is related to the sender
 --           the last linked order that it would trade with entered at 20250303-14:30:40.000, 999 ms before;
 --           BASIS1Y asks for 1000 ms
---           no longer so from 20250303-14:30:41.000 on, 1 ms later, if nothing else happens; the answer would then be:
+--           no longer so from 20250303-14:30:41.000 on, 1 ms later, as the book stands before this row; the answer
+--           would then be:
 --           to BETA: report E18: ..
 use Rattle.std.specs.Prelude.{◌≡◌, ◌<◌, ◌≤◌, ◌⊎◌, ℕ, ◌-◌, ◌==◌, ◌&&◌, Bool, true, false, nat_lt, List, [], ◌∷◌, ◌++◌, length, take, slice_get, Option, Some, None, ⊤, bytes_eq, codes, decimal, if◌then◌else◌}
 use Rattle.std.specs.List.{flat_map, list_any}
@@ -186,7 +187,7 @@ abbrev pub passing_parts : (t passes : ℕ) → List Part
 passing_parts t passes =
     (codes "\n    no longer so from ", Some (utc_text passes))
     ∷ (codes " on, ", Some (decimal (passes - t)))
-    ∷ words_alone (codes " ms later, if nothing else happens; the answer would then be:")
+    ∷ words_alone (codes " ms later, as the book stands before this row; the answer would then be:")
     ∷ []
 
 abbrev pub then_said : (to said : List ℕ) → List Part

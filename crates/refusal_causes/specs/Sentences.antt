@@ -28,7 +28,7 @@ order_sentence order.UnsupportedOrder = codes "it is no limit order (40=2), or i
 order_sentence order.PriceOffTick = codes "its price (44) is no multiple of the instrument's tick"
 order_sentence order.QuantityBelowLeast = codes "its quantity (38) is below the instrument's least"
 order_sentence order.LinkedOrderTooRecent = codes "it would trade with a linked order that entered less than the instrument's delay before (17 CFR 37.9(b)(1), (b)(2))"
-order_sentence order.BookSideFull = codes "what it does not fill would rest on a side that holds as many orders as may"
+order_sentence order.BookSideFull = codes "what it does not fill would rest, but 200 orders of its side rest, and no more than 200 may"
 
 abbrev pub change_sentence : ChangeRefusal → List ℕ
 change_sentence change.UnknownOrder = codes "no order of the sender that rests or is held has the identifier that it names (41)"
@@ -49,8 +49,8 @@ cross_sentence cross.OneBuyAndOneSell = codes "both of its sides are to buy, or 
 cross_sentence cross.PriceOffTick = codes "its price (44) is no multiple of the instrument's tick"
 cross_sentence cross.Quantity = codes "its sides have different quantities (38), or less than the instrument's least"
 cross_sentence cross.LinkedOrderTooRecent = codes "its first side would trade with a linked order that entered less than the instrument's delay before (17 CFR 37.9(b)(1), (b)(2))"
-cross_sentence cross.BookSideFull = codes "what its first side does not fill would rest on a side that holds as many orders as may"
-cross_sentence cross.TooManyHeld = codes "as many second sides of crosses are held as may be"
+cross_sentence cross.BookSideFull = codes "what its first side does not fill would rest, but 200 orders of that side rest, and no more than 200 may"
+cross_sentence cross.TooManyHeld = codes "1000 second sides of crosses are held, and no more than 1000 may be"
 
 abbrev pub request_sentence : RequestRefusal → List ℕ
 request_sentence request.DuplicateRequest = codes "the sender used its identifier (131) before"
@@ -59,10 +59,10 @@ request_sentence request.QuantityBelowLeast = codes "its quantity (38) is below 
 request_sentence request.UnknownParticipant = codes "one of its recipients is no participant"
 request_sentence request.RequesterAmongRecipients = codes "the sender is one of its recipients"
 request_sentence request.RecipientTwice = codes "a participant is named twice among its recipients"
-request_sentence request.TooManyRecipients = codes "it has more recipients than it may have"
+request_sentence request.TooManyRecipients = codes "it has more than 12 recipients"
 request_sentence request.TooFewRecipients = codes "it has fewer than three recipients (17 CFR 37.9(a)(3))"
 request_sentence request.RecipientsNotUnrelated = codes "no three of its recipients are unrelated to the sender and to each other (17 CFR 37.9(a)(3))"
-request_sentence request.TooManyRequests = codes "as many requests are open as may be"
+request_sentence request.TooManyRequests = codes "1000 requests are open, and no more than 1000 may be"
 
 abbrev pub quote_sentence : QuoteRefusal → List ℕ
 quote_sentence quote.UnknownRequest = codes "no request has the identifier that it names (131)"
@@ -71,7 +71,7 @@ quote_sentence quote.RoomOver = codes "the request has traded, or its end has pa
 quote_sentence quote.UnknownInstrument = codes "its symbol (55) is not that of the request's instrument"
 quote_sentence quote.DuplicateQuote = codes "the sender used its identifier (117) before"
 quote_sentence quote.NotTradeable = codes "it is not tradeable (537 is present, and not 1)"
-quote_sentence quote.InvalidPrice = codes "a side that was asked has no price, a price (132, 133) is no multiple of the instrument's tick, or the bid is above the offer"
+quote_sentence quote.InvalidPrice = codes "no side that was asked has a price, a price (132, 133) is no multiple of the instrument's tick, or the bid is above the offer"
 quote_sentence quote.Size = codes "a size (134, 135) is not the quantity of the request"
 quote_sentence quote.EndPassed = codes "its end (62) is before the moment of this row"
 

@@ -1,4 +1,4 @@
--- A worked example, of the sample day: the refusal of row 12.
+-- A worked example: the refused order of BETA in the sample day.
 use Rattle.std.specs.Prelude.{◌≡◌, ℕ, ℤ, pos, negsuc, true, false, List, [], ◌∷◌, codes, Option, Some, None}
 use Rattle.std.specs.List.{flat_map}
 use Rattle.fix_dictionary.specs.declared.values.Side.{Side}
@@ -30,7 +30,7 @@ order id symbol side quantity price life = NewOrderSingle (record { order_id = i
 abbrev pub asked : List ℕ → Party
 asked name = record { id = name; source = 68; role = 35 }
 
--- the rows before row 12; the first at 14:30:00 on 3 March 2025
+-- the rows before it; the first at 14:30:00 on 3 March 2025
 abbrev pub earlier : List Input
 earlier =
     sends 1 2 (order (codes "b1") (codes "IRS5Y") Sell 60 (pos 2500000) None) 1741012200000

@@ -37,8 +37,6 @@ pub struct Figures {
     pub quantity: Option<u64>,
     pub least: Option<u64>,
     pub filled: Option<u64>,
-    /// the most that there may be
-    pub most: Option<u64>,
 }
 
 impl Figures {
@@ -53,7 +51,6 @@ impl Figures {
             quantity: None,
             least: None,
             filled: None,
-            most: None,
         }
     }
 
@@ -116,11 +113,7 @@ fn order_figures(instruments: &Instruments, d: &NewOrderSingle, cause: OrderRefu
             ..Figures::none()
         },
         OrderRefusal::LinkedOrderTooRecent => Figures::of_instrument(d.symbol),
-        OrderRefusal::BookSideFull => Figures {
-            instrument: Some(d.symbol),
-            most: Some(200),
-            ..Figures::none()
-        },
+        OrderRefusal::BookSideFull => Figures::of_instrument(d.symbol),
     }
 }
 
@@ -145,15 +138,8 @@ fn cross_figures(instruments: &Instruments, d: &NewOrderCross, cause: CrossRefus
             ..Figures::none()
         },
         CrossRefusal::LinkedOrderTooRecent => Figures::of_instrument(d.symbol),
-        CrossRefusal::BookSideFull => Figures {
-            instrument: Some(d.symbol),
-            most: Some(200),
-            ..Figures::none()
-        },
-        CrossRefusal::TooManyHeld => Figures {
-            most: Some(1000),
-            ..Figures::none()
-        },
+        CrossRefusal::BookSideFull => Figures::of_instrument(d.symbol),
+        CrossRefusal::TooManyHeld => Figures::none(),
     }
 }
 
@@ -172,16 +158,10 @@ fn request_figures(instruments: &Instruments, d: &QuoteRequest, cause: RequestRe
         RequestRefusal::UnknownParticipant => Figures::none(),
         RequestRefusal::RequesterAmongRecipients => Figures::none(),
         RequestRefusal::RecipientTwice => Figures::none(),
-        RequestRefusal::TooManyRecipients => Figures {
-            most: Some(12),
-            ..Figures::none()
-        },
+        RequestRefusal::TooManyRecipients => Figures::none(),
         RequestRefusal::TooFewRecipients => Figures::none(),
         RequestRefusal::RecipientsNotUnrelated => Figures::none(),
-        RequestRefusal::TooManyRequests => Figures {
-            most: Some(1000),
-            ..Figures::none()
-        },
+        RequestRefusal::TooManyRequests => Figures::none(),
     }
 }
 
@@ -372,7 +352,6 @@ pub(crate) fn append_figures(
             part!(b"\n    quantity ", count_value(f.quantity)),
             part!(b"\n    least quantity ", count_value(f.least)),
             part!(b"\n    filled so far ", count_value(f.filled)),
-            part!(b"\n    as many as may be: ", count_value(f.most)),
         ],
     )
 }

@@ -271,7 +271,7 @@ fn append_passing_parts(
             part!(b"\n    no longer so from ", Some(Value::Moment(passes))),
             part!(b" on, ", number(apart(passes, moment))),
             part!(
-                b" ms later, if nothing else happens; the answer would then be:",
+                b" ms later, as the book stands before this row; the answer would then be:",
                 bytes(b"")
             ),
         ],

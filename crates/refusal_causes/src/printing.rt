@@ -138,6 +138,7 @@ pub fn print_why<W: Write>(
     requires kept { All IsItem rows.now }
     requires few { length rows.now ≤ most_items }
     ensures emitted { OnOk result (EmitsWhy (record { participants = participants; instruments = instruments }) rows.now number (W.contents writer.old) (W.contents writer.new)) }
+    ensures from_one { OnOk result (1 ≤ number) }
     ensures refused { IfErr result (λ fault. fault ≡ NoRow → IsNoRow rows.now number) }
     ensures unwritten { IfErr result (λ fault. UnlessWriting fault (Keeps (W.contents writer.old) (W.contents writer.new))) }
 {

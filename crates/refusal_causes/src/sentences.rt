@@ -24,7 +24,7 @@ fn order_sentence(cause: OrderRefusal) -> &'static [u8]
             b"it would trade with a linked order that entered less than the instrument's delay before (17 CFR 37.9(b)(1), (b)(2))"
         }
         OrderRefusal::BookSideFull => {
-            b"what it does not fill would rest on a side that holds as many orders as may"
+            b"what it does not fill would rest, but 200 orders of its side rest, and no more than 200 may"
         }
     }
 }
@@ -75,9 +75,10 @@ fn cross_sentence(cause: CrossRefusal) -> &'static [u8]
             b"its first side would trade with a linked order that entered less than the instrument's delay before (17 CFR 37.9(b)(1), (b)(2))"
         }
         CrossRefusal::BookSideFull => {
-            b"what its first side does not fill would rest on a side that holds as many orders as may"
+            b"what its first side does not fill would rest, but 200 orders of that side rest, and no more than 200 may"
         }
-        CrossRefusal::TooManyHeld => b"as many second sides of crosses are held as may be",
+        CrossRefusal::TooManyHeld =>
+            b"1000 second sides of crosses are held, and no more than 1000 may be",
     }
 }
 
@@ -91,14 +92,14 @@ fn request_sentence(cause: RequestRefusal) -> &'static [u8]
         RequestRefusal::UnknownParticipant => b"one of its recipients is no participant",
         RequestRefusal::RequesterAmongRecipients => b"the sender is one of its recipients",
         RequestRefusal::RecipientTwice => b"a participant is named twice among its recipients",
-        RequestRefusal::TooManyRecipients => b"it has more recipients than it may have",
+        RequestRefusal::TooManyRecipients => b"it has more than 12 recipients",
         RequestRefusal::TooFewRecipients => {
             b"it has fewer than three recipients (17 CFR 37.9(a)(3))"
         }
         RequestRefusal::RecipientsNotUnrelated => {
             b"no three of its recipients are unrelated to the sender and to each other (17 CFR 37.9(a)(3))"
         }
-        RequestRefusal::TooManyRequests => b"as many requests are open as may be",
+        RequestRefusal::TooManyRequests => b"1000 requests are open, and no more than 1000 may be",
     }
 }
 
@@ -115,7 +116,7 @@ fn quote_sentence(cause: QuoteRefusal) -> &'static [u8]
         QuoteRefusal::DuplicateQuote => b"the sender used its identifier (117) before",
         QuoteRefusal::NotTradeable => b"it is not tradeable (537 is present, and not 1)",
         QuoteRefusal::InvalidPrice => {
-            b"a side that was asked has no price, a price (132, 133) is no multiple of the instrument's tick, or the bid is above the offer"
+            b"no side that was asked has a price, a price (132, 133) is no multiple of the instrument's tick, or the bid is above the offer"
         }
         QuoteRefusal::Size => b"a size (134, 135) is not the quantity of the request",
         QuoteRefusal::EndPassed => b"its end (62) is before the moment of this row",

@@ -1,5 +1,4 @@
-use Rattle.std.proofs.Common.{ℕ, List, sym, ap, ◌∙◌, ◌≡◌}
-use Rattle.participants.specs.Relations.{name_of}
+use Rattle.std.proofs.Common.{ℕ, List, ap, ◌∙◌}
 use Rattle.std.proofs.lemmas.Result.{IfOk-weaker}
 use Rattle.desk_log.specs.Report.{report}
 use Rattle.desk_log.proofs.printing.text_of.Goals as goal

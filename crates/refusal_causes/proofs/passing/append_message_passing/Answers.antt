@@ -1,6 +1,5 @@
 use Rattle.std.proofs.Common.{◌∙◌, ◌++◌, ℕ, List, ap}
 use Rattle.venue_rules.specs.Answer.{Answer}
-use Rattle.venue_core.specs.Plan.{answer_of}
 use Rattle.refusal_causes.proofs.Texts.{same_passing}
 use Rattle.refusal_causes.proofs.passing.append_message_passing.Goals as goal
 

@@ -1,4 +1,4 @@
-use Rattle.std.proofs.Common.{◌≡◌, ◌∙◌, ◌++◌, ℕ, List, ap, sym, subst}
+use Rattle.std.proofs.Common.{◌∙◌, ◌++◌, ap, sym, subst}
 use Rattle.venue_rules.specs.Market.{Market}
 use Rattle.venue_core.specs.VenueFacts.{IsHistory, IsStanding}
 use Rattle.venue_core.specs.State.{VenueFacts}

@@ -1,4 +1,4 @@
-use Rattle.std.proofs.Common.{rules, ◌≡◌, ℕ, List, ◌++◌, ◌∙◌, ap, arith, get_or}
+use Rattle.std.proofs.Common.{◌≡◌, ℕ, ◌++◌, ◌∙◌, ap, arith, get_or}
 use Rattle.refusal_causes.specs.Printed.{pair_lines}
 use Rattle.refusal_causes.proofs.Texts.{more_mapped}
 use Rattle.refusal_causes.proofs.verdict.append_pairs.Goals as goal
