@@ -3,7 +3,6 @@ use Rattle.std.proofs.Common.{◌≡◌, refl, sym, ap, ◌∙◌, ℕ, ℤ, ◌
 use Rattle.std.specs.Prelude.{bytes_eq}
 use Rattle.std.specs.List.{cons_option, enumerate_from}
 use Rattle.std.proofs.lemmas.Bool.{true≢false}
-use Rattle.std.proofs.lemmas.List.{map-append}
 use Rattle.std.proofs.lemmas.List.Elements.{filter_map-append}
 use Rattle.fix_dictionary.specs.declared.messages.App.{App}
 use Rattle.fix_dictionary.specs.declared.messages.App.TheVariants.{QuoteRequest, Quote, QuoteCancel, QuoteResponse, QuoteStatusReport, QuoteRequestReject, NewOrderSingle, OrderCancelRequest, OrderCancelReplaceRequest, NewOrderCross, ExecutionReport, OrderCancelReject, MarketDataRequest, MarketDataSnapshot, MarketDataRequestReject, BusinessMessageReject, Unsupported}
@@ -34,7 +33,7 @@ use Rattle.venue_rules.specs.Answers.{answer_app, type_of}
 use Rattle.venue_rules.specs.Book.{Fill, Resting, fills, filled, filled_by, find_order, is_day, left, rests, with_left}
 use Rattle.venue_rules.specs.Changes.{Named, IsResting, IsHeld, IsUnknown, named, standing, answer_cancel_of, answer_replace_of, cancel_refusals, held_replace_refusals, replace_refusals, replace_refused, cancelled, held_cancelled, replaced, replacement}
 use Rattle.venue_rules.specs.Crosses.{answer_cross, cross_accepted, cross_refusals, side_order, first_side, second_side, due_refusals}
-use Rattle.venue_rules.specs.Delay.{due, find_held}
+use Rattle.venue_rules.specs.Delay.{due, find_held, held}
 use Rattle.venue_rules.specs.Entering.{entering, entry_facts, entry_reports, fill_report, fill_reports, order_report, trade_of, unfilled_reports}
 use Rattle.venue_rules.specs.Facts.{History, entries, entry_in, next_trade}
 use Rattle.venue_rules.specs.Market.{Market}
@@ -46,21 +45,26 @@ use Rattle.venue_rules.specs.Responses.{answer_response, answer_response_to, ans
 use Rattle.venue_rules.specs.Rooms.{find_room, find_quote, first_quote, room_by_number}
 use Rattle.venue_rules.specs.Run.{Input, Message, Tick, answer_due_of, answer_input, run}
 use Rattle.venue_rules.specs.Withdrawals.{answer_withdrawal_of, withdraw_one, withdrawn_or, not_found, both_emitted, to_maker, to_requester}
+use Rattle.resting_orders.specs.declared.noted.EnteredAt.{EnteredAt}
+use Rattle.resting_orders.specs.Holding.{entry_moment, moment_from}
 use Rattle.resting_orders.specs.Laws.{OrdersAgree}
 use Rattle.resting_orders.specs.Noting.{entered_by, entered_order}
 use Rattle.resting_orders.proofs.Members.{found_passes}
 
--- the replies of an answer report the orders that enter by it
-abbrev pub AreReported : Answer → Type 0
-AreReported a = filter_map entered_by a.replies ≡ map entered_order (entries a.facts)
+abbrev here : ℕ → ℕ → EnteredAt
+here row t = record { row = row; moment = t }
+
+-- the replies of an answer report the orders that enter by it, at a row and a moment
+abbrev pub AreReported : ℕ → ℕ → Answer → Type 0
+AreReported row t a = filter_map (entered_by (here row t)) a.replies ≡ map (entered_order row) (entries a.facts)
 
 -- the first refusal that holds
 
-abbrev All : (Answer → Type 0) → List (Bool × Answer) → Type 0
+abbrev pub All : (Answer → Type 0) → List (Bool × Answer) → Type 0
 All P [] = Unit {0}
 All P (r ∷ rs) = P r.1 × All P rs
 
-abbrev NoneHolds : List (Bool × Answer) → Type 0
+abbrev pub NoneHolds : List (Bool × Answer) → Type 0
 NoneHolds [] = Unit {0}
 NoneHolds (r ∷ rs) = (r.0 ≡ false) × NoneHolds rs
 
@@ -68,7 +72,7 @@ first_case : (P : Answer → Type 0) (b c : Bool) (x y : Answer) → c ≡ b →
 first_case P true c x y e k l = k
 first_case P false c x y e k l = l e
 
-first_turns : (P : Answer → Type 0) (rs : List (Bool × Answer)) (x : Answer) → All P rs → (NoneHolds rs → P x) → P (first_of rs x)
+pub first_turns : (P : Answer → Type 0) (rs : List (Bool × Answer)) (x : Answer) → All P rs → (NoneHolds rs → P x) → P (first_of rs x)
 first_turns P [] x n k = k tt
 first_turns P (r ∷ rs) x n k = first_case P r.0 r.0 r.1 (first_of rs x) refl n.0 (λ e. first_turns P rs x n.1 (λ l. k (e, l)))
 
@@ -133,8 +137,8 @@ entry_picked pick m facts e p fs n first o is =
     ∙ (ap (λ l. l ++ filter_map (λ (f : ℕ → Reply). pick (f 0)) (unfilled_reports m e fs)) (fills_skipped pick m e p fs (next_trade facts) 0 fs)
     ∙ unfilled_skipped pick m e p fs (not (is_day e.order.life) && nat_lt (filled_by fs) e.order.quantity))))
 
-entered_skips : (m : Market) (e : Entry) → Skips (entered_by) m e
-entered_skips m e = record { fill = λ x left done f trade k. refl; rest = λ fs k. refl }
+entered_skips : (row t : ℕ) (m : Market) (e : Entry) → Skips (entered_by (here row t)) m e
+entered_skips row t m e = record { fill = λ x left done f trade k. refl; rest = λ fs k. refl }
 
 abbrev trade_facts : Entry → List Fill → List Fact
 trade_facts e fs = map (λ f. Traded (trade_of e f)) fs
@@ -146,22 +150,22 @@ no_entry_facts e (f ∷ fs) = no_entry_facts e fs
 entered_once : (e : Entry) (fs : List Fill) → entries (entry_facts e fs) ≡ e ∷ []
 entered_once e fs = ap (λ es. e ∷ es) (no_entry_facts e fs)
 
-entry_reported : (m : Market) (facts : List Fact) (e : Entry) (fs : List Fill) (n : ℕ) (first : ℕ → Reply) → ((k : ℕ) → entered_by (first k) ≡ Some (entered_order e))
-    → filter_map (entered_by) (numbered n (first ∷ entry_reports m facts e fs)) ≡ map entered_order (entries (entry_facts e fs))
-entry_reported m facts e fs n first is = entry_picked (entered_by) m facts e (entered_skips m e) fs n first (Some (entered_order e)) is ∙ sym (ap (map entered_order) (entered_once e fs))
+entry_reported : (row t : ℕ) (m : Market) (facts : List Fact) (e : Entry) (fs : List Fill) (n : ℕ) (first : ℕ → Reply) → ((k : ℕ) → entered_by (here row t) (first k) ≡ Some (entered_order row e))
+    → filter_map (entered_by (here row t)) (numbered n (first ∷ entry_reports m facts e fs)) ≡ map (entered_order row) (entries (entry_facts e fs))
+entry_reported row t m facts e fs n first is = entry_picked (entered_by (here row t)) m facts e (entered_skips row t m e) fs n first (Some (entered_order row e)) is ∙ sym (ap (map (entered_order row)) (entered_once e fs))
 
-accepted_quiet : (m : Market) (h : History) (o : OrderFact) (t : ℕ) → AreReported (accepted m h o t)
-accepted_quiet m h o t =
+accepted_quiet : (row : ℕ) (m : Market) (h : History) (o : OrderFact) (t : ℕ) → AreReported row t (accepted m h o t)
+accepted_quiet row m h o t =
     let e = entering h.facts o 0 t in
     let fs = fills h.facts o in
-    entry_reported m h.facts e fs h.reports (λ n. reply o.who (OrderEntered (order_report m e o.quantity 0 n))) (λ k. refl)
+    entry_reported row t m h.facts e fs h.reports (λ n. reply o.who (OrderEntered (order_report m e o.quantity 0 n))) (λ k. refl)
 
 -- Messages.
 
-order_quiet : (m : Market) (h : History) (s : Sender) (d : OrderMessage) (t : ℕ) → AreReported (answer_order m h s d t)
-order_quiet m h s d t =
-    first_turns AreReported (order_refusals m h s d t) (accepted m h (order_asked m s.who d) t) (refl, (refl, (refl, (refl, (refl, (refl, (refl, (refl, tt))))))))
-    (λ n. accepted_quiet m h (order_asked m s.who d) t)
+order_quiet : (row : ℕ) (m : Market) (h : History) (s : Sender) (d : OrderMessage) (t : ℕ) → AreReported row t (answer_order m h s d t)
+order_quiet row m h s d t =
+    first_turns (AreReported row t) (order_refusals m h s d t) (accepted m h (order_asked m s.who d) t) (refl, (refl, (refl, (refl, (refl, (refl, (refl, (refl, tt))))))))
+    (λ n. accepted_quiet row m h (order_asked m s.who d) t)
 
 abbrev rest_of : Named → Option Resting
 rest_of (IsResting r) = Some r
@@ -176,11 +180,11 @@ named_rests : (o : Option Resting) (k : Option HeldSide) (r : Resting) → elim 
 named_rests (Some x) k r e = ap rest_of e
 named_rests None k r e = sym (held_rests_not k) ∙ ap rest_of e
 
-and_left : (a b : Bool) → (a && b) ≡ true → a ≡ true
+pub and_left : (a b : Bool) → (a && b) ≡ true → a ≡ true
 and_left true b e = refl
 and_left false b e = absurd (true≢false (sym e))
 
-and_right : (a b : Bool) → (a && b) ≡ true → b ≡ true
+pub and_right : (a b : Bool) → (a && b) ≡ true → b ≡ true
 and_right true b e = e
 and_right false b e = absurd (true≢false (sym e))
 
@@ -190,49 +194,49 @@ named_own h who id r e =
     let passes = (found_passes p (map (with_left (left h.facts)) (entries h.facts)) r (named_rests (find_order h.facts who id) (find_held h.facts who id) r e)).1 in
     sym (eqb-true r.entry.order.who who (and_left (r.entry.order.who == who) (bytes_eq r.entry.order.id id) (and_right (rests r.entry.order.instrument r.entry.order.side r) (r.entry.order.who == who && bytes_eq r.entry.order.id id) passes)))
 
-replaced_quiet : (m : Market) (h : History) (s : Sender) (d : ReplaceMessage) (r : Resting) (t : ℕ) → s.who ≡ r.entry.order.who → AreReported (replaced m h s d r t)
-replaced_quiet m h s d r t own =
+replaced_quiet : (row : ℕ) (m : Market) (h : History) (s : Sender) (d : ReplaceMessage) (r : Resting) (t : ℕ) → s.who ≡ r.entry.order.who → AreReported row t (replaced m h s d r t)
+replaced_quiet row m h s d r t own =
     let o = replacement d r in
     let e = entering h.facts o (filled r) t in
     let fs = fills h.facts o in
     let first : ℕ → Reply = λ n. reply s.who (OrderReplaced (record { order = order_report m e o.quantity (filled r) n; original_id = d.original_id })) in
-    entry_reported m h.facts e fs h.reports first (λ k. ap (λ (who : ℕ). Some (record (entered_order e) { owner = who })) own)
+    entry_reported row t m h.facts e fs h.reports first (λ k. ap (λ (who : ℕ). Some (record (entered_order row e) { owner = who })) own)
 
-replace_quiet : (m : Market) (h : History) (s : Sender) (d : ReplaceMessage) (t : ℕ) (n : Named) → ((r : Resting) → n ≡ IsResting r → s.who ≡ r.entry.order.who) → AreReported (answer_replace_of m h s d t n)
-replace_quiet m h s d t IsUnknown own = refl
-replace_quiet m h s d t (IsHeld k) own = first_turns AreReported (held_replace_refusals h s d) (replace_refused s d None IsHeldSide) (refl, tt) (λ n. refl)
-replace_quiet m h s d t (IsResting r) own =
-    first_turns AreReported (replace_refusals m h s d r t) (replaced m h s d r t) (refl, (refl, (refl, (refl, (refl, (refl, (refl, tt)))))))
-    (λ n. replaced_quiet m h s d r t (own r refl))
+replace_quiet : (row : ℕ) (m : Market) (h : History) (s : Sender) (d : ReplaceMessage) (t : ℕ) (n : Named) → ((r : Resting) → n ≡ IsResting r → s.who ≡ r.entry.order.who) → AreReported row t (answer_replace_of m h s d t n)
+replace_quiet row m h s d t IsUnknown own = refl
+replace_quiet row m h s d t (IsHeld k) own = first_turns (AreReported row t) (held_replace_refusals h s d) (replace_refused s d None IsHeldSide) (refl, tt) (λ n. refl)
+replace_quiet row m h s d t (IsResting r) own =
+    first_turns (AreReported row t) (replace_refusals m h s d r t) (replaced m h s d r t) (refl, (refl, (refl, (refl, (refl, (refl, (refl, tt)))))))
+    (λ n. replaced_quiet row m h s d r t (own r refl))
 
-requests_silent : (m : Market) (r : Room) (rs : List ℕ) → filter_map (entered_by) (map (request_sent m r) rs) ≡ []
-requests_silent m r [] = refl
-requests_silent m r (x ∷ xs) = requests_silent m r xs
+requests_silent : (row t : ℕ) (m : Market) (r : Room) (rs : List ℕ) → filter_map (entered_by (here row t)) (map (request_sent m r) rs) ≡ []
+requests_silent row t m r [] = refl
+requests_silent row t m r (x ∷ xs) = requests_silent row t m r xs
 
-shown_silent : (m : Market) (h : History) (s : Sender) (r : Room) (d : QuoteMessage) (o : Option RoomQuote) → filter_map (entered_by) (quote_status s d (Some (symbol_of m.instruments r.instrument)) Accepted ∷ shown_with m h r o ++ quote_sent m r (quoted h s r d) ∷ []) ≡ []
-shown_silent m h s r d None = refl
-shown_silent m h s r d (Some q) = refl
+shown_silent : (row t : ℕ) (m : Market) (h : History) (s : Sender) (r : Room) (d : QuoteMessage) (o : Option RoomQuote) → filter_map (entered_by (here row t)) (quote_status s d (Some (symbol_of m.instruments r.instrument)) Accepted ∷ shown_with m h r o ++ quote_sent m r (quoted h s r d) ∷ []) ≡ []
+shown_silent row t m h s r d None = refl
+shown_silent row t m h s r d (Some q) = refl
 
-quote_quiet : (m : Market) (h : History) (s : Sender) (d : QuoteMessage) (t : ℕ) (r : Option Room) → AreReported (answer_quote_of m h s d t r)
-quote_quiet m h s d t None = refl
-quote_quiet m h s d t (Some r) =
-    first_turns AreReported (quote_refusals m h s r d t) (quote_accepted m h s r d) (refl, (refl, (refl, (refl, (refl, (refl, (refl, (refl, tt))))))))
-    (λ n. shown_silent m h s r d (first_quote h.facts r.number))
+quote_quiet : (row : ℕ) (m : Market) (h : History) (s : Sender) (d : QuoteMessage) (t : ℕ) (r : Option Room) → AreReported row t (answer_quote_of m h s d t r)
+quote_quiet row m h s d t None = refl
+quote_quiet row m h s d t (Some r) =
+    first_turns (AreReported row t) (quote_refusals m h s r d t) (quote_accepted m h s r d) (refl, (refl, (refl, (refl, (refl, (refl, (refl, (refl, tt))))))))
+    (λ n. shown_silent row t m h s r d (first_quote h.facts r.number))
 
-request_quiet : (m : Market) (h : History) (s : Sender) (d : RequestMessage) (t : ℕ) → AreReported (answer_request m h s d t)
-request_quiet m h s d t =
+request_quiet : (row : ℕ) (m : Market) (h : History) (s : Sender) (d : RequestMessage) (t : ℕ) → AreReported row t (answer_request m h s d t)
+request_quiet row m h s d t =
     let r = opened m h s d t in
-    first_turns AreReported (request_refusals m h s d t) (request_accepted m r)
+    first_turns (AreReported row t) (request_refusals m h s d t) (request_accepted m r)
     (refl, (refl, (refl, (refl, (refl, (refl, (refl, (refl, (refl, (refl, tt))))))))))
-    (λ n. requests_silent m r r.recipients)
+    (λ n. requests_silent row t m r r.recipients)
 
-emitted_silent : (m : Market) (q : RoomQuote) (o : Option Room) (rs : List Reply) → filter_map (entered_by) rs ≡ [] → filter_map (entered_by) (elim o [ None ↦ [] | Some r ↦ to_maker m r q Withdrawn ∷ to_requester m r q Withdrawn ∷ [] ] ++ rs) ≡ []
-emitted_silent m q None rs k = k
-emitted_silent m q (Some r) rs k = k
+emitted_silent : (row t : ℕ) (m : Market) (q : RoomQuote) (o : Option Room) (rs : List Reply) → filter_map (entered_by (here row t)) rs ≡ [] → filter_map (entered_by (here row t)) (elim o [ None ↦ [] | Some r ↦ to_maker m r q Withdrawn ∷ to_requester m r q Withdrawn ∷ [] ] ++ rs) ≡ []
+emitted_silent row t m q None rs k = k
+emitted_silent row t m q (Some r) rs k = k
 
-all_silent : (m : Market) (h : History) (qs : List RoomQuote) → filter_map (entered_by) (flat_map (both_emitted m h) qs) ≡ []
-all_silent m h [] = refl
-all_silent m h (q ∷ qs) = emitted_silent m q (room_by_number h.facts q.room) (flat_map (both_emitted m h) qs) (all_silent m h qs)
+all_silent : (row t : ℕ) (m : Market) (h : History) (qs : List RoomQuote) → filter_map (entered_by (here row t)) (flat_map (both_emitted m h) qs) ≡ []
+all_silent row t m h [] = refl
+all_silent row t m h (q ∷ qs) = emitted_silent row t m q (room_by_number h.facts q.room) (flat_map (both_emitted m h) qs) (all_silent row t m h qs)
 
 abbrev withdrawals : List RoomQuote → List Fact
 withdrawals qs = map (λ (q : RoomQuote). WithdrawnFact (record { quote = q.number })) qs
@@ -241,87 +245,83 @@ none_entered : (qs : List RoomQuote) → entries (withdrawals qs) ≡ []
 none_entered [] = refl
 none_entered (q ∷ qs) = none_entered qs
 
-withdrawn_quiet : (m : Market) (h : History) (x : Answer) (qs : List RoomQuote) → AreReported x → AreReported (withdrawn_or m h x qs)
-withdrawn_quiet m h x [] k = k
-withdrawn_quiet m h x (q ∷ qs) k = all_silent m h (q ∷ qs) ∙ sym (ap (map entered_order) (none_entered qs))
+withdrawn_quiet : (row t : ℕ) (m : Market) (h : History) (x : Answer) (qs : List RoomQuote) → AreReported row t x → AreReported row t (withdrawn_or m h x qs)
+withdrawn_quiet row t m h x [] k = k
+withdrawn_quiet row t m h x (q ∷ qs) k = all_silent row t m h (q ∷ qs) ∙ sym (ap (map (entered_order row)) (none_entered qs))
 
-withdraw_one_quiet : (m : Market) (h : History) (s : Sender) (t : ℕ) (id : Option (List ℕ)) → AreReported (withdraw_one m h s t id)
-withdraw_one_quiet m h s t None = refl
-withdraw_one_quiet m h s t (Some id) = withdrawn_quiet m h (not_found s (Some id)) _ refl
+withdraw_one_quiet : (row : ℕ) (m : Market) (h : History) (s : Sender) (t : ℕ) (id : Option (List ℕ)) → AreReported row t (withdraw_one m h s t id)
+withdraw_one_quiet row m h s t None = refl
+withdraw_one_quiet row m h s t (Some id) = withdrawn_quiet row t m h (not_found s (Some id)) _ refl
 
-withdrawal_quiet : (m : Market) (h : History) (s : Sender) (d : WithdrawalMessage) (t : ℕ) (one all : Bool) → AreReported (answer_withdrawal_of m h s d t one all)
-withdrawal_quiet m h s d t true all = withdraw_one_quiet m h s t d.quote_id
-withdrawal_quiet m h s d t false true = withdrawn_quiet m h (not_found s None) _ refl
-withdrawal_quiet m h s d t false false = refl
+withdrawal_quiet : (row : ℕ) (m : Market) (h : History) (s : Sender) (d : WithdrawalMessage) (t : ℕ) (one all : Bool) → AreReported row t (answer_withdrawal_of m h s d t one all)
+withdrawal_quiet row m h s d t true all = withdraw_one_quiet row m h s t d.quote_id
+withdrawal_quiet row m h s d t false true = withdrawn_quiet row t m h (not_found s None) _ refl
+withdrawal_quiet row m h s d t false false = refl
 
-hit_at_quiet : (m : Market) (h : History) (s : Sender) (r : Room) (q : RoomQuote) (d : ResponseMessage) (t : ℕ) (side : Side) (p : Option ℤ) → AreReported (answer_hit_at m h s r q d t side p)
-hit_at_quiet m h s r q d t side None = refl
-hit_at_quiet m h s r q d t side (Some p) = refl
+hit_at_quiet : (row : ℕ) (m : Market) (h : History) (s : Sender) (r : Room) (q : RoomQuote) (d : ResponseMessage) (t : ℕ) (side : Side) (p : Option ℤ) → AreReported row t (answer_hit_at m h s r q d t side p)
+hit_at_quiet row m h s r q d t side None = refl
+hit_at_quiet row m h s r q d t side (Some p) = refl
 
-hit_quiet : (m : Market) (h : History) (s : Sender) (r : Room) (q : RoomQuote) (d : ResponseMessage) (t : ℕ) (side : Option Side) → AreReported (answer_hit m h s r q d t side)
-hit_quiet m h s r q d t None = refl
-hit_quiet m h s r q d t (Some side) = hit_at_quiet m h s r q d t side (price_for side q)
+hit_quiet : (row : ℕ) (m : Market) (h : History) (s : Sender) (r : Room) (q : RoomQuote) (d : ResponseMessage) (t : ℕ) (side : Option Side) → AreReported row t (answer_hit m h s r q d t side)
+hit_quiet row m h s r q d t None = refl
+hit_quiet row m h s r q d t (Some side) = hit_at_quiet row m h s r q d t side (price_for side q)
 
-response_in_quiet : (m : Market) (h : History) (s : Sender) (q : RoomQuote) (d : ResponseMessage) (t : ℕ) (r : Option Room) → AreReported (answer_response_in m h s q d t r)
-response_in_quiet m h s q d t None = refl
-response_in_quiet m h s q d t (Some r) =
-    first_turns AreReported (response_refusals m h s r q d t) (answer_hit m h s r q d t (taken_side r.side d.side)) (refl, (refl, (refl, (refl, (refl, (refl, tt))))))
-    (λ n. hit_quiet m h s r q d t (taken_side r.side d.side))
+response_in_quiet : (row : ℕ) (m : Market) (h : History) (s : Sender) (q : RoomQuote) (d : ResponseMessage) (t : ℕ) (r : Option Room) → AreReported row t (answer_response_in m h s q d t r)
+response_in_quiet row m h s q d t None = refl
+response_in_quiet row m h s q d t (Some r) =
+    first_turns (AreReported row t) (response_refusals m h s r q d t) (answer_hit m h s r q d t (taken_side r.side d.side)) (refl, (refl, (refl, (refl, (refl, (refl, tt))))))
+    (λ n. hit_quiet row m h s r q d t (taken_side r.side d.side))
 
-response_to_quiet : (m : Market) (h : History) (s : Sender) (d : ResponseMessage) (t : ℕ) (q : Option RoomQuote) → AreReported (answer_response_to m h s d t q)
-response_to_quiet m h s d t None = refl
-response_to_quiet m h s d t (Some q) = response_in_quiet m h s q d t (room_by_number h.facts q.room)
+response_to_quiet : (row : ℕ) (m : Market) (h : History) (s : Sender) (d : ResponseMessage) (t : ℕ) (q : Option RoomQuote) → AreReported row t (answer_response_to m h s d t q)
+response_to_quiet row m h s d t None = refl
+response_to_quiet row m h s d t (Some q) = response_in_quiet row m h s q d t (room_by_number h.facts q.room)
 
-response_quiet : (m : Market) (h : History) (s : Sender) (d : ResponseMessage) (t : ℕ) → AreReported (answer_response m h s d t)
-response_quiet m h s d t = first_turns AreReported (kind_refusals s d) _ (refl, tt) (λ n. response_to_quiet m h s d t (find_quote h.facts d.quote_id))
+response_quiet : (row : ℕ) (m : Market) (h : History) (s : Sender) (d : ResponseMessage) (t : ℕ) → AreReported row t (answer_response m h s d t)
+response_quiet row m h s d t = first_turns (AreReported row t) (kind_refusals s d) _ (refl, tt) (λ n. response_to_quiet row m h s d t (find_quote h.facts d.quote_id))
 
-market_data_quiet : (m : Market) (h : History) (s : Sender) (d : MarketDataMessage) (t : ℕ) → AreReported (answer_market_data m h s d)
-market_data_quiet m h s d t = first_turns AreReported (market_data_refusals m s d) (market_data m h s d) (refl, (refl, (refl, tt))) (λ n. refl)
+market_data_quiet : (row : ℕ) (m : Market) (h : History) (s : Sender) (d : MarketDataMessage) (t : ℕ) → AreReported row t (answer_market_data m h s d)
+market_data_quiet row m h s d t = first_turns (AreReported row t) (market_data_refusals m s d) (market_data m h s d) (refl, (refl, (refl, tt))) (λ n. refl)
 
-cancel_quiet : (m : Market) (h : History) (s : Sender) (d : CancelMessage) (n : Named) → AreReported (answer_cancel_of m h s d n)
-cancel_quiet m h s d IsUnknown = refl
-cancel_quiet m h s d (IsHeld k) = first_turns AreReported (cancel_refusals h s d None) (held_cancelled m h s d k) (refl, tt) (λ n. refl)
-cancel_quiet m h s d (IsResting r) = first_turns AreReported (cancel_refusals h s d (Some (standing r))) (cancelled m h s d r) (refl, tt) (λ n. refl)
+cancel_quiet : (row t : ℕ) (m : Market) (h : History) (s : Sender) (d : CancelMessage) (n : Named) → AreReported row t (answer_cancel_of m h s d n)
+cancel_quiet row t m h s d IsUnknown = refl
+cancel_quiet row t m h s d (IsHeld k) = first_turns (AreReported row t) (cancel_refusals h s d None) (held_cancelled m h s d k) (refl, tt) (λ n. refl)
+cancel_quiet row t m h s d (IsResting r) = first_turns (AreReported row t) (cancel_refusals h s d (Some (standing r))) (cancelled m h s d r) (refl, tt) (λ n. refl)
 
-cross_quiet : (m : Market) (h : History) (s : Sender) (d : CrossMessage) (t : ℕ) → AreReported (answer_cross m h s d t)
-cross_quiet m h s d t = first_turns AreReported (cross_refusals m h s d t) (cross_accepted m h s d t) (refl, (refl, (refl, (refl, (refl, (refl, (refl, (refl, (refl, (refl, (refl, tt))))))))))) (λ n.
+cross_quiet : (row : ℕ) (m : Market) (h : History) (s : Sender) (d : CrossMessage) (t : ℕ) → AreReported row t (answer_cross m h s d t)
+cross_quiet row m h s d t = first_turns (AreReported row t) (cross_refusals m h s d t) (cross_accepted m h s d t) (refl, (refl, (refl, (refl, (refl, (refl, (refl, (refl, (refl, (refl, (refl, tt))))))))))) (λ n.
     let o = side_order m s.who d (first_side d) in
     let first = accepted m h o t in
     let k : HeldSide = record { order = side_order m s.who d (second_side d); cross = d.cross_id; due = t + delay_of m.instruments (instrument_of m.instruments d.symbol) } in
-    accepted_quiet m h o t ∙ ap (map entered_order) (sym (filter_map-append entry_in first.facts (Held k ∷ []) ∙ append-nil (entries first.facts))))
+    accepted_quiet row m h o t ∙ ap (map (entered_order row)) (sym (filter_map-append entry_in first.facts (Held k ∷ []) ∙ append-nil (entries first.facts))))
 
 -- a message
-pub app_reported : (m : Market) (h : History) (s : Sender) (a : App) (t : ℕ) → AreReported (answer_app m h s a t)
-app_reported m h s (QuoteRequest d) t = request_quiet m h s d t
-app_reported m h s (Quote d) t = quote_quiet m h s d t (find_room h.facts d.request_id)
-app_reported m h s (QuoteCancel d) t = withdrawal_quiet m h s d t (d.cancel_type == 5) (d.cancel_type == 4)
-app_reported m h s (QuoteResponse d) t = response_quiet m h s d t
-app_reported m h s (NewOrderSingle d) t = order_quiet m h s d t
-app_reported m h s (OrderCancelRequest d) t = cancel_quiet m h s d (named h s.who d.original_id)
-app_reported m h s (OrderCancelReplaceRequest d) t = replace_quiet m h s d t (named h s.who d.original_id) (named_own h s.who d.original_id)
-app_reported m h s (NewOrderCross d) t = cross_quiet m h s d t
-app_reported m h s (MarketDataRequest d) t = market_data_quiet m h s d t
-app_reported m h s (BusinessMessageReject d) t = refl
-app_reported m h s (QuoteStatusReport d) t = refl
-app_reported m h s (QuoteRequestReject d) t = refl
-app_reported m h s (ExecutionReport d) t = refl
-app_reported m h s (OrderCancelReject d) t = refl
-app_reported m h s (MarketDataSnapshot d) t = refl
-app_reported m h s (MarketDataRequestReject d) t = refl
-app_reported m h s (Unsupported kind) t = refl
+pub app_reported : (row : ℕ) (m : Market) (h : History) (s : Sender) (a : App) (t : ℕ) → AreReported row t (answer_app m h s a t)
+app_reported row m h s (QuoteRequest d) t = request_quiet row m h s d t
+app_reported row m h s (Quote d) t = quote_quiet row m h s d t (find_room h.facts d.request_id)
+app_reported row m h s (QuoteCancel d) t = withdrawal_quiet row m h s d t (d.cancel_type == 5) (d.cancel_type == 4)
+app_reported row m h s (QuoteResponse d) t = response_quiet row m h s d t
+app_reported row m h s (NewOrderSingle d) t = order_quiet row m h s d t
+app_reported row m h s (OrderCancelRequest d) t = cancel_quiet row t m h s d (named h s.who d.original_id)
+app_reported row m h s (OrderCancelReplaceRequest d) t = replace_quiet row m h s d t (named h s.who d.original_id) (named_own h s.who d.original_id)
+app_reported row m h s (NewOrderCross d) t = cross_quiet row m h s d t
+app_reported row m h s (MarketDataRequest d) t = market_data_quiet row m h s d t
+app_reported row m h s (BusinessMessageReject d) t = refl
+app_reported row m h s (QuoteStatusReport d) t = refl
+app_reported row m h s (QuoteRequestReject d) t = refl
+app_reported row m h s (ExecutionReport d) t = refl
+app_reported row m h s (OrderCancelReject d) t = refl
+app_reported row m h s (MarketDataSnapshot d) t = refl
+app_reported row m h s (MarketDataRequestReject d) t = refl
+app_reported row m h s (Unsupported kind) t = refl
 
 -- the side that is due, if any
-due_reported : (m : Market) (h : History) (o : Option HeldSide) → AreReported (answer_due_of m h o)
-due_reported m h None = refl
-due_reported m h (Some k) = first_turns AreReported (due_refusals m h k) (accepted m h k.order k.due) (refl, (refl, tt)) (λ n. accepted_quiet m h k.order k.due)
+due_reported : (row t : ℕ) (m : Market) (h : History) (o : Option HeldSide) → AreReported row (moment_from t o) (answer_due_of m h o)
+due_reported row t m h None = refl
+due_reported row t m h (Some k) = first_turns (AreReported row k.due) (due_refusals m h k) (accepted m h k.order k.due) (refl, (refl, tt)) (λ n. accepted_quiet row m h k.order k.due)
 
-input_reported : (m : Market) (h : History) (i : Input) → AreReported (answer_input m h i)
-input_reported m h (Message taken t) = app_reported m h (record { who = taken.from; number = taken.item.number; kind = type_of taken.item.app }) taken.item.app t
-input_reported m h (Tick t) = due_reported m h (due h.facts t)
+input_reported : (row : ℕ) (m : Market) (h : History) (i : Input) → AreReported row (entry_moment (held h.facts) i) (answer_input m h i)
+input_reported row m h (Message taken t) = app_reported row m h (record { who = taken.from; number = taken.item.number; kind = type_of taken.item.app }) taken.item.app t
+input_reported row m h (Tick t) = due_reported row t m h (due h.facts t)
 
 pub orders_agree : OrdersAgree
-orders_agree m is i =
-    let h = (run m is).history in
-    let a = answer_input m h i in
-    ap (λ l. map entered_order (entries h.facts) ++ l) (input_reported m h i)
-    ∙ sym (ap (map entered_order) (filter_map-append entry_in h.facts a.facts) ∙ map-append entered_order (entries h.facts) (entries a.facts))
+orders_agree m is i row = input_reported row m (run m is).history i

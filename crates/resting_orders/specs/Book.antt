@@ -1,12 +1,12 @@
 -- The book of an instrument after the rows of a day: every order that rests, bids and then offers, each in price-time
--- priority (17 CFR 37.9(a)(3)), with its owner and the owner's identifier (11).
+-- priority (17 CFR 37.9(a)(3)), with its owner, the owner's identifier (11), and where it entered.
 --
 --   As lines:
 --       book of IRS5Y after row 7 at 20250303-14:30:12.500, resting orders: 1
---       offer O2 of DELTA as d1: 30 left of 70 @ 2.5
+--       offer O2 of DELTA as d1 @ 2.5: 30 left of 70, 40 filled, entered 20250303-14:30:02.000 (row 4)
 --   As a table for a spreadsheet (RFC 4180):
---       instrument,row,moment_utc,side,order,left,price,owner,identifier,quantity
---       IRS5Y,7,20250303-14:30:12.500,offer,O2,30,2.5,DELTA,d1,70
+--       instrument,row,moment_utc,side,order,left,price,owner,identifier,quantity,filled,entered_utc,entered_row
+--       IRS5Y,7,20250303-14:30:12.500,offer,O2,30,2.5,DELTA,d1,70,40,20250303-14:30:02.000,4
 use Rattle.std.specs.Prelude.{◌≡◌, ℕ, ◌-◌, false, option_map, slice_get, List, [], ◌∷◌, ◌++◌, length, Option, Some, None, codes, decimal}
 use Rattle.std.specs.List.{flat_map}
 use Rattle.std.specs.Io.KnownBytes.{Appends}
@@ -29,6 +29,7 @@ use Rattle.message_words.specs.Cells.{setup}
 use Rattle.message_words.specs.Parts.{Part, parts_text, words_alone}
 use Rattle.row_replay.specs.Inputs.{AreOf}
 use Rattle.resting_orders.specs.declared.rested.RestedOrder.{RestedOrder}
+use Rattle.resting_orders.specs.Noting.{entered_on}
 use Rattle.resting_orders.specs.Resting.{book_of}
 
 abbrev pub quoted_side : Side → List ℕ
@@ -52,16 +53,19 @@ rested_parts file o =
     ∷ (codes " O", Some (decimal o.number))
     ∷ (codes " of ", Some (name_of file o.owner))
     ∷ (codes " as ", Some o.id)
+    ∷ (codes " @ ", Some (price_text o.price))
     ∷ (codes ": ", Some (decimal o.left))
     ∷ (codes " left of ", Some (decimal o.quantity))
-    ∷ (codes " @ ", Some (price_text o.price))
-    ∷ words_alone (codes "\n")
+    ∷ (codes ", ", Some (decimal o.filled))
+    ∷ (codes " filled, entered ", Some (utc_text o.at.moment))
+    ∷ (codes " (row ", Some (decimal o.at.row))
+    ∷ words_alone (codes ")\n")
     ∷ []
 
 -- As a table.
 
 abbrev pub book_names : List (List ℕ)
-book_names = codes "instrument" ∷ codes "row" ∷ codes "moment_utc" ∷ codes "side" ∷ codes "order" ∷ codes "left" ∷ codes "price" ∷ codes "owner" ∷ codes "identifier" ∷ codes "quantity" ∷ []
+book_names = codes "instrument" ∷ codes "row" ∷ codes "moment_utc" ∷ codes "side" ∷ codes "order" ∷ codes "left" ∷ codes "price" ∷ codes "owner" ∷ codes "identifier" ∷ codes "quantity" ∷ codes "filled" ∷ codes "entered_utc" ∷ codes "entered_row" ∷ []
 
 -- none before the first row
 abbrev pub shown_moment : Option ℕ → List ℕ
@@ -70,7 +74,7 @@ shown_moment (Some t) = utc_text t
 
 abbrev pub rested_fields : ParticipantFile → Sheet → RestedOrder → List (List ℕ)
 rested_fields file s o =
-    s.symbol ∷ decimal s.row ∷ shown_moment s.moment ∷ quoted_side o.side ∷ (codes "O" ++ decimal o.number) ∷ decimal o.left ∷ price_text o.price ∷ name_of file o.owner ∷ o.id ∷ decimal o.quantity ∷ []
+    s.symbol ∷ decimal s.row ∷ shown_moment s.moment ∷ quoted_side o.side ∷ (codes "O" ++ decimal o.number) ∷ decimal o.left ∷ price_text o.price ∷ name_of file o.owner ∷ o.id ∷ decimal o.quantity ∷ decimal o.filled ∷ utc_text o.at.moment ∷ decimal o.at.row ∷ []
 
 -- In the form that is asked for.
 
@@ -97,12 +101,12 @@ pub record IsBook (form : Form) (m : Market) (rs : List TrailRow) (s : Sheet) (t
   pub items : List Input
   pub emitted : AreOf rs items
   pub known : is_unknown_instrument m.instruments s.symbol ≡ false
-  pub is : text ≡ book_text form m.participants s (book_of s.symbol (run m items).history.facts (instrument_of m.instruments s.symbol))
+  pub is : text ≡ book_text form m.participants s (book_of (entered_on m rs items) s.symbol (run m items).history.facts (instrument_of m.instruments s.symbol))
 
 -- What was written is the book of this instrument after the inputs of these rows: every resting order of it by the
--- facts, with its owner and the owner's identifier, and no other byte.
+-- facts, with its owner, the owner's identifier and where it entered, and no other byte.
 pub record EmitsBook (form : Form) (m : Market) (rs : List TrailRow) (symbol : List ℕ) (before after : Option (List ℕ)) : Type 0 where
   pub items : List Input
   pub emitted : AreOf rs items
   pub known : is_unknown_instrument m.instruments symbol ≡ false
-  pub written : Appends before after (book_text form m.participants (sheet_of symbol rs) (book_of symbol (run m items).history.facts (instrument_of m.instruments symbol)))
+  pub written : Appends before after (book_text form m.participants (sheet_of symbol rs) (book_of (entered_on m rs items) symbol (run m items).history.facts (instrument_of m.instruments symbol)))

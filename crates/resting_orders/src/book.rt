@@ -49,7 +49,7 @@ pub struct Sheet {
     pub moment: Option<Moment>,
 }
 
-fn quoted_side(side: Side) -> &'static [u8]
+pub(crate) fn quoted_side(side: Side) -> &'static [u8]
     ensures { result.now ≡ quoted_side side }
 {
     match side {
@@ -95,12 +95,27 @@ fn append_rested_line<'a>(
             part!(b" O", number(order.number)),
             part!(b" of ", bytes(name_at(participants, order.owner))),
             part!(b" as ", bytes(order.id.as_slice())),
-            part!(b": ", number(order.left.get())),
-            part!(b" left of ", number(order.quantity.get())),
             part!(b" @ ", Some(Value::Price(order.price))),
-            part!(b"\n", bytes(b"")),
+            part!(b": ", number(order.left.get())),
+            part!(b" left of ", number(order.quantity)),
+            part!(b", ", number(order.filled)),
+            part!(b" filled, entered ", Some(Value::Moment(order.at.moment))),
+            part!(b" (row ", number(order.at.row)),
+            part!(b")\n", bytes(b"")),
         ],
     )
+}
+
+/// Appends a row of a table.
+pub(crate) fn append_row(
+    alloc: Global,
+    text: &mut Vec<u8>,
+    row: &ByteRecord,
+) -> Result<(), AllocError>
+    ensures { OnOk result (text.new.items ≡ text.old.items ++ row_text setup (fields_of row.now)) }
+{
+    let made = row_bytes(alloc, row)?;
+    text.extend_from_slice(&made)
 }
 
 fn append_names(alloc: Global, text: &mut Vec<u8>) -> Result<(), AllocError>
@@ -119,14 +134,16 @@ fn append_names(alloc: Global, text: &mut Vec<u8>) -> Result<(), AllocError>
             b"owner",
             b"identifier",
             b"quantity",
+            b"filled",
+            b"entered_utc",
+            b"entered_row",
         ],
     )?;
-    let made = row_bytes(alloc, &names)?;
-    text.extend_from_slice(&made)
+    append_row(alloc, text, &names)
 }
 
 /// Adds the number of an order, as the venue prints it.
-fn push_order(alloc: Global, made: &mut ByteRecord, order: u64) -> Result<(), AllocError>
+pub(crate) fn push_order(alloc: Global, made: &mut ByteRecord, order: u64) -> Result<(), AllocError>
     requires { partial_of made.old ≡ [] }
     ensures partial { OnOk result (partial_of made.new ≡ []) }
     ensures fields { OnOk result (fields_of made.new ≡ fields_of made.old ++ (codes "O" ++ decimal order) ∷ []) }
@@ -137,7 +154,10 @@ fn push_order(alloc: Global, made: &mut ByteRecord, order: u64) -> Result<(), Al
 }
 
 /// Adds the moment of a row; none before the first.
-fn push_shown_moment(made: &mut ByteRecord, moment: Option<Moment>) -> Result<(), AllocError>
+pub(crate) fn push_shown_moment(
+    made: &mut ByteRecord,
+    moment: Option<Moment>,
+) -> Result<(), AllocError>
     requires { partial_of made.old ≡ [] }
     ensures partial { OnOk result (partial_of made.new ≡ []) }
     ensures fields { OnOk result (fields_of made.new ≡ fields_of made.old ++ shown_moment moment ∷ []) }
@@ -149,7 +169,11 @@ fn push_shown_moment(made: &mut ByteRecord, moment: Option<Moment>) -> Result<()
 }
 
 /// Adds a price.
-fn push_price(alloc: Global, made: &mut ByteRecord, price: Price) -> Result<(), AllocError>
+pub(crate) fn push_price(
+    alloc: Global,
+    made: &mut ByteRecord,
+    price: Price,
+) -> Result<(), AllocError>
     requires { partial_of made.old ≡ [] }
     ensures partial { OnOk result (partial_of made.new ≡ []) }
     ensures fields { OnOk result (fields_of made.new ≡ fields_of made.old ++ price_text price ∷ []) }
@@ -177,7 +201,10 @@ fn rested_fields(
     push_price(alloc, &mut made, order.price)?;
     made.push_field(name_at(participants, order.owner))?;
     made.push_field(order.id.as_slice())?;
-    push_number(&mut made, order.quantity.get())?;
+    push_number(&mut made, order.quantity)?;
+    push_number(&mut made, order.filled)?;
+    push_moment(&mut made, order.at.moment)?;
+    push_number(&mut made, order.at.row)?;
     Ok(made)
 }
 
@@ -191,8 +218,7 @@ fn append_rested_row(
     ensures { OnOk result (text.new.items ≡ text.old.items ++ row_text setup (rested_fields participants.now sheet.now order.now)) }
 {
     let fields = rested_fields(alloc, participants, sheet, order)?;
-    let made = row_bytes(alloc, &fields)?;
-    text.extend_from_slice(&made)
+    append_row(alloc, text, &fields)
 }
 
 fn append_book_heading(
@@ -257,7 +283,7 @@ fn append_book(
 }
 
 /// A moment of a request for prices, on which the answer does not depend.
-fn some_moment() -> Moment
+pub(crate) fn some_moment() -> Moment
     ensures { result ≡ 0 }
 {
     match Moment::of_ms(0) {
@@ -267,7 +293,7 @@ fn some_moment() -> Moment
 }
 
 /// The moment of the last row, if there is one.
-fn last_moment(rows: &[TrailRow]) -> Option<Moment>
+pub(crate) fn last_moment(rows: &[TrailRow]) -> Option<Moment>
     ensures { result ≡ last_moment rows.now }
 {
     match rows.last() {
@@ -276,7 +302,7 @@ fn last_moment(rows: &[TrailRow]) -> Option<Moment>
     }
 }
 
-fn write_text<W: Write>(text: &[u8], writer: &mut W) -> Result<(), BookFault>
+pub(crate) fn write_text<W: Write>(text: &[u8], writer: &mut W) -> Result<(), BookFault>
     ensures written { OnOk result (Appends (W.contents writer.old) (W.contents writer.new) text.now) }
     ensures output { IfErr result (λ fault. fault ≡ Output) }
 {
@@ -314,7 +340,7 @@ fn book_after(
     push_book(
         alloc,
         &mut day.venue,
-        &day.orders,
+        &day.kept.orders,
         sheet.symbol,
         some_moment(),
         &mut orders,
@@ -332,9 +358,9 @@ fn book_after(
 }
 
 /// Prints the book of an instrument after the rows of a trail, with these participants and instruments: every resting
-/// order, bids and then offers, each in price-time priority, with what is left of its quantity, its owner, and the
-/// owner's identifier (11). Above it as lines: the number and the moment of the last row. `NoInstrument` where no
-/// instrument has the symbol. Nothing is written then, nor where an allocation fails.
+/// order, bids and then offers, each in price-time priority, with what is left of its quantity, its owner, the
+/// owner's identifier (11), and where it entered. Above it as lines: the number and the moment of the last row.
+/// `NoInstrument` where no instrument has the symbol. Nothing is written then, nor where an allocation fails.
 pub fn print_book<W: Write>(
     alloc: Global,
     participants: Participants,

@@ -10,7 +10,7 @@ ghost use Rattle.venue_rules.specs.Run.{Message, answer_input};
 ghost use Rattle.row_replay.specs.Asking.{asks, entries_in};
 ghost use Rattle.resting_orders.specs.Resting.{rested_at, rested_in, rested_shown, rested_with};
 
-use crate::noted::EnteredOrder;
+use crate::noted::{EnteredAt, EnteredOrder};
 use fix_dictionary::{Amount, Identifier, Price, Side};
 use participants::Who;
 use row_replay::{asks, entries_in};
@@ -19,18 +19,21 @@ use std::alloc::{AllocError, Global};
 use venue_core::Venue;
 use venue_rules::{Reply, SnapshotEntry};
 
-/// An order that rests: its instrument and terms, what is left of its quantity, its number, its owner and the owner's
-/// identifier (11).
+/// An order that rests: its instrument and terms, what is left of its quantity, its number, its owner, the owner's
+/// identifier (11), and where it entered. Quantity and filled quantity count what was filled under replaced numbers
+/// too.
 #[derive(Clone, Copy)]
 pub struct RestedOrder {
     pub symbol: Identifier,
     pub side: Side,
     pub price: Price,
     pub left: Amount,
-    pub quantity: Amount,
+    pub quantity: u64,
+    pub filled: u64,
     pub number: u64,
     pub owner: Who,
     pub id: Identifier,
+    pub at: EnteredAt,
 }
 
 fn rested_with(symbol: Identifier, entry: &SnapshotEntry, order: &EnteredOrder) -> RestedOrder
@@ -41,10 +44,12 @@ fn rested_with(symbol: Identifier, entry: &SnapshotEntry, order: &EnteredOrder) 
         side: entry.side,
         price: entry.price,
         left: entry.left,
-        quantity: order.quantity,
+        quantity: order.filled_before.get() + order.quantity.get(),
+        filled: order.filled_before.get() + order.quantity.get().saturating_sub(entry.left.get()),
         number: entry.order,
         owner: order.owner,
         id: order.id,
+        at: order.at,
     }
 }
 
