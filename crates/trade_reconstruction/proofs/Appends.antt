@@ -26,9 +26,10 @@ pub ten : (old m1 m2 m3 m4 all o n t x x' f d s u w : List ℕ) → m1 ≡ old +
     → all ≡ old ++ (o ++ (n ++ (t ++ (x' ++ (f ++ (d ++ (s ++ (u ++ w))))))))
 ten old m1 m2 m3 m4 all o n t x x' f d s u w h1 h2 hx h3 h4 last = last ∙ simp (h4, h3, h2, h1, hx, append-nil, append_assoc)
 
--- five texts, of which three as they are known, and three more
-pub eight : (old ma mb m1 m2 m3 all h q q' b n n' s s' p r w : List ℕ) → ma ≡ old ++ (h ++ (q ++ [])) → q ≡ q' → mb ≡ ma ++ (b ++ (n ++ [])) → n ≡ n' → m1 ≡ mb ++ (s ++ []) → s ≡ s' → m2 ≡ m1 ++ p → m3 ≡ m2 ++ r → all ≡ m3 ++ w → all ≡ old ++ (h ++ (q' ++ (b ++ (n' ++ (s' ++ (p ++ (r ++ w)))))))
-eight old ma mb m1 m2 m3 all h q q' b n n' s s' p r w ha hq hb hn h1 hs h2 h3 last = last ∙ simp (h3, h2, h1, hb, ha, hq, hn, hs, append-nil, append_assoc)
+-- five texts, of which three as they are known, and four more
+pub eight : (old ma mb m1 m2 m3 m4 all h q q' b n n' s s' p r t w : List ℕ) → ma ≡ old ++ (h ++ (q ++ [])) → q ≡ q' → mb ≡ ma ++ (b ++ (n ++ [])) → n ≡ n' → m1 ≡ mb ++ (s ++ []) → s ≡ s' → m2 ≡ m1 ++ p → m3 ≡ m2 ++ r → m4 ≡ m3 ++ t → all ≡ m4 ++ w
+    → all ≡ old ++ (h ++ (q' ++ (b ++ (n' ++ (s' ++ (p ++ (r ++ (t ++ w))))))))
+eight old ma mb m1 m2 m3 m4 all h q q' b n n' s s' p r t w ha hq hb hn h1 hs h2 h3 h4 last = last ∙ simp (h4, h3, h2, h1, hb, ha, hq, hn, hs, append-nil, append_assoc)
 
 -- two texts
 pub both : (old one all a b : List ℕ) → one ≡ old ++ a → all ≡ one ++ b → all ≡ old ++ (a ++ b)

@@ -172,14 +172,14 @@ one_of [] many = absurd (omega (arith, many))
 one_of (to ∷ others) many = (to, others, refl)
 
 -- the evidence for a room trade is that of the room of this request
-room_evidence : (m : Market) (words : List EvidenceEvent) (noted : List ℕ) (t : TradeFact) (room : ℕ) (w : EvidenceEvent) (a : Asked) → t.room ≡ Some room → find (is_sought (Request room)) words ≡ Some w → w.said ≡ said.Asked a
-    → evidence m words noted t ≡ (request_line m.participants w a ++ (three_line m.participants words w a ++ flat_map (room_word m.participants words a) words)) ++ (noted ++ last_lines m t (trade_row words t))
+room_evidence : (m : Market) (rs : List TrailRow) (words : List EvidenceEvent) (noted : List ℕ) (t : TradeFact) (room : ℕ) (w : EvidenceEvent) (a : Asked) → t.room ≡ Some room → find (is_sought (Request room)) words ≡ Some w → w.said ≡ said.Asked a
+    → evidence m rs words noted t ≡ (request_line rs m.participants w a ++ (three_line m.participants words w a ++ flat_map (room_word rs m.participants words a) words)) ++ (noted ++ last_lines m t (trade_row words t))
 unfolding evidence
-room_evidence m words noted t room w a placed found says =
+room_evidence m rs words noted t room w a placed found says =
     let file = m.participants in
     let row = trade_row words t in
-    ap (λ (o : Option ℕ). lines_in file words t.number o row ++ (noted ++ last_lines m t row)) placed
-    ∙ ap (λ (l : List ℕ). l ++ (noted ++ last_lines m t row)) (ap (lines_of_room file words) found ∙ ap (room_found_said file words w) says)
+    ap (λ (o : Option ℕ). lines_in rs file words t.number o row ++ (noted ++ last_lines m t row)) placed
+    ∙ ap (λ (l : List ℕ). l ++ (noted ++ last_lines m t row)) (ap (lines_of_room rs file words) found ∙ ap (room_found_said rs file words w) says)
 
 -- the line of three recipients names these three
 named_three : (m : Market) (words : List EvidenceEvent) (w : EvidenceEvent) (a : Asked) (requester room : ℕ) (rs : List ℕ) (x : Three) → a.requester ≡ requester → a.room ≡ room → recipients_of room words ≡ rs → three_of m.participants requester rs ≡ Some x
@@ -213,7 +213,7 @@ has_request m rs is number t emitted p i places many there_are placed =
       found = w.1;
       says = a.1;
       here = ap (λ (y : HeardAsked). y.room) a.2;
-      lines = λ noted. room_evidence m words noted t room w.0 a.0 placed w.1 a.1;
+      lines = λ noted. room_evidence m rs words noted t room w.0 a.0 placed w.1 a.1;
       opened = p.2;
       row = p.0;
       input = p.1;

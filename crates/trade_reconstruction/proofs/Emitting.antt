@@ -28,13 +28,13 @@ are_of : EmitTheirInputs → (rs : List TrailRow) (items : List Input) → AreEm
 are_of law rs items emitted = record { emitted = emitted; of_run = λ is same fits. law rs is items same fits emitted }
 
 pub trade_emitted : EmitTheirInputs → RoomTradesHaveRequests → BookTradesHaveOrders → TradesHaveRows → (m : Market) (rs : List TrailRow) (s : State) (words : List EvidenceEvent) (notes : List QuoteNote) (number : ℕ) (trade : TradeFact) (text : List ℕ) → IsHeard m number rs s words notes
-    → ((h : History) → IsHistory s h → Some trade ≡ trade_numbered h number) → text ≡ evidence s.market words (note_lines words notes trade) trade → IsEvidence m rs number text
+    → ((h : History) → IsHistory s h → Some trade ≡ trade_numbered h number) → text ≡ evidence s.market rs words (note_lines words notes trade) trade → IsEvidence m rs number text
 trade_emitted law requests orders rows_made m rs s words notes number trade text heard numbered is = let found = sym (numbered (run m heard.items).history heard.stands.history) in record {
   items = heard.items;
   emitted = are_of law rs heard.items heard.emitted;
   trade = trade;
   numbered = found;
-  is = is ∙ (λ k. evidence (heard.stands.market k) (heard.said k) (note_lines (heard.said k) (heard.noted k) trade) trade);
+  is = is ∙ (λ k. evidence (heard.stands.market k) rs (heard.said k) (note_lines (heard.said k) (heard.noted k) trade) trade);
   made = rows_made m rs heard.items number trade heard.emitted found;
   requested = λ room placed. requests m rs heard.items number room trade heard.emitted found placed;
   ordered = λ placed. orders m rs heard.items number trade heard.emitted found placed;

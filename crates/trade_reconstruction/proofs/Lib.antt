@@ -15,3 +15,4 @@ pub mod Fates
 pub mod Quoting
 pub mod Picturing
 pub mod Asking
+pub mod Messages

@@ -480,19 +480,19 @@ BestOrdersLaw = (m : Market) (is : List Input) → BestOrderTrades (run m is).hi
 abbrev pub PlacesLaw : Type 0
 PlacesLaw = (m : Market) (is : List Input) → NumbersArePlaces (run m is).history.facts
 
-lines_of : (m : Market) (words : List EvidenceEvent) (noted : List ℕ) (t : TradeFact) (number old new : ℕ) (resting entering : OrderEntry) → t.number ≡ number → t.room ≡ None → row_of (find (is_sought (Fill number)) words) ≡ entering.row
+lines_of : (m : Market) (rs : List TrailRow) (words : List EvidenceEvent) (noted : List ℕ) (t : TradeFact) (number old new : ℕ) (resting entering : OrderEntry) → t.number ≡ number → t.room ≡ None → row_of (find (is_sought (Fill number)) words) ≡ entering.row
     → order_of (find (is_sought (Fill number)) words) ≡ Some new → order_of (find (is_sought (OtherFill number new)) words) ≡ Some old → entry_of words (find (is_sought (Order old)) words) ≡ Some resting
     → entry_of words (find (is_sought (Order new)) words) ≡ Some entering
-    → evidence m words noted t ≡ both_lines m.participants words (record { resting = resting; entering = entering; row = entering.row }) ++ (noted ++ last_lines m t entering.row)
+    → evidence m rs words noted t ≡ both_lines rs m.participants words (record { resting = resting; entering = entering; row = entering.row }) ++ (noted ++ last_lines m t entering.row)
 unfolding evidence orders_lines
-lines_of m words noted t number old new resting entering numbered placed at first second found_old found_new =
+lines_of m rs words noted t number old new resting entering numbered placed at first second found_old found_new =
     let file = m.participants in
     let row : trade_row words t ≡ entering.row = (λ j. row_in words (numbered j) (placed j)) ∙ at in
-    (λ j. lines_in file words (numbered j) (placed j) (row j) ++ (noted ++ last_lines m t (row j)))
+    (λ j. lines_in rs file words (numbered j) (placed j) (row j) ++ (noted ++ last_lines m t (row j)))
     ∙ ap (λ (l : List ℕ). l ++ (noted ++ last_lines m t entering.row))
-    (ap (λ (o : Option ℕ). filled_of file words number o entering.row) first
-    ∙ (ap (λ (o : Option ℕ). other_of file words new o entering.row) second
-    ∙ (λ j. two_orders file words (found_old j) (found_new j) entering.row)))
+    (ap (λ (o : Option ℕ). filled_of rs file words number o entering.row) first
+    ∙ (ap (λ (o : Option ℕ). other_of rs file words new o entering.row) second
+    ∙ (λ j. two_orders rs file words (found_old j) (found_new j) entering.row)))
 
 pub book_trades_have_orders : BestOrdersLaw → PlacesLaw → (m : Market) (rs : List TrailRow) (is : List Input) (number : ℕ) (t : TradeFact) → AreEmitted rs is
     → trade_numbered (run m is).history number ≡ Some t → t.room ≡ None → HasOrders m rs is (words_emitted m number rs is) number t
@@ -560,7 +560,7 @@ book_trades_have_orders best numbers m rs is number t emitted numbered placed =
         };
         lines = stood.1 ∙ ap (λ (e : Entry). flat_map (standing_line words) (stood_words q.0.0.n q.0.0.moment (met_emitted m e) (prices_of m (run m stood.0.earlier).history (symbol_of m.instruments e.order.instrument)))) (met_one ∙ sym rested.2);
       };
-      lines = λ noted. lines_of m words noted t number old new found_old.entry found_new.entry (ap (λ (y : TradeFact). y.number) (sym read)) placed
+      lines = λ noted. lines_of m rs words noted t number old new found_old.entry found_new.entry (ap (λ (y : TradeFact). y.number) (sym read)) placed
           (ap row_of first.1 ∙ (by_first.1 ∙ (ap (λ (p : TrailRow × Input × Entry). p.0.n) together ∙ sym found_new.at_row))) (ap order_of first.1 ∙ by_first.0) (ap order_of second.1 ∙ by_second.0)
           (ap (λ (n : ℕ). entry_of words (find (is_sought (Order n)) words)) (sym old_is) ∙ found_old.found) (ap (λ (n : ℕ). entry_of words (find (is_sought (Order n)) words)) (sym new_is) ∙ found_new.found);
     }

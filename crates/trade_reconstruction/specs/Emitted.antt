@@ -99,7 +99,7 @@ pub record IsEvidence (m : Market) (rs : List TrailRow) (number : ℕ) (text : L
   pub emitted : AreOf rs items
   pub trade : TradeFact
   pub numbered : trade_numbered (run m items).history number ≡ Some trade
-  pub is : text ≡ evidence m (words_emitted m number rs items) (note_lines (words_emitted m number rs items) (notes_emitted m number rs items) trade) trade
+  pub is : text ≡ evidence m rs (words_emitted m number rs items) (note_lines (words_emitted m number rs items) (notes_emitted m number rs items) trade) trade
   pub made : HasRow m rs items (words_emitted m number rs items) number trade
   pub requested : (room : ℕ) → trade.room ≡ Some room → HasRequest m rs items (words_emitted m number rs items) trade room
   pub ordered : trade.room ≡ None → HasOrders m rs items (words_emitted m number rs items) number trade

@@ -50,7 +50,7 @@ pub record HasRequest (m : Market) (rs : List TrailRow) (is : List Input) (words
   pub found : find (is_sought (Request room)) words ≡ Some word
   pub says : word.said ≡ said.Asked asked
   pub here : asked.room ≡ room
-  pub lines : (noted : List ℕ) → evidence m words noted t ≡ (request_line m.participants word asked ++ (three_line m.participants words word asked ++ flat_map (room_word m.participants words asked) words)) ++ (noted ++ last_lines m t (trade_row words t))
+  pub lines : (noted : List ℕ) → evidence m rs words noted t ≡ (request_line rs m.participants word asked ++ (three_line m.participants words word asked ++ flat_map (room_word rs m.participants words asked) words)) ++ (noted ++ last_lines m t (trade_row words t))
   pub opened : Room
   pub row : TrailRow
   pub input : Input
@@ -169,5 +169,5 @@ pub record HasOrders (m : Market) (rs : List TrailRow) (is : List Input) (words 
   pub emits_rested : EmitsOrder m rs is words rested resting
   pub emits_entered : EmitsOrder m rs is words entered entering
   pub linked : entries_linked m.participants resting entering ≡ is_linked m rested.order entered.order
-  pub lines : (noted : List ℕ) → evidence m words noted t ≡ both_lines m.participants words (record { resting = resting; entering = entering; row = entering.row }) ++ (noted ++ last_lines m t entering.row)
+  pub lines : (noted : List ℕ) → evidence m rs words noted t ≡ both_lines rs m.participants words (record { resting = resting; entering = entering; row = entering.row }) ++ (noted ++ last_lines m t entering.row)
   pub stood : HasStanding m rs is words trade rested

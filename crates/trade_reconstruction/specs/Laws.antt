@@ -23,6 +23,7 @@ use Rattle.trade_reconstruction.specs.Found.{HasOrders, HasRequest, HasRow}
 use Rattle.trade_reconstruction.specs.EventKinds.{shown_word, word}
 use Rattle.trade_reconstruction.specs.QuoteNotes.{fate_at, fate_by}
 use Rattle.trade_reconstruction.specs.Emitted.{trade_numbered, words_emitted}
+use Rattle.trade_reconstruction.specs.Lines.{sent_at, sent_in}
 
 -- the events of a day have the request of each room trade
 abbrev pub RoomTradesHaveRequests : Type 0
@@ -92,3 +93,11 @@ RestingOrdersAreShown = (m : Market) (rs : List TrailRow) (is : List Input) (num
 -- each trade is reported at the row at which it was made
 abbrev pub TradesHaveRows : Type 0
 TradesHaveRows = (m : Market) (rs : List TrailRow) (is : List Input) (number : ℕ) (t : TradeFact) → AreEmitted rs is → trade_numbered (run m is).history number ≡ Some t → HasRow m rs is (words_emitted m number rs is) number t
+
+-- no two rows have one number
+abbrev pub AreDistinct : List TrailRow → Type 0
+AreDistinct rs = (j k : ℕ) (a b : TrailRow) → slice_get rs j ≡ Some a → slice_get rs k ≡ Some b → a.n ≡ b.n → j ≡ k
+
+-- where no two rows have one number, the message in a line is that of its row
+abbrev pub MessagesAreOfRows : Type 0
+MessagesAreOfRows = (rs : List TrailRow) (k : ℕ) (row : TrailRow) → AreDistinct rs → slice_get rs k ≡ Some row → sent_at rs row.n ≡ sent_in row

@@ -22,6 +22,7 @@ use Rattle.instruments.specs.Listing.{delay_of, symbol_of}
 use Rattle.venue_rules.specs.Book.{is_same_link}
 use Rattle.venue_rules.specs.Market.{Market}
 use Rattle.venue_rules.specs.declared.trail.TradeFact.{TradeFact}
+use Rattle.venue_rules.specs.declared.trail.TrailRow.{TrailRow}
 use Rattle.trade_blotter.specs.Line.{deal}
 use Rattle.trade_reconstruction.specs.declared.unrelated.Three.{Three}
 use Rattle.trade_reconstruction.specs.Unrelated.{three_of}
@@ -41,6 +42,7 @@ use Rattle.trade_reconstruction.specs.declared.evidence_event.Entered.{Entered}
 use Rattle.trade_reconstruction.specs.declared.evidence_event.Linked.{Linked}
 use Rattle.trade_reconstruction.specs.declared.evidence_event.RestedBefore.{RestedBefore}
 use Rattle.trade_reconstruction.specs.declared.evidence_event.RestedCount.{RestedCount}
+use Rattle.trade_reconstruction.specs.declared.sent.Sent.{Sent}
 
 -- Tests of events.
 
@@ -164,6 +166,33 @@ row_of (Some w) = w.row
 abbrev pub row_text : ℕ → List ℕ
 row_text row = codes " row " ++ (decimal row ++ codes "\n")
 
+-- the message at the row with a number: its sender's own number of it, and the era; a tick has none
+
+abbrev pub is_row : ℕ → TrailRow → Bool
+is_row row r = r.n == row
+
+abbrev pub sent_in : TrailRow → Option Sent
+sent_in r = if r.who == 0 then None else Some (record { era = r.era; number = r.number })
+
+abbrev pub sent_of : Option TrailRow → Option Sent
+sent_of None = None
+sent_of (Some r) = sent_in r
+
+abbrev pub sent_at : List TrailRow → ℕ → Option Sent
+sent_at rs row = sent_of (find (is_row row) rs)
+
+-- the first era is not named
+abbrev pub era_text : ℕ → List ℕ
+era_text era = if era == 1 then [] else codes " of era " ++ decimal era
+
+abbrev pub sent_text : List ℕ → Option Sent → List ℕ
+sent_text name None = []
+sent_text name (Some x) = codes ", in message " ++ (decimal x.number ++ (era_text x.era ++ (codes " of " ++ name)))
+
+-- the message of somebody with this name at a row, and the row, which end a line
+abbrev pub sent_row : List TrailRow → List ℕ → ℕ → List ℕ
+sent_row rs name row = sent_text name (sent_at rs row) ++ row_text row
+
 abbrev pub at_text : ℕ → List ℕ
 at_text t = codes " at " ++ utc_text t
 
@@ -182,17 +211,17 @@ asked_side (Some Buy) = codes " to buy "
 asked_side (Some Sell) = codes " to sell "
 
 -- somebody's own identifier of an order, a room or a quote
-abbrev pub id_line : List ℕ → ℕ → List ℕ → List ℕ → ℕ → List ℕ
-id_line kind number said id row = kind ++ (decimal number ++ (said ++ (id ++ row_text row)))
+abbrev pub id_text : List ℕ → ℕ → List ℕ → List ℕ → List ℕ
+id_text kind number said id = kind ++ (decimal number ++ (said ++ id))
 
 abbrev pub request_terms : ParticipantFile → EvidenceEvent → Asked → List ℕ
 request_terms file w a = codes "request in room R" ++ (decimal a.room ++ (codes " of " ++ (name_of file a.requester ++ (asked_side a.side ++ (decimal a.quantity ++ (codes " " ++ (a.symbol ++ (at_text w.moment ++ row_text w.row))))))))
 
-abbrev pub request_id_line : EvidenceEvent → Asked → List ℕ
-request_id_line w a = id_line (codes "R") a.room (codes " has the QuoteReqID ") a.request w.row
+abbrev pub request_id_line : List TrailRow → ParticipantFile → EvidenceEvent → Asked → List ℕ
+request_id_line rs file w a = id_text (codes "R") a.room (codes " has the QuoteReqID ") a.request ++ sent_row rs (name_of file a.requester) w.row
 
-abbrev pub request_line : ParticipantFile → EvidenceEvent → Asked → List ℕ
-request_line file w a = request_terms file w a ++ request_id_line w a
+abbrev pub request_line : List TrailRow → ParticipantFile → EvidenceEvent → Asked → List ℕ
+request_line rs file w a = request_terms file w a ++ request_id_line rs file w a
 
 -- the relation of a recipient to another recipient of the room who comes before it in the file
 abbrev pub other_line : ParticipantFile → ℕ → ℕ → ℕ → EvidenceEvent → List ℕ
@@ -222,12 +251,12 @@ abbrev pub quote_terms : EvidenceEvent → Quoted → List ℕ
 quote_terms w q = codes "quote Q" ++ (decimal q.quote ++ (codes " of " ++ (q.maker ++ (codes " bid " ++ (price_or_none q.bid ++ (codes " offer " ++ (price_or_none q.offer
     ++ (codes " until " ++ (utc_text q.end ++ (at_text w.moment ++ row_text w.row))))))))))
 
-abbrev pub quote_id_line : EvidenceEvent → Quoted → Option (List ℕ) → List ℕ
-quote_id_line w q None = []
-quote_id_line w q (Some id) = id_line (codes "Q") q.quote (codes " has the QuoteID ") id w.row
+abbrev pub quote_id_line : List TrailRow → EvidenceEvent → Quoted → Option (List ℕ) → List ℕ
+quote_id_line rs w q None = []
+quote_id_line rs w q (Some id) = id_text (codes "Q") q.quote (codes " has the QuoteID ") id ++ sent_row rs q.maker w.row
 
-abbrev pub quote_line : EvidenceEvent → Quoted → List ℕ
-quote_line w q = quote_terms w q ++ quote_id_line w q q.id
+abbrev pub quote_line : List TrailRow → EvidenceEvent → Quoted → List ℕ
+quote_line rs w q = quote_terms w q ++ quote_id_line rs w q q.id
 
 abbrev pub hit_side : Side → List ℕ
 hit_side Buy = codes " to buy at "
@@ -238,28 +267,28 @@ response_text None = []
 response_text (Some id) = codes " with the QuoteRespID " ++ id
 
 -- who hit which quote, on which side and at what price
-abbrev pub hit_line : ParticipantFile → EvidenceEvent → HitSaid → List ℕ
-hit_line file w x = codes "hit of quote " ++ (x.quote ++ (codes " by " ++ (name_of file w.to ++ (hit_side x.side ++ (price_text x.price ++ (response_text x.response ++ (at_text w.moment ++ row_text w.row)))))))
+abbrev pub hit_line : List TrailRow → ParticipantFile → EvidenceEvent → HitSaid → List ℕ
+hit_line rs file w x = codes "hit of quote " ++ (x.quote ++ (codes " by " ++ (name_of file w.to ++ (hit_side x.side ++ (price_text x.price ++ (response_text x.response ++ (at_text w.moment ++ sent_row rs (name_of file w.to) w.row)))))))
 
 -- to the requester, on its request
 abbrev pub is_to : Asked → ℕ → List ℕ → Bool
 is_to a to request = to == a.requester && bytes_eq request a.request
 
 -- the lines of an event about the room of a request
-abbrev pub room_said : ParticipantFile → List EvidenceEvent → Asked → EvidenceEvent → EventKind → List ℕ
-room_said file words a w (said.Asked b) = if b.room == a.room then asked_lines file words w b else []
-room_said file words a w (said.SnapshotSent p) = if is_to a w.to p.request then pictured_line w p else []
-room_said file words a w (said.Shown s) = if is_to a w.to s.request then shown_line w s else []
-room_said file words a w (said.Quoted q) = if is_to a w.to q.request then quote_line w q else []
-room_said file words a w (said.Hit x) = if x.room == a.room && w.to == a.requester then hit_line file w x else []
-room_said file words a w (said.Entered e) = []
-room_said file words a w (said.Held x) = []
-room_said file words a w (said.Filled f) = []
-room_said file words a w (said.RestedBefore x) = []
-room_said file words a w (said.RestedCount x) = []
+abbrev pub room_said : List TrailRow → ParticipantFile → List EvidenceEvent → Asked → EvidenceEvent → EventKind → List ℕ
+room_said rs file words a w (said.Asked b) = if b.room == a.room then asked_lines file words w b else []
+room_said rs file words a w (said.SnapshotSent p) = if is_to a w.to p.request then pictured_line w p else []
+room_said rs file words a w (said.Shown s) = if is_to a w.to s.request then shown_line w s else []
+room_said rs file words a w (said.Quoted q) = if is_to a w.to q.request then quote_line rs w q else []
+room_said rs file words a w (said.Hit x) = if x.room == a.room && w.to == a.requester then hit_line rs file w x else []
+room_said rs file words a w (said.Entered e) = []
+room_said rs file words a w (said.Held x) = []
+room_said rs file words a w (said.Filled f) = []
+room_said rs file words a w (said.RestedBefore x) = []
+room_said rs file words a w (said.RestedCount x) = []
 
-unfoldable pub room_word : ParticipantFile → List EvidenceEvent → Asked → EvidenceEvent → List ℕ
-room_word file words a w = room_said file words a w w.said
+unfoldable pub room_word : List TrailRow → ParticipantFile → List EvidenceEvent → Asked → EvidenceEvent → List ℕ
+room_word rs file words a w = room_said rs file words a w w.said
 
 -- the recipients of a room's request, in the order in which they were asked
 
@@ -281,20 +310,20 @@ three_if file requester (Some x) row = three_text file requester x row
 abbrev pub three_line : ParticipantFile → List EvidenceEvent → EvidenceEvent → Asked → List ℕ
 three_line file words w a = three_if file a.requester (three_of file a.requester (recipients_of a.room words)) w.row
 
-abbrev pub room_found_said : ParticipantFile → List EvidenceEvent → EvidenceEvent → EventKind → List ℕ
-room_found_said file words w (said.Asked a) = request_line file w a ++ (three_line file words w a ++ flat_map (room_word file words a) words)
-room_found_said file words w _ = []
+abbrev pub room_found_said : List TrailRow → ParticipantFile → List EvidenceEvent → EvidenceEvent → EventKind → List ℕ
+room_found_said rs file words w (said.Asked a) = request_line rs file w a ++ (three_line file words w a ++ flat_map (room_word rs file words a) words)
+room_found_said rs file words w _ = []
 
-abbrev pub room_found : ParticipantFile → List EvidenceEvent → EvidenceEvent → List ℕ
-room_found file words w = room_found_said file words w w.said
+abbrev pub room_found : List TrailRow → ParticipantFile → List EvidenceEvent → EvidenceEvent → List ℕ
+room_found rs file words w = room_found_said rs file words w w.said
 
-abbrev pub room_of : ParticipantFile → List EvidenceEvent → Option EvidenceEvent → List ℕ
-room_of file words None = []
-room_of file words (Some w) = room_found file words w
+abbrev pub room_of : List TrailRow → ParticipantFile → List EvidenceEvent → Option EvidenceEvent → List ℕ
+room_of rs file words None = []
+room_of rs file words (Some w) = room_found rs file words w
 
 -- the request, and then row by row the recipients, what was shown and quoted, and the hit
-abbrev pub room_lines : ParticipantFile → List EvidenceEvent → ℕ → List ℕ
-room_lines file words room = room_of file words (find (is_sought (Request room)) words)
+abbrev pub room_lines : List TrailRow → ParticipantFile → List EvidenceEvent → ℕ → List ℕ
+room_lines rs file words room = room_of rs file words (find (is_sought (Request room)) words)
 
 -- In the book.
 
@@ -338,11 +367,11 @@ abbrev pub order_terms : ParticipantFile → OrderEntry → List ℕ
 order_terms file x = codes "order O" ++ (decimal x.entered.order ++ (codes " of " ++ (name_of file x.to ++ (side_text x.entered.side ++ (decimal x.entered.quantity ++ (codes " " ++ (x.entered.symbol
     ++ (price_if x.entered.price ++ (at_text x.moment ++ row_text x.row)))))))))
 
-abbrev pub order_id_line : OrderEntry → List ℕ
-order_id_line x = id_line (codes "O") x.entered.order (codes " has the ClOrdID ") x.entered.id x.row
+abbrev pub order_id_line : List TrailRow → ParticipantFile → OrderEntry → List ℕ
+order_id_line rs file x = id_text (codes "O") x.entered.order (codes " has the ClOrdID ") x.entered.id ++ sent_row rs (name_of file x.to) x.row
 
-abbrev pub order_line : ParticipantFile → OrderEntry → List ℕ
-order_line file x = order_terms file x ++ order_id_line x
+abbrev pub order_line : List TrailRow → ParticipantFile → OrderEntry → List ℕ
+order_line rs file x = order_terms file x ++ order_id_line rs file x
 
 -- the line of an order with an identifier
 abbrev pub named_line : ℕ → List ℕ → List ℕ → ℕ → List ℕ
@@ -358,23 +387,23 @@ abbrev pub original_line : ℕ → Option (List ℕ) → ℕ → List ℕ
 original_line order None row = []
 original_line order (Some id) row = named_line order (codes " takes the place of the order with the identifier ") id row
 
-abbrev pub held_said : ℕ → EvidenceEvent → EventKind → List ℕ
-held_said order w (said.Held x) = codes "O" ++ (decimal order ++ (codes " was held as the second side of cross " ++ (x.cross ++ (codes " for " ++ (decimal x.delay ++ (codes " ms from " ++ (utc_text w.moment ++ row_text w.row)))))))
-held_said order w _ = []
+abbrev pub held_said : List TrailRow → ParticipantFile → ℕ → EvidenceEvent → EventKind → List ℕ
+held_said rs file order w (said.Held x) = codes "O" ++ (decimal order ++ (codes " was held as the second side of cross " ++ (x.cross ++ (codes " for " ++ (decimal x.delay ++ (codes " ms from " ++ (utc_text w.moment ++ sent_row rs (name_of file w.to) w.row)))))))
+held_said rs file order w _ = []
 
-abbrev pub held_line : ℕ → EvidenceEvent → List ℕ
-held_line order w = held_said order w w.said
+abbrev pub held_line : List TrailRow → ParticipantFile → ℕ → EvidenceEvent → List ℕ
+held_line rs file order w = held_said rs file order w w.said
 
-abbrev pub hold_of : ℕ → Option EvidenceEvent → List ℕ
-hold_of order None = []
-hold_of order (Some hold) = held_line order hold
+abbrev pub hold_of : List TrailRow → ParticipantFile → ℕ → Option EvidenceEvent → List ℕ
+hold_of rs file order None = []
+hold_of rs file order (Some hold) = held_line rs file order hold
 
 -- what enters at a tick was held before
-abbrev pub hold_lines : List EvidenceEvent → OrderEntry → List ℕ
-hold_lines words x = if x.entered.at_tick then hold_of x.entered.order (find (is_sought (HeldSide x.to x.entered.id)) words) else []
+abbrev pub hold_lines : List TrailRow → ParticipantFile → List EvidenceEvent → OrderEntry → List ℕ
+hold_lines rs file words x = if x.entered.at_tick then hold_of rs file x.entered.order (find (is_sought (HeldSide x.to x.entered.id)) words) else []
 
-unfoldable pub entry_lines : ParticipantFile → List EvidenceEvent → OrderEntry → List ℕ
-entry_lines file words x = order_line file x ++ (link_line x.entered.order x.entered.link ++ (original_line x.entered.order x.entered.original x.row ++ hold_lines words x))
+unfoldable pub entry_lines : List TrailRow → ParticipantFile → List EvidenceEvent → OrderEntry → List ℕ
+entry_lines rs file words x = order_line rs file x ++ (link_line x.entered.order x.entered.link ++ (original_line x.entered.order x.entered.original x.row ++ hold_lines rs file words x))
 
 abbrev pub apart_line : ℕ → ℕ → ℕ → List ℕ
 apart_line earlier later row = codes "entered " ++ (decimal (later - earlier) ++ (codes " ms apart" ++ row_text row))
@@ -429,51 +458,51 @@ standing_line words w = standing_said words w w.said
 abbrev pub standing_lines : List EvidenceEvent → List ℕ
 standing_lines words = flat_map (standing_line words) words
 
-abbrev pub sides_said : Both → EvidenceEvent → EventKind → List ℕ
-sides_said b w (said.Held x) = codes "O" ++ (decimal b.resting.entered.order ++ (codes " and O" ++ (decimal b.entering.entered.order ++ (codes " are the two sides of cross " ++ (x.cross ++ row_text w.row)))))
-sides_said b w _ = []
+abbrev pub sides_said : List TrailRow → ParticipantFile → Both → EvidenceEvent → EventKind → List ℕ
+sides_said rs file b w (said.Held x) = codes "O" ++ (decimal b.resting.entered.order ++ (codes " and O" ++ (decimal b.entering.entered.order ++ (codes " are the two sides of cross " ++ (x.cross ++ sent_row rs (name_of file w.to) w.row)))))
+sides_said rs file b w _ = []
 
 -- both orders, by the event at which the second was held
-abbrev pub sides_line : Both → EvidenceEvent → List ℕ
-sides_line b w = sides_said b w w.said
+abbrev pub sides_line : List TrailRow → ParticipantFile → Both → EvidenceEvent → List ℕ
+sides_line rs file b w = sides_said rs file b w w.said
 
 -- the first side of a cross entered at the row of its message, at which the second side was held
-abbrev pub sides_of : Both → Option EvidenceEvent → List ℕ
-sides_of b None = []
-sides_of b (Some hold) = if hold.row == b.resting.row then sides_line b hold else []
+abbrev pub sides_of : List TrailRow → ParticipantFile → Both → Option EvidenceEvent → List ℕ
+sides_of rs file b None = []
+sides_of rs file b (Some hold) = if hold.row == b.resting.row then sides_line rs file b hold else []
 
 -- the line of two orders that are the sides of one cross
-abbrev pub sides_lines : List EvidenceEvent → Both → List ℕ
-sides_lines words b = if b.entering.entered.at_tick then sides_of b (find (is_sought (HeldSide b.entering.to b.entering.entered.id)) words) else []
+abbrev pub sides_lines : List TrailRow → ParticipantFile → List EvidenceEvent → Both → List ℕ
+sides_lines rs file words b = if b.entering.entered.at_tick then sides_of rs file b (find (is_sought (HeldSide b.entering.to b.entering.entered.id)) words) else []
 
 -- of both orders together
-unfoldable pub together_lines : ParticipantFile → List EvidenceEvent → Both → List ℕ
-together_lines file words b =
-    standing_lines words ++ (pair_line file b.resting.to b.entering.to b.row ++ (sides_lines words b ++ (linked_line file b ++ apart_line b.resting.moment b.entering.moment b.row)))
+unfoldable pub together_lines : List TrailRow → ParticipantFile → List EvidenceEvent → Both → List ℕ
+together_lines rs file words b =
+    standing_lines words ++ (pair_line file b.resting.to b.entering.to b.row ++ (sides_lines rs file words b ++ (linked_line file b ++ apart_line b.resting.moment b.entering.moment b.row)))
 
 -- the resting order and the entering one
-abbrev pub both_lines : ParticipantFile → List EvidenceEvent → Both → List ℕ
-both_lines file words b = entry_lines file words b.resting ++ (entry_lines file words b.entering ++ together_lines file words b)
+abbrev pub both_lines : List TrailRow → ParticipantFile → List EvidenceEvent → Both → List ℕ
+both_lines rs file words b = entry_lines rs file words b.resting ++ (entry_lines rs file words b.entering ++ together_lines rs file words b)
 
-abbrev pub two_orders : ParticipantFile → List EvidenceEvent → Option OrderEntry → Option OrderEntry → ℕ → List ℕ
-two_orders file words None entering row = []
-two_orders file words (Some resting) None row = []
-two_orders file words (Some resting) (Some entering) row = both_lines file words (record { resting = resting; entering = entering; row = row })
+abbrev pub two_orders : List TrailRow → ParticipantFile → List EvidenceEvent → Option OrderEntry → Option OrderEntry → ℕ → List ℕ
+two_orders rs file words None entering row = []
+two_orders rs file words (Some resting) None row = []
+two_orders rs file words (Some resting) (Some entering) row = both_lines rs file words (record { resting = resting; entering = entering; row = row })
 
-unfoldable pub orders_lines : ParticipantFile → List EvidenceEvent → ℕ → ℕ → ℕ → List ℕ
-orders_lines file words resting entering row = two_orders file words (entry_of words (find (is_sought (Order resting)) words)) (entry_of words (find (is_sought (Order entering)) words)) row
+unfoldable pub orders_lines : List TrailRow → ParticipantFile → List EvidenceEvent → ℕ → ℕ → ℕ → List ℕ
+orders_lines rs file words resting entering row = two_orders rs file words (entry_of words (find (is_sought (Order resting)) words)) (entry_of words (find (is_sought (Order entering)) words)) row
 
-abbrev pub other_of : ParticipantFile → List EvidenceEvent → ℕ → Option ℕ → ℕ → List ℕ
-other_of file words entering None row = []
-other_of file words entering (Some resting) row = orders_lines file words resting entering row
+abbrev pub other_of : List TrailRow → ParticipantFile → List EvidenceEvent → ℕ → Option ℕ → ℕ → List ℕ
+other_of rs file words entering None row = []
+other_of rs file words entering (Some resting) row = orders_lines rs file words resting entering row
 
-abbrev pub filled_of : ParticipantFile → List EvidenceEvent → ℕ → Option ℕ → ℕ → List ℕ
-filled_of file words trade None row = []
-filled_of file words trade (Some entering) row = other_of file words entering (order_of (find (is_sought (OtherFill trade entering)) words)) row
+abbrev pub filled_of : List TrailRow → ParticipantFile → List EvidenceEvent → ℕ → Option ℕ → ℕ → List ℕ
+filled_of rs file words trade None row = []
+filled_of rs file words trade (Some entering) row = other_of rs file words entering (order_of (find (is_sought (OtherFill trade entering)) words)) row
 
 -- of a fill the entering order's report comes first
-abbrev pub book_lines : ParticipantFile → List EvidenceEvent → ℕ → ℕ → List ℕ
-book_lines file words trade row = filled_of file words trade (order_of (find (is_sought (Fill trade)) words)) row
+abbrev pub book_lines : List TrailRow → ParticipantFile → List EvidenceEvent → ℕ → ℕ → List ℕ
+book_lines rs file words trade row = filled_of rs file words trade (order_of (find (is_sought (Fill trade)) words)) row
 
 -- The whole.
 
@@ -485,12 +514,12 @@ row_in words trade (Some room) = row_of (find (is_sought (Hit trade)) words)
 abbrev pub trade_row : List EvidenceEvent → TradeFact → ℕ
 trade_row words t = row_in words t.number t.room
 
-abbrev pub lines_in : ParticipantFile → List EvidenceEvent → ℕ → Option ℕ → ℕ → List ℕ
-lines_in file words trade None row = book_lines file words trade row
-lines_in file words trade (Some room) row = room_lines file words room
+abbrev pub lines_in : List TrailRow → ParticipantFile → List EvidenceEvent → ℕ → Option ℕ → ℕ → List ℕ
+lines_in rs file words trade None row = book_lines rs file words trade row
+lines_in rs file words trade (Some room) row = room_lines rs file words room
 
-abbrev pub place_lines : ParticipantFile → List EvidenceEvent → TradeFact → ℕ → List ℕ
-place_lines file words t row = lines_in file words t.number t.room row
+abbrev pub place_lines : List TrailRow → ParticipantFile → List EvidenceEvent → TradeFact → ℕ → List ℕ
+place_lines rs file words t row = lines_in rs file words t.number t.room row
 
 -- the delay of an instrument: how long before the trade a linked order has to have entered, at least
 abbrev pub delay_line : List Instrument → TradeFact → ℕ → List ℕ
@@ -512,5 +541,5 @@ abbrev pub last_lines : Market → TradeFact → ℕ → List ℕ
 last_lines m t row = delay_lines m.instruments t row ++ trade_line m t row
 
 -- the lines about a trade's request or orders, those about what had become of the quotes, and then the last ones
-unfoldable pub evidence : Market → List EvidenceEvent → List ℕ → TradeFact → List ℕ
-evidence m words noted t = place_lines m.participants words t (trade_row words t) ++ (noted ++ last_lines m t (trade_row words t))
+unfoldable pub evidence : Market → List TrailRow → List EvidenceEvent → List ℕ → TradeFact → List ℕ
+evidence m rs words noted t = place_lines rs m.participants words t (trade_row words t) ++ (noted ++ last_lines m t (trade_row words t))

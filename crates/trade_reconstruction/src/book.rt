@@ -2,18 +2,20 @@
 
 ghost use Rattle.std.specs.Prelude.{◌≡◌, ◌++◌, OnOk};
 ghost use Rattle.venue_rules.specs.Book.{is_same_link};
-ghost use Rattle.trade_reconstruction.specs.Lines.{apart_line, are_linked, book_lines, both_lines, entries_linked, entry_lines, held_line, hold_lines, link_id, link_line, linked_line, linked_text, named_line, order_line, order_terms, original_line, orders_lines, price_if, side_text, sides_line, sides_lines, together_lines};
+ghost use Rattle.trade_reconstruction.specs.Lines.{apart_line, are_linked, book_lines, both_lines, entries_linked, entry_lines, held_line, hold_lines, link_id, link_line, linked_line, linked_text, named_line, order_id_line, order_line, order_terms, original_line, orders_lines, price_if, side_text, sides_line, sides_lines, together_lines};
 
 use crate::entry::{Both, Entry, entry_of, hold_of};
 use crate::evidence_event::{EventKind, EvidenceEvent, Linked};
 use crate::finding::{Query, filled_order};
 use crate::rested::append_standing;
-use crate::room::{append_at, append_id, append_moment, append_pair, append_quantity, append_row};
+use crate::room::{append_at, append_id, append_moment, append_pair, append_quantity};
+use crate::sent::{append_row, append_sent_row};
 use fix_dictionary::{Identifier, Price, Side};
 use participants::{Participants, Who};
 use sef_moment::Moment;
 use std::alloc::{AllocError, Global};
 use trade_blotter::{append, append_number, append_price, name_at};
+use venue_rules::TrailRow;
 
 fn side_text(side: Side) -> &'static [u8]
     ensures { result.now ≡ side_text side }
@@ -58,24 +60,38 @@ fn append_terms(
     append_at(text, entry.moment, entry.row)
 }
 
-/// Appends an order, and its identifier.
-fn append_order(
-    alloc: Global,
+/// Appends a participant's own identifier of its order.
+fn append_order_id(
     text: &mut Vec<u8>,
     participants: &Participants,
+    rows: &[TrailRow],
     entry: &Entry,
 ) -> Result<(), AllocError>
-    ensures { OnOk result (text.new.items ≡ text.old.items ++ order_line participants.now entry.now) }
+    ensures { OnOk result (text.new.items ≡ text.old.items ++ order_id_line rows.now participants.now entry.now) }
 {
-    append_terms(alloc, text, participants, entry)?;
+    let name = name_at(participants, entry.to);
     append_id(
         text,
         b"O",
         entry.entered.order,
         b" has the ClOrdID ",
         &entry.entered.id,
-        entry.row,
-    )
+    )?;
+    append_sent_row(text, rows, name, entry.row)
+}
+
+/// Appends an order, and its identifier.
+fn append_order(
+    alloc: Global,
+    text: &mut Vec<u8>,
+    participants: &Participants,
+    rows: &[TrailRow],
+    entry: &Entry,
+) -> Result<(), AllocError>
+    ensures { OnOk result (text.new.items ≡ text.old.items ++ order_line rows.now participants.now entry.now) }
+{
+    append_terms(alloc, text, participants, entry)?;
+    append_order_id(text, participants, rows, entry)
 }
 
 /// Appends the line of an order with an identifier.
@@ -125,11 +141,18 @@ fn append_original(
 }
 
 /// Appends that an order was held, from when on and for how long.
-fn append_held(text: &mut Vec<u8>, order: u64, word: &EvidenceEvent) -> Result<(), AllocError>
-    ensures { OnOk result (text.new.items ≡ text.old.items ++ held_line order word.now) }
+fn append_held(
+    text: &mut Vec<u8>,
+    participants: &Participants,
+    rows: &[TrailRow],
+    order: u64,
+    word: &EvidenceEvent,
+) -> Result<(), AllocError>
+    ensures { OnOk result (text.new.items ≡ text.old.items ++ held_line rows.now participants.now order word.now) }
 {
     match &word.said {
         EventKind::Held(held) => {
+            let name = name_at(participants, word.to);
             append_number(text, b"O", order)?;
             append(
                 text,
@@ -140,21 +163,27 @@ fn append_held(text: &mut Vec<u8>, order: u64, word: &EvidenceEvent) -> Result<(
             )?;
             append_number(text, b" for ", held.delay)?;
             append_moment(text, b" ms from ", word.moment)?;
-            append_row(text, word.row)
+            append_sent_row(text, rows, name, word.row)
         }
         _ => Ok(()),
     }
 }
 
 /// Appends that an order was held before it entered, if it entered at a tick.
-fn append_hold(text: &mut Vec<u8>, words: &[EvidenceEvent], entry: &Entry) -> Result<(), AllocError>
-    ensures { OnOk result (text.new.items ≡ text.old.items ++ hold_lines words.now entry.now) }
+fn append_hold(
+    text: &mut Vec<u8>,
+    participants: &Participants,
+    rows: &[TrailRow],
+    words: &[EvidenceEvent],
+    entry: &Entry,
+) -> Result<(), AllocError>
+    ensures { OnOk result (text.new.items ≡ text.old.items ++ hold_lines rows.now participants.now words.now entry.now) }
 {
     if !entry.entered.at_tick {
         return Ok(());
     }
     match hold_of(words, entry.to, &entry.entered) {
-        Some(hold) => append_held(text, entry.entered.order, hold),
+        Some(hold) => append_held(text, participants, rows, entry.entered.order, hold),
         None => Ok(()),
     }
 }
@@ -165,16 +194,17 @@ fn append_entry(
     alloc: Global,
     text: &mut Vec<u8>,
     participants: &Participants,
+    rows: &[TrailRow],
     words: &[EvidenceEvent],
     entry: &Entry,
 ) -> Result<(), AllocError>
-    ensures { OnOk result (text.new.items ≡ text.old.items ++ entry_lines participants.now words.now entry.now) }
+    ensures { OnOk result (text.new.items ≡ text.old.items ++ entry_lines rows.now participants.now words.now entry.now) }
 {
     let order = entry.entered.order;
-    append_order(alloc, text, participants, entry)?;
+    append_order(alloc, text, participants, rows, entry)?;
     append_link(text, order, &entry.entered.link)?;
     append_original(text, order, &entry.entered.original, entry.row)?;
-    append_hold(text, words, entry)
+    append_hold(text, participants, rows, words, entry)
 }
 
 /// Appends the time between the entries of two orders.
@@ -266,26 +296,39 @@ fn append_linked(
 }
 
 /// Appends that two orders are the sides of one cross, by the event at which the second was held.
-fn append_sides_of(text: &mut Vec<u8>, both: &Both, hold: &EvidenceEvent) -> Result<(), AllocError>
-    ensures { OnOk result (text.new.items ≡ text.old.items ++ sides_line both.now hold.now) }
+fn append_sides_of(
+    text: &mut Vec<u8>,
+    participants: &Participants,
+    rows: &[TrailRow],
+    both: &Both,
+    hold: &EvidenceEvent,
+) -> Result<(), AllocError>
+    ensures { OnOk result (text.new.items ≡ text.old.items ++ sides_line rows.now participants.now both.now hold.now) }
 {
     match &hold.said {
         EventKind::Held(held) => {
+            let name = name_at(participants, hold.to);
             append_number(text, b"O", both.resting.entered.order)?;
             append_number(text, b" and O", both.entering.entered.order)?;
             append(
                 text,
                 &[b" are the two sides of cross ", held.cross.as_slice()],
             )?;
-            append_row(text, hold.row)
+            append_sent_row(text, rows, name, hold.row)
         }
         _ => Ok(()),
     }
 }
 
 /// Appends that two orders are the sides of one cross, if they are.
-fn append_sides(text: &mut Vec<u8>, words: &[EvidenceEvent], both: &Both) -> Result<(), AllocError>
-    ensures { OnOk result (text.new.items ≡ text.old.items ++ sides_lines words.now both.now) }
+fn append_sides(
+    text: &mut Vec<u8>,
+    participants: &Participants,
+    rows: &[TrailRow],
+    words: &[EvidenceEvent],
+    both: &Both,
+) -> Result<(), AllocError>
+    ensures { OnOk result (text.new.items ≡ text.old.items ++ sides_lines rows.now participants.now words.now both.now) }
 {
     if !both.entering.entered.at_tick {
         return Ok(());
@@ -293,7 +336,7 @@ fn append_sides(text: &mut Vec<u8>, words: &[EvidenceEvent], both: &Both) -> Res
     match hold_of(words, both.entering.to, &both.entering.entered) {
         Some(hold) => {
             if hold.row == both.resting.row {
-                append_sides_of(text, both, hold)
+                append_sides_of(text, participants, rows, both, hold)
             } else {
                 Ok(())
             }
@@ -308,10 +351,11 @@ fn append_together(
     alloc: Global,
     text: &mut Vec<u8>,
     participants: &Participants,
+    rows: &[TrailRow],
     words: &[EvidenceEvent],
     both: &Both,
 ) -> Result<(), AllocError>
-    ensures { OnOk result (text.new.items ≡ text.old.items ++ together_lines participants.now words.now both.now) }
+    ensures { OnOk result (text.new.items ≡ text.old.items ++ together_lines rows.now participants.now words.now both.now) }
 {
     append_standing(alloc, text, words)?;
     append_pair(
@@ -321,7 +365,7 @@ fn append_together(
         both.entering.to,
         both.row,
     )?;
-    append_sides(text, words, both)?;
+    append_sides(text, participants, rows, words, both)?;
     append_linked(text, participants, both)?;
     append_apart(text, both.resting.moment, both.entering.moment, both.row)
 }
@@ -331,14 +375,15 @@ fn append_both(
     alloc: Global,
     text: &mut Vec<u8>,
     participants: &Participants,
+    rows: &[TrailRow],
     words: &[EvidenceEvent],
     both: &Both,
 ) -> Result<(), AllocError>
-    ensures { OnOk result (text.new.items ≡ text.old.items ++ both_lines participants.now words.now both.now) }
+    ensures { OnOk result (text.new.items ≡ text.old.items ++ both_lines rows.now participants.now words.now both.now) }
 {
-    append_entry(alloc, text, participants, words, &both.resting)?;
-    append_entry(alloc, text, participants, words, &both.entering)?;
-    append_together(alloc, text, participants, words, both)
+    append_entry(alloc, text, participants, rows, words, &both.resting)?;
+    append_entry(alloc, text, participants, rows, words, &both.entering)?;
+    append_together(alloc, text, participants, rows, words, both)
 }
 
 /// Appends the lines of two orders.
@@ -347,12 +392,13 @@ fn append_orders(
     alloc: Global,
     text: &mut Vec<u8>,
     participants: &Participants,
+    rows: &[TrailRow],
     words: &[EvidenceEvent],
     resting: u64,
     entering: u64,
     row: u64,
 ) -> Result<(), AllocError>
-    ensures { OnOk result (text.new.items ≡ text.old.items ++ orders_lines participants.now words.now resting entering row) }
+    ensures { OnOk result (text.new.items ≡ text.old.items ++ orders_lines rows.now participants.now words.now resting entering row) }
 {
     match entry_of(words, resting) {
         None => Ok(()),
@@ -364,7 +410,7 @@ fn append_orders(
                     entering,
                     row,
                 };
-                append_both(alloc, text, participants, words, &both)
+                append_both(alloc, text, participants, rows, words, &both)
             }
         },
     }
@@ -377,18 +423,28 @@ pub(crate) fn append_book(
     alloc: Global,
     text: &mut Vec<u8>,
     participants: &Participants,
+    rows: &[TrailRow],
     words: &[EvidenceEvent],
     trade: u64,
     row: u64,
 ) -> Result<(), AllocError>
-    ensures { OnOk result (text.new.items ≡ text.old.items ++ book_lines participants.now words.now trade row) }
+    ensures { OnOk result (text.new.items ≡ text.old.items ++ book_lines rows.now participants.now words.now trade row) }
 {
     match filled_order(words, &Query::Fill(trade)) {
         None => Ok(()),
         Some(entering) => match filled_order(words, &Query::OtherFill(trade, entering)) {
             None => Ok(()),
             Some(resting) => {
-                append_orders(alloc, text, participants, words, resting, entering, row)
+                append_orders(
+                    alloc,
+                    text,
+                    participants,
+                    rows,
+                    words,
+                    resting,
+                    entering,
+                    row,
+                )
             }
         },
     }

@@ -21,7 +21,8 @@ use crate::laws::{
 };
 use crate::noted::append_notes;
 use crate::quote_note::QuoteNote;
-use crate::room::{append_room, append_row};
+use crate::room::append_room;
+use crate::sent::append_row;
 use instruments::Instruments;
 use participants::Participants;
 use std::alloc::{AllocError, Global};
@@ -154,15 +155,16 @@ fn append_place(
     alloc: Global,
     text: &mut Vec<u8>,
     participants: &Participants,
+    rows: &[TrailRow],
     words: &[EvidenceEvent],
     trade: &TradeFact,
     row: u64,
 ) -> Result<(), AllocError>
-    ensures { OnOk result (text.new.items ≡ text.old.items ++ place_lines participants.now words.now trade.now row) }
+    ensures { OnOk result (text.new.items ≡ text.old.items ++ place_lines rows.now participants.now words.now trade.now row) }
 {
     match trade.room {
-        None => append_book(alloc, text, participants, words, trade.number, row),
-        Some(room) => append_room(alloc, text, participants, words, room),
+        None => append_book(alloc, text, participants, rows, words, trade.number, row),
+        Some(room) => append_room(alloc, text, participants, rows, words, room),
     }
 }
 
@@ -172,15 +174,16 @@ fn evidence_of(
     alloc: Global,
     participants: &Participants,
     instruments: &Instruments,
+    rows: &[TrailRow],
     words: &[EvidenceEvent],
     notes: &[QuoteNote],
     trade: &TradeFact,
 ) -> Result<Vec<u8>, AllocError>
-    ensures { IfOk result (λ text. text.items ≡ evidence (record { participants = participants.now; instruments = instruments.now }) words.now (note_lines words.now notes.now trade.now) trade.now) }
+    ensures { IfOk result (λ text. text.items ≡ evidence (record { participants = participants.now; instruments = instruments.now }) rows.now words.now (note_lines words.now notes.now trade.now) trade.now) }
 {
     let row = trade_row(words, trade);
     let mut text = Vec::new(alloc);
-    append_place(alloc, &mut text, participants, words, trade, row)?;
+    append_place(alloc, &mut text, participants, rows, words, trade, row)?;
     append_notes(&mut text, words, notes, trade)?;
     append_last(alloc, &mut text, participants, instruments, trade, row)?;
     Ok(text)
@@ -230,6 +233,7 @@ fn evidence_in(
         alloc,
         venue.participants(),
         venue.instruments(),
+        rows,
         &words,
         &notes,
         trade,

@@ -1,6 +1,6 @@
 //! Laws of every day, whatever its inputs.
 
-ghost use Rattle.trade_reconstruction.specs.Laws.{BookTradesHaveOrders, FatesAreRight, LiveQuotesAreLive, QuotesAreReported, RestingOrdersAreShown, RoomTradesHaveRequests, TradesHaveRows};
+ghost use Rattle.trade_reconstruction.specs.Laws.{BookTradesHaveOrders, FatesAreRight, LiveQuotesAreLive, MessagesAreOfRows, QuotesAreReported, RestingOrdersAreShown, RoomTradesHaveRequests, TradesHaveRows};
 
 use venue_rules::{
     every_book_trade_is_lawful, every_report_is_numbered, every_room_trade_is_lawful,
@@ -48,3 +48,9 @@ pub fn each_book_trade_has_its_orders()
     every_book_trade_is_lawful();
     every_report_is_numbered();
 }
+
+/// The message that a line names with an identifier is that of the row with which the line ends, in every trail whose
+/// rows have different numbers.
+pub fn each_message_is_that_of_its_row()
+    ensures { MessagesAreOfRows }
+{}

@@ -15,12 +15,14 @@ mod noting;
 mod quote_note;
 mod rested;
 mod room;
+mod sent;
 mod standing;
 mod trigger;
 mod unrelated;
 
 pub use evidence::{EvidenceFault, print_evidence};
 pub use laws::{
-    each_book_trade_has_its_orders, each_quote_has_its_fate, each_quote_is_reported,
-    each_resting_order_is_shown, each_room_trade_has_its_request, each_trade_has_its_row,
+    each_book_trade_has_its_orders, each_message_is_that_of_its_row, each_quote_has_its_fate,
+    each_quote_is_reported, each_resting_order_is_shown, each_room_trade_has_its_request,
+    each_trade_has_its_row,
 };

@@ -7,7 +7,8 @@ ghost use Rattle.trade_reconstruction.specs.NoteLines.{end_of, end_text, ended_i
 use crate::evidence_event::{Asked, EventKind, EvidenceEvent};
 use crate::finding::{Query, find_word};
 use crate::quote_note::{Ended, Fate, QuoteFate, QuoteNote};
-use crate::room::{append_row, is_to};
+use crate::room::is_to;
+use crate::sent::append_row;
 use std::alloc::AllocError;
 use trade_blotter::{append, append_number};
 use venue_rules::{TradeFact, printed_identifier};

@@ -5,7 +5,7 @@ ghost use Rattle.trade_reconstruction.specs.Lines.{counted_line, filled_text, fi
 
 use crate::evidence_event::{EventKind, EvidenceEvent, RestedBefore, RestedCount};
 use crate::finding::{Query, filling_trade};
-use crate::room::append_row;
+use crate::sent::append_row;
 use fix_dictionary::Side;
 use std::alloc::{AllocError, Global};
 use trade_blotter::{append, append_number, append_price};

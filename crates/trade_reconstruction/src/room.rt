@@ -3,24 +3,18 @@
 ghost use Rattle.std.specs.Prelude.{◌≡◌, ◌++◌, OnOk, codes, decimal};
 ghost use Rattle.std.specs.List.{flat_map};
 ghost use Rattle.sef_moment.specs.Utc.{utc_text};
-ghost use Rattle.trade_reconstruction.specs.Lines.{asked_lines, asked_side, at_text, hit_line, hit_side, id_line, is_to, others, other_line, pair_line, pictured_line, price_or_none, quote_id_line, quote_line, quote_terms, relation, request_line, request_terms, response_text, room_found, room_lines, room_word, row_text, shown_line, shown_side, three_if, three_line, three_text};
+ghost use Rattle.trade_reconstruction.specs.Lines.{asked_lines, asked_side, at_text, hit_line, hit_side, id_text, is_to, others, other_line, pair_line, pictured_line, price_or_none, quote_id_line, quote_line, quote_terms, relation, request_id_line, request_line, request_terms, response_text, room_found, room_lines, room_word, row_text, shown_line, shown_side, three_if, three_line, three_text};
 
 use crate::evidence_event::{Asked, EventKind, EvidenceEvent, Hit, Quoted, Shown, SnapshotSent};
 use crate::finding::{Query, find_word, is_asked};
+use crate::sent::{append_row, append_sent_row};
 use crate::unrelated::{Three, recipients_of, three_of};
 use fix_dictionary::{Identifier, Price, Side};
 use participants::{Participants, Who};
 use sef_moment::{Moment, print_utc};
 use std::alloc::{AllocError, Global};
 use trade_blotter::{append, append_number, append_price, name_at};
-
-/// Appends the row that supports a line, and ends the line.
-pub(crate) fn append_row(text: &mut Vec<u8>, row: u64) -> Result<(), AllocError>
-    ensures { OnOk result (text.new.items ≡ text.old.items ++ row_text row) }
-{
-    append_number(text, b" row ", row)?;
-    append(text, &[b"\n"])
-}
+use venue_rules::TrailRow;
 
 /// Appends a moment after a text.
 pub(crate) fn append_moment(
@@ -95,20 +89,18 @@ fn asked_side(side: Option<Side>) -> &'static [u8]
     }
 }
 
-/// Appends the line of somebody's own identifier of an order, a room or a quote.
+/// Appends somebody's own identifier of an order, a room or a quote.
 pub(crate) fn append_id(
     text: &mut Vec<u8>,
     kind: &[u8],
     number: u64,
     said: &[u8],
     id: &Identifier,
-    row: u64,
 ) -> Result<(), AllocError>
-    ensures { OnOk result (text.new.items ≡ text.old.items ++ id_line kind.now number said.now id.now row) }
+    ensures { OnOk result (text.new.items ≡ text.old.items ++ id_text kind.now number said.now id.now) }
 {
     append_number(text, kind, number)?;
-    append(text, &[said, id.as_slice()])?;
-    append_row(text, row)
+    append(text, &[said, id.as_slice()])
 }
 
 fn append_terms(
@@ -127,24 +119,39 @@ fn append_terms(
     append_at(text, word.moment, word.row)
 }
 
-/// Appends a request, and its identifier.
-fn append_request(
+/// Appends the requester's own identifier of its request.
+fn append_request_id(
     text: &mut Vec<u8>,
     participants: &Participants,
+    rows: &[TrailRow],
     word: &EvidenceEvent,
     asked: &Asked,
 ) -> Result<(), AllocError>
-    ensures { OnOk result (text.new.items ≡ text.old.items ++ request_line participants.now word.now asked.now) }
+    ensures { OnOk result (text.new.items ≡ text.old.items ++ request_id_line rows.now participants.now word.now asked.now) }
 {
-    append_terms(text, participants, word, asked)?;
+    let name = name_at(participants, asked.requester);
     append_id(
         text,
         b"R",
         asked.room,
         b" has the QuoteReqID ",
         &asked.request,
-        word.row,
-    )
+    )?;
+    append_sent_row(text, rows, name, word.row)
+}
+
+/// Appends a request, and its identifier.
+fn append_request(
+    text: &mut Vec<u8>,
+    participants: &Participants,
+    rows: &[TrailRow],
+    word: &EvidenceEvent,
+    asked: &Asked,
+) -> Result<(), AllocError>
+    ensures { OnOk result (text.new.items ≡ text.old.items ++ request_line rows.now participants.now word.now asked.now) }
+{
+    append_terms(text, participants, word, asked)?;
+    append_request_id(text, participants, rows, word, asked)
 }
 
 /// Appends the relation of a recipient to another recipient of the room who comes before it in the file.
@@ -281,13 +288,17 @@ fn append_quote_terms(
 /// Appends the maker's own identifier of its quote.
 fn append_quote_id(
     text: &mut Vec<u8>,
+    rows: &[TrailRow],
     word: &EvidenceEvent,
     quoted: &Quoted,
 ) -> Result<(), AllocError>
-    ensures { OnOk result (text.new.items ≡ text.old.items ++ quote_id_line word.now quoted.now quoted.now.id) }
+    ensures { OnOk result (text.new.items ≡ text.old.items ++ quote_id_line rows.now word.now quoted.now quoted.now.id) }
 {
     match &quoted.id {
-        Some(id) => append_id(text, b"Q", quoted.quote, b" has the QuoteID ", id, word.row),
+        Some(id) => {
+            append_id(text, b"Q", quoted.quote, b" has the QuoteID ", id)?;
+            append_sent_row(text, rows, quoted.maker.as_slice(), word.row)
+        }
         None => Ok(()),
     }
 }
@@ -296,13 +307,14 @@ fn append_quote_id(
 fn append_quote(
     alloc: Global,
     text: &mut Vec<u8>,
+    rows: &[TrailRow],
     word: &EvidenceEvent,
     quoted: &Quoted,
 ) -> Result<(), AllocError>
-    ensures { OnOk result (text.new.items ≡ text.old.items ++ quote_line word.now quoted.now) }
+    ensures { OnOk result (text.new.items ≡ text.old.items ++ quote_line rows.now word.now quoted.now) }
 {
     append_quote_terms(alloc, text, word, quoted)?;
-    append_quote_id(text, word, quoted)
+    append_quote_id(text, rows, word, quoted)
 }
 
 fn hit_side(side: Side) -> &'static [u8]
@@ -328,10 +340,11 @@ fn append_hit(
     alloc: Global,
     text: &mut Vec<u8>,
     participants: &Participants,
+    rows: &[TrailRow],
     word: &EvidenceEvent,
     hit: &Hit,
 ) -> Result<(), AllocError>
-    ensures { OnOk result (text.new.items ≡ text.old.items ++ hit_line participants.now word.now hit.now) }
+    ensures { OnOk result (text.new.items ≡ text.old.items ++ hit_line rows.now participants.now word.now hit.now) }
 {
     let name = name_at(participants, word.to);
     let side = hit_side(hit.side);
@@ -340,7 +353,8 @@ fn append_hit(
     append(text, &[side])?;
     append_price(alloc, text, hit.price)?;
     append_response(text, &hit.response)?;
-    append_at(text, word.moment, word.row)
+    append_moment(text, b" at ", word.moment)?;
+    append_sent_row(text, rows, name, word.row)
 }
 
 /// Whether an event is addressed to the requester, about its request.
@@ -356,11 +370,12 @@ fn append_word(
     alloc: Global,
     text: &mut Vec<u8>,
     participants: &Participants,
+    rows: &[TrailRow],
     words: &[EvidenceEvent],
     asked: &Asked,
     word: &EvidenceEvent,
 ) -> Result<(), AllocError>
-    ensures { OnOk result (text.new.items ≡ text.old.items ++ room_word participants.now words.now asked.now word.now) }
+    ensures { OnOk result (text.new.items ≡ text.old.items ++ room_word rows.now participants.now words.now asked.now word.now) }
 {
     match &word.said {
         EventKind::Asked(other) => {
@@ -386,14 +401,14 @@ fn append_word(
         }
         EventKind::Quoted(quoted) => {
             if is_to(asked, word.to, &quoted.request) {
-                append_quote(alloc, text, word, quoted)
+                append_quote(alloc, text, rows, word, quoted)
             } else {
                 Ok(())
             }
         }
         EventKind::Hit(hit) => {
             if hit.room == asked.room && word.to.place() == asked.requester.place() {
-                append_hit(alloc, text, participants, word, hit)
+                append_hit(alloc, text, participants, rows, word, hit)
             } else {
                 Ok(())
             }
@@ -459,13 +474,14 @@ fn append_words(
     alloc: Global,
     text: &mut Vec<u8>,
     participants: &Participants,
+    rows: &[TrailRow],
     words: &[EvidenceEvent],
     asked: &Asked,
 ) -> Result<(), AllocError>
-    ensures { OnOk result (text.new.items ≡ text.old.items ++ flat_map (room_word participants.now words.now asked.now) words.now) }
+    ensures { OnOk result (text.new.items ≡ text.old.items ++ flat_map (room_word rows.now participants.now words.now asked.now) words.now) }
 {
     for word in words {
-        append_word(alloc, text, participants, words, asked, word)?;
+        append_word(alloc, text, participants, rows, words, asked, word)?;
     }
     Ok(())
 }
@@ -475,16 +491,17 @@ fn append_found(
     alloc: Global,
     text: &mut Vec<u8>,
     participants: &Participants,
+    rows: &[TrailRow],
     words: &[EvidenceEvent],
     word: &EvidenceEvent,
 ) -> Result<(), AllocError>
-    ensures { OnOk result (text.new.items ≡ text.old.items ++ room_found participants.now words.now word.now) }
+    ensures { OnOk result (text.new.items ≡ text.old.items ++ room_found rows.now participants.now words.now word.now) }
 {
     match &word.said {
         EventKind::Asked(asked) => {
-            append_request(text, participants, word, asked)?;
+            append_request(text, participants, rows, word, asked)?;
             append_three(alloc, text, participants, words, word, asked)?;
-            append_words(alloc, text, participants, words, asked)
+            append_words(alloc, text, participants, rows, words, asked)
         }
         _ => Ok(()),
     }
@@ -496,13 +513,14 @@ pub(crate) fn append_room(
     alloc: Global,
     text: &mut Vec<u8>,
     participants: &Participants,
+    rows: &[TrailRow],
     words: &[EvidenceEvent],
     room: u64,
 ) -> Result<(), AllocError>
-    ensures { OnOk result (text.new.items ≡ text.old.items ++ room_lines participants.now words.now room) }
+    ensures { OnOk result (text.new.items ≡ text.old.items ++ room_lines rows.now participants.now words.now room) }
 {
     match find_word(words, &Query::Request(room)) {
-        Some(word) => append_found(alloc, text, participants, words, word),
+        Some(word) => append_found(alloc, text, participants, rows, words, word),
         None => Ok(()),
     }
 }

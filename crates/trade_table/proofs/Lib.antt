@@ -1,3 +1,7 @@
 pub mod Walking
 pub mod Printed
 pub mod Rows
+pub mod Members
+pub mod Learning
+pub mod Reported
+pub mod Executed

@@ -11,7 +11,8 @@ use Rattle.venue_core.specs.Replay.{AreEmitted, AreFitting}
 use Rattle.venue_core.specs.State.{State}
 use Rattle.trade_table.specs.declared.execution.Execution.{Execution}
 use Rattle.trade_table.specs.declared.execution.Known.{Known}
-use Rattle.trade_table.specs.Executions.{AreExecutions, AreOf}
+use Rattle.row_replay.specs.Inputs.{AreOf}
+use Rattle.trade_table.specs.Executions.{AreExecutions}
 use Rattle.trade_table.specs.Table.{AppendsRows, BeginsOf, BeginsTable, EmitsTable, table_of}
 
 -- rows of inputs record these inputs

@@ -15,7 +15,8 @@ use Rattle.venue_core.specs.VenueFacts.{IsAfter, IsAnswer, IsHistory}
 use Rattle.trade_table.specs.declared.execution.Execution.{Execution}
 use Rattle.trade_table.specs.declared.execution.Known.{Known}
 use Rattle.trade_table.specs.Sources.{known_at, made_at, newest, or}
-use Rattle.trade_table.specs.Executions.{AreExecutions, TakesExecutions, executions, executions_from, input_of, known_from, taken_in}
+use Rattle.row_replay.specs.Inputs.{input_of}
+use Rattle.trade_table.specs.Executions.{AreExecutions, TakesExecutions, executions, executions_from, known_from, taken_in}
 
 -- two lists, one behind the other
 pub both : {A : Type 0} (old one all a b : List A) → one ≡ old ++ a → all ≡ one ++ b → all ≡ old ++ (a ++ b)

@@ -5,19 +5,14 @@ use Rattle.venue_rules.specs.declared.trail.TrailRow.{TrailRow}
 use Rattle.venue_rules.specs.Answer.{Answer}
 use Rattle.venue_rules.specs.Facts.{History, no_history}
 use Rattle.venue_rules.specs.Market.{Market}
-use Rattle.venue_rules.specs.Run.{Input, Message, Tick, after, answer_input, rows}
-use Rattle.venue_core.specs.Replay.{AreEmitted, AreFitting, Emits}
+use Rattle.venue_rules.specs.Run.{Input, Message, Tick, after, answer_input}
+use Rattle.venue_core.specs.Replay.{AreEmitted, Emits}
 use Rattle.venue_core.specs.State.{State}
 use Rattle.venue_core.specs.Taking.{Stands, Takes}
 use Rattle.venue_core.specs.VenueFacts.{IsHistory}
 use Rattle.trade_table.specs.declared.execution.Execution.{Execution}
 use Rattle.trade_table.specs.declared.execution.Known.{Known}
 use Rattle.trade_table.specs.Sources.{known_at, made_at}
-
--- a message taken at a moment, or else a tick
-abbrev pub input_of : Option Taken → ℕ → Input
-input_of (Some taken) t = Message taken t
-input_of None t = Tick t
 
 -- the message of an input, or none of a tick
 abbrev pub taken_in : Input → Option Taken
@@ -65,8 +60,3 @@ pub record AreExecutions (m : Market) (rs : List TrailRow) (s : State) (ks : Lis
   pub stands : Stands m items s
   pub learned : ks ≡ known_from m no_history [] rs items
   pub made : xs ≡ executions m rs items
-
--- the rows record these inputs; and where they are those of a run, these are its inputs
-pub record AreOf (rs : List TrailRow) (items : List Input) : Type 0 where
-  pub emitted : AreEmitted rs items
-  pub of_run : (is : List Input) → rs ≡ rows is → AreFitting is → items ≡ is

@@ -4,3 +4,5 @@ pub mod Sources
 pub mod Executions
 -- the fields and the table
 pub mod Table
+-- the law of every day
+pub mod Laws

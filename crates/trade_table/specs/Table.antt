@@ -20,7 +20,8 @@ use Rattle.trade_table.specs.declared.execution.QuoteHit.{QuoteHit}
 use Rattle.trade_table.specs.declared.execution.SideFilled.{SideFilled}
 use Rattle.trade_table.specs.declared.execution.Source.{Source}
 use Rattle.trade_table.specs.declared.execution.Source.TheVariants.{Book, Room}
-use Rattle.trade_table.specs.Executions.{AreOf, execution_of, executions}
+use Rattle.row_replay.specs.Inputs.{AreOf}
+use Rattle.trade_table.specs.Executions.{execution_of, executions}
 
 -- the names of the fields behind those of the trade list
 abbrev pub new_names : List (List ℕ)

@@ -9,8 +9,8 @@ ghost use Rattle.trade_table.specs.Sources.{known_at, made_at};
 ghost use Rattle.trade_table.specs.Executions.{AreExecutions, TakesExecutions};
 
 use crate::execution::{Execution, Known};
-use crate::replaying::{item_of, plan_item};
 use crate::sources::{At, push_known_at, push_made_at};
+use row_replay::{item_of, plan_item};
 use std::alloc::{AllocError, Global};
 use venue_core::{Venue, day_goes_on};
 use venue_rules::{Reply, Taken, TrailRow};

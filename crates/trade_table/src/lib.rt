@@ -5,8 +5,9 @@
 mod execution;
 mod executions;
 mod fields;
+mod laws;
 mod printing;
-mod replaying;
 mod sources;
 
+pub use laws::each_trade_has_its_execution;
 pub use printing::print_trade_table;

@@ -7,6 +7,6 @@ pub returns : goal.returns
 returns c =
     let a = c.args in
     on_ok_weaker c.append_together.result
-    (λ e. trio _ _ _ _ (entry_lines a.participants.now a.words.now a.both.now.resting) (entry_lines a.participants.now a.words.now a.both.now.entering)
-    (together_lines a.participants.now a.words.now a.both.now) c.in_ok-append_entry.ensures c.in_ok-append_entry-2.ensures e)
+    (λ e. trio _ _ _ _ (entry_lines a.rows.now a.participants.now a.words.now a.both.now.resting) (entry_lines a.rows.now a.participants.now a.words.now a.both.now.entering)
+    (together_lines a.rows.now a.participants.now a.words.now a.both.now) c.in_ok-append_entry.ensures c.in_ok-append_entry-2.ensures e)
     c.append_together.ensures

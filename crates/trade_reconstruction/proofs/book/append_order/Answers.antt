@@ -6,4 +6,4 @@ use Rattle.trade_reconstruction.proofs.book.append_order.Goals as goal
 pub returns : goal.returns
 returns c =
     let x = c.args.entry.now in
-    on_ok_weaker c.append_id.result (λ e. both _ _ _ (order_terms c.args.participants.now x) (order_id_line x) c.in_ok-append_terms.ensures e) c.append_id.ensures
+    on_ok_weaker c.append_order_id.result (λ e. both _ _ _ (order_terms c.args.participants.now x) (order_id_line c.args.rows.now c.args.participants.now x) c.in_ok-append_terms.ensures e) c.append_order_id.ensures

@@ -19,4 +19,4 @@ returns-clause-emitted c =
     trade_emitted c.rows_emit_their_inputs.ensures c.each_room_trade_has_its_request.ensures c.each_book_trade_has_its_orders.ensures c.each_trade_has_its_row.ensures c.args.venue.now.market c.args.rows.now c.gather.new.venue c.in_ok-words.words.items c.gather.new.notes.items c.args.number c.in-Some.trade.now c.in_ok-evidence_of.field-0.items
     c.in_ok-words.ensures c.in-Some.ensures
     (c.in_ok-evidence_of.ensures
-    ∙ (λ k. evidence (record { participants = c.participants.ensures k; instruments = c.instruments.ensures k }) (c.deref.ensures.value k) (note_lines (c.deref.ensures.value k) (c.deref-2.ensures.value k) c.in-Some.trade.now) c.in-Some.trade.now))
+    ∙ (λ k. evidence (record { participants = c.participants.ensures k; instruments = c.instruments.ensures k }) c.args.rows.now (c.deref.ensures.value k) (note_lines (c.deref.ensures.value k) (c.deref-2.ensures.value k) c.in-Some.trade.now) c.in-Some.trade.now))

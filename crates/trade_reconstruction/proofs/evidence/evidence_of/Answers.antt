@@ -11,10 +11,10 @@ returns c =
     let market : Market = record { participants = a.participants.now; instruments = a.instruments.now } in
     let row = c.trade_row-row.result in
     let noted = note_lines a.words.now a.notes.now a.trade.now in
-    let placed = place_lines a.participants.now a.words.now a.trade.now row in
+    let placed = place_lines a.rows.now a.participants.now a.words.now a.trade.now row in
     c.in_ok-append_last.ensures
     ∙ (λ k. c.in_ok-append_notes.ensures k ++ last_lines market a.trade.now row)
     ∙ (λ k. (c.in_ok-append_place.ensures k ++ noted) ++ last_lines market a.trade.now row)
     ∙ (λ k. ((c.new-text.ensures.items k ++ placed) ++ noted) ++ last_lines market a.trade.now row)
     ∙ append_assoc placed noted (last_lines market a.trade.now row)
-    ∙ (λ k. place_lines a.participants.now a.words.now a.trade.now (c.trade_row-row.ensures k) ++ (noted ++ last_lines market a.trade.now (c.trade_row-row.ensures k)))
+    ∙ (λ k. place_lines a.rows.now a.participants.now a.words.now a.trade.now (c.trade_row-row.ensures k) ++ (noted ++ last_lines market a.trade.now (c.trade_row-row.ensures k)))

@@ -3,4 +3,4 @@ use Rattle.std.proofs.lemmas.Result.{on_ok_weaker}
 use Rattle.trade_reconstruction.proofs.room.append_id.Goals as goal
 
 pub returns : goal.returns
-returns c = (on_ok_weaker c.append_row.result (λ e. e ∙ simp (c.in_ok-append.ensures, c.in_ok-append_number.ensures, c.as_slice.ensures.value, append-nil, append_assoc)) c.append_row.ensures)
+returns c = (on_ok_weaker c.append.result (λ e. e ∙ simp (c.in_ok-append_number.ensures, c.as_slice.ensures.value, append-nil, append_assoc)) c.append.ensures)
