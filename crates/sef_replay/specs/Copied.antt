@@ -8,8 +8,6 @@ use Rattle.sqlite_disk.specs.contracts.memory.MemoryDisk.TheImpl as memory
 use Rattle.sqlite_disk.specs.declared.memory.Memory.{Memory}
 use Rattle.sqlite_store.specs.declared.store.FileStore.{FileStore}
 use Rattle.sqlite.specs.declared.error.Error.{Error}
-use Rattle.sqlite.specs.declared.error.Error.TheVariants.{SqliteFailure}
-use Rattle.sqlite.specs.declared.error.ErrorCode.TheVariants.{NotADatabase}
 use Rattle.audit_trail.specs.Reading.{IsTrailLike, RefusesToOpen}
 use Rattle.trail_bytes.specs.Bytes.{HoldNone, IsOf}
 use Rattle.sef_replay.specs.declared.failure.Failure.{Failure}
@@ -27,9 +25,9 @@ EmitsOver wanted log db before after = (of : Database) × IsOf log db of × Emit
 abbrev pub BeginsOver : Option Question → (log db : List ℕ) → (before after : Option (List ℕ)) → Type 0
 BeginsOver wanted log db before after = (of : Database) × IsOf log db of × BeginsWanted wanted of before after
 
--- the bytes are not opened as a database: they hold none, or the store failed over them
+-- the bytes are not opened as a database: they hold none, where the failure has a number, or the store failed over them
 abbrev pub IsUnopened : (log db : List ℕ) → Failure → Type 0
-IsUnopened log db failure = (e : Error) × (failure ≡ open_failure e) × IsTrue (is_open_error e) × (e ≡ SqliteFailure NotADatabase → HoldNone log db)
+IsUnopened log db failure = (e : Error) × (failure ≡ open_failure e) × IsTrue (is_open_error e) × ((number : ℕ) → failure ≡ TrailRefused number → HoldNone log db)
 
 -- the report on the database of these bytes is refused, or stops, for a reason
 pub record IsFailureOn (wanted : Option Question) (log db : List ℕ) (before after : Option (List ℕ)) (failure : Failure) : Type 0 where

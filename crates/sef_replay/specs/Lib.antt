@@ -5,3 +5,5 @@ pub mod Older
 pub mod Asked
 pub mod Reports
 pub mod Copied
+pub mod Compared
+pub mod Answered

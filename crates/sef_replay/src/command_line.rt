@@ -7,7 +7,7 @@ use clap::{Arg, ArgAction, ArgMatches, Command, Error};
 use message_words::Form as AnswersForm;
 use std::alloc::{AllocError, Global};
 use std::{env, io};
-use trail_questions::{AskedWords, BookForm, BookWords, NarrowingWords};
+use trail_questions::{AskedWords, BookForm, BookWords, NarrowingWords, RestsWords};
 
 /// The request of the command line.
 #[derive(Drop)]
@@ -31,6 +31,11 @@ pub enum Task {
         desk: String,
         log: String,
     },
+    /// `--compare TRAIL OTHER`
+    Compare {
+        path: String,
+        other: String,
+    },
     /// `--help`: the text was printed.
     Help,
 }
@@ -44,8 +49,10 @@ enum Mode {
     Why,
     Answers,
     Book,
+    Rests,
     Against,
     Digest,
+    Compare,
 }
 
 /// A word that narrows what is printed, or gives it a form.
@@ -59,6 +66,8 @@ enum Word {
     Desk,
     Csv,
     Json,
+    /// A second trail.
+    Other,
 }
 
 /// Arguments that are understood each, and do not go together.
@@ -74,6 +83,8 @@ enum Misfit {
     Forms,
     /// A log without the name of its desk.
     NoDesk,
+    /// One trail alone is to be compared.
+    NoOther,
 }
 
 /// The word of what is printed.
@@ -85,34 +96,41 @@ fn mode_word(mode: Mode) -> &'static str {
         Mode::Why => "--why",
         Mode::Answers => "--answers",
         Mode::Book => "--book",
+        Mode::Rests => "--rests",
         Mode::Against => "--against",
         Mode::Digest => "--digest",
+        Mode::Compare => "--compare",
     }
 }
 
 /// Whether a word goes with what is printed.
 fn goes_with(word: Word, mode: Mode) -> bool {
     match word {
-        Word::To | Word::From | Word::Order | Word::Room => mode == Mode::Answers,
-        Word::Row => mode == Mode::Answers || mode == Mode::Book || mode == Mode::Digest,
-        Word::Csv => mode == Mode::Day || mode == Mode::Answers || mode == Mode::Book,
-        Word::Json => mode == Mode::Answers,
+        Word::To => matches!(mode, Mode::Answers | Mode::Rests),
+        Word::From | Word::Order | Word::Room | Word::Json => mode == Mode::Answers,
+        Word::Row => matches!(
+            mode,
+            Mode::Answers | Mode::Book | Mode::Rests | Mode::Digest
+        ),
+        Word::Csv => matches!(mode, Mode::Day | Mode::Answers | Mode::Book | Mode::Rests),
         Word::Desk => mode == Mode::Against,
+        Word::Other => mode == Mode::Compare,
     }
 }
 
 /// With what a word goes.
 fn place_of(word: Word) -> &'static str {
     match word {
-        Word::To => "--to goes with --answers",
+        Word::To => "--to goes with --answers or --rests",
         Word::From => "--from goes with --answers",
-        Word::Row => "--row goes with --answers, --book or --digest",
+        Word::Row => "--row goes with --answers, --book, --rests or --digest",
         Word::Order => "--order goes with --answers",
         Word::Room => "--room goes with --answers",
         Word::Desk => "--desk goes with --against",
         Word::Csv =>
-            "--csv goes with the trades of a trail, which --migrate updates before, or with --answers or --book",
+            "--csv goes with the trades of a trail, which --migrate updates before, or with --answers, --book or --rests",
         Word::Json => "--json goes with --answers",
+        Word::Other => "a second TRAIL goes with --compare",
     }
 }
 
@@ -136,6 +154,10 @@ fn misfit_refused(alloc: Global, misfit: Misfit) -> Refused {
                 "--against goes with --desk: the participant whose log it is",
             )
         }
+        Misfit::NoOther => Refused::of_command_line(
+            alloc,
+            "--compare goes with two trails: --compare A B",
+        ),
         Misfit::Forms => Refused::of_two(alloc, "--csv", "--json", "one form at a time"),
     }
 }
@@ -184,12 +206,17 @@ const EXAMPLES: &str = "Examples:
   sef_replay day.trail --answers --json         the same, an object a line
   sef_replay day.trail --book IRS5Y    the orders that rest at the end of the day, with their owners
   sef_replay day.trail --book IRS5Y --row 7     the same after row 7
+  sef_replay day.trail --rests         what rests or is held at the end of the day, for each participant; --to BETA for one
   sef_replay day.trail --against messages.log --desk BETA    whether BETA's log has what it was owed, in order
   sef_replay day.trail --digest        the number of rows, and the digest of the trail's content; with --row, up to a row
+  sef_replay --compare A B             whether two trails are the same, the first row that differs, and which answers do
   sef_replay --migrate day.trail       of a trail of an older version, which is changed for good: copy it before
 
 The files are read whole and not written, but for --migrate: media that cannot be written, a copy without a log, and the
-trail of a venue that runs can be read. docs/COMPLIANCE.md explains what is printed.";
+trail of a venue that runs can be read. docs/COMPLIANCE.md explains what is printed.
+
+Status: 0 done, and of --compare and --against, all is the same; 4 it is not, as is printed, also where one is the first
+part of the other; 1 stopped; 2 the command line, 3 a trail or what was asked for is refused, as a second line says.";
 
 /// An argument without a value.
 fn flag<'a>(alloc: Global, name: &'a str, help: &'a str) -> Arg<'a> {
@@ -206,6 +233,19 @@ fn with_trail<'a>(alloc: Global, command: Command<'a>) -> Result<Command<'a>, Al
         .required(true)
         .action(ArgAction::Set);
     command.arg(trail)
+}
+
+fn with_compare<'a>(alloc: Global, command: Command<'a>) -> Result<Command<'a>, AllocError> {
+    let other = Arg::new(alloc, "other")
+        .value_name("OTHER")
+        .help("Of --compare, the other trail")
+        .action(ArgAction::Set);
+    let command = command.arg(other)?;
+    command.arg(flag(
+        alloc,
+        "compare",
+        "Prints how two trails differ: files, delays, rows, and which rows have other answers",
+    ))
 }
 
 fn with_migrate<'a>(alloc: Global, command: Command<'a>) -> Result<Command<'a>, AllocError> {
@@ -265,7 +305,7 @@ fn with_to<'a>(alloc: Global, command: Command<'a>) -> Result<Command<'a>, Alloc
         alloc,
         "to",
         "NAME",
-        "Of the answers, the replies to this participant alone",
+        "Of the answers, the replies to this participant alone; of what rests, its own",
     ))
 }
 
@@ -283,7 +323,7 @@ fn with_row<'a>(alloc: Global, command: Command<'a>) -> Result<Command<'a>, Allo
         alloc,
         "row",
         "N[-M]",
-        "Of the answers, these rows; the book after this row; the digest up to it",
+        "Of the answers, these rows; the book, or what rests, after this row; the digest up to it",
     ))
 }
 
@@ -337,6 +377,11 @@ fn with_questions<'a>(alloc: Global, command: Command<'a>) -> Result<Command<'a>
         "Of the answers, the rows of the conversation in this room, as R1",
     ))?;
     let command = with_book(alloc, command)?;
+    let command = command.arg(flag(
+        alloc,
+        "rests",
+        "Prints what rests or is held, for each participant",
+    ))?;
     let command = with_against(alloc, command)?;
     with_digest(alloc, command)
 }
@@ -350,6 +395,7 @@ fn program<'a>(alloc: Global) -> Result<Command<'a>, AllocError> {
         )
         .after_help(EXAMPLES);
     let command = with_trail(alloc, command)?;
+    let command = with_compare(alloc, command)?;
     let command = with_migrate(alloc, command)?;
     let command = with_forms(alloc, command)?;
     let command = with_trade(alloc, command)?;
@@ -396,8 +442,10 @@ fn mode_given(given: &ArgMatches<'_>) -> Result<Mode, Misfit> {
     let mode = and_mode(mode, given.get_str("why").is_some(), Mode::Why);
     let mode = and_mode(mode, given.get_flag("answers"), Mode::Answers);
     let mode = and_mode(mode, given.get_str("book").is_some(), Mode::Book);
+    let mode = and_mode(mode, given.get_flag("rests"), Mode::Rests);
     let mode = and_mode(mode, given.get_str("against").is_some(), Mode::Against);
-    and_mode(mode, given.get_flag("digest"), Mode::Digest)
+    let mode = and_mode(mode, given.get_flag("digest"), Mode::Digest);
+    and_mode(mode, given.get_flag("compare"), Mode::Compare)
 }
 
 /// The misfit of a word, where it is given and goes with something else.
@@ -418,6 +466,9 @@ fn misfit_of(given: &ArgMatches<'_>, mode: Mode) -> Option<Misfit> {
     if mode == Mode::Against && given.get_str("desk").is_none() {
         return Some(Misfit::NoDesk);
     }
+    if mode == Mode::Compare && given.get_str("other").is_none() {
+        return Some(Misfit::NoOther);
+    }
     astray(given.get_str("to").is_some(), Word::To, mode)
         .or(astray(given.get_str("from").is_some(), Word::From, mode))
         .or(astray(given.get_str("row").is_some(), Word::Row, mode))
@@ -426,6 +477,7 @@ fn misfit_of(given: &ArgMatches<'_>, mode: Mode) -> Option<Misfit> {
         .or(astray(given.get_str("desk").is_some(), Word::Desk, mode))
         .or(astray(csv, Word::Csv, mode))
         .or(astray(json, Word::Json, mode))
+        .or(astray(given.get_str("other").is_some(), Word::Other, mode))
 }
 
 fn task_at(
@@ -442,8 +494,16 @@ fn task_at(
             let desk = required_word(alloc, given, "desk")?;
             Ok(Task::Against { path, desk, log })
         }
+        Mode::Compare => Ok(Task::Compare {
+            path,
+            other: required_word(alloc, given, "other")?,
+        }),
         Mode::Book => {
             let words = AskedWords::Book(book_in(alloc, given)?, book_form_of(given));
+            Ok(Task::Ask { path, words })
+        }
+        Mode::Rests => {
+            let words = AskedWords::Rests(rests_in(alloc, given)?, book_form_of(given));
             Ok(Task::Ask { path, words })
         }
         Mode::Digest => {
@@ -504,6 +564,12 @@ fn book_in(alloc: Global, given: &ArgMatches<'_>) -> Result<BookWords, AllocErro
     let symbol = required_word(alloc, given, "book")?;
     let row = word_given(alloc, given, "row")?;
     Ok(BookWords { symbol, row })
+}
+
+fn rests_in(alloc: Global, given: &ArgMatches<'_>) -> Result<RestsWords, AllocError> {
+    let to = word_given(alloc, given, "to")?;
+    let row = word_given(alloc, given, "row")?;
+    Ok(RestsWords { to, row })
 }
 
 fn book_form_of(given: &ArgMatches<'_>) -> BookForm {

@@ -1,8 +1,10 @@
 //! Prints the trades, the evidence and the answers of the day in a trail, read back from its rows alone.
 #![tactic(auto)]
 
+mod answering;
 mod asking;
 mod command_line;
+mod comparing;
 mod copied;
 mod copying;
 mod diagnosis;
@@ -12,12 +14,15 @@ mod form;
 mod market;
 mod migrating;
 mod printing;
+mod reading;
 mod refused;
 mod replaying;
 mod report;
 
+pub use answering::{WordsFailure, print_words};
 pub use asking::print_asked;
 use command_line::{Task, task_given};
+pub use comparing::{ComparedFailure, print_compared};
 pub use copied::{Copied, print_copied};
 use copying::{copied_from, file_at};
 use diagnosis::fault_line;
@@ -26,6 +31,7 @@ use file::is_database;
 pub use form::Form;
 pub use migrating::print_migrated;
 pub use printing::print_day;
+pub use reading::{ReadDay, read_day};
 use refused::{Refused, absent_in, misspelt_in};
 pub use report::print_wanted;
 use sqlite::{Alter, Connection};
@@ -33,7 +39,7 @@ use std::alloc::Global;
 use std::io::Write;
 use std::process::ExitCode;
 use trail_bytes::open_bytes;
-use trail_questions::{AskedWords, NoLog, Question, Unknown, question_of};
+use trail_questions::{AskedWords, NoLog, Unknown, question_of};
 
 /// The seed of a store in memory, which keeps nothing that somebody could foresee.
 const SEED: u64 = 0;
@@ -53,11 +59,10 @@ fn trail_at(rt: &HostRuntime, path: &str) -> Result<Copied, Refused> {
     }
 }
 
-/// Prints the answer to a question about the trail at a path, and its trades where there is none. Its files are read,
-/// and nothing is written but the report.
-fn print_trail(rt: &HostRuntime, path: &str, wanted: &Option<Question<'_>>) -> Result<(), Refused> {
+/// Prints the trades of the trail at a path. Its files are read, and nothing is written but these.
+fn print_trail(rt: &HostRuntime, path: &str) -> Result<(), Refused> {
     let copied = trail_at(rt, path)?;
-    match print_copied(rt.alloc(), copied, SEED, wanted, &mut rt.stdout()) {
+    match print_copied(rt.alloc(), copied, SEED, &None, &mut rt.stdout()) {
         Ok(()) => Ok(()),
         Err(failure) => Err(with_fault(rt, path, failure)),
     }
@@ -84,21 +89,19 @@ fn fault_at(rt: &HostRuntime, path: &str) -> Option<String> {
     }
 }
 
-/// Prints the answer to the question in these words.
+/// Prints the answer to the question in these words. One that has not its form is refused before the trail is read.
 fn ask(rt: &HostRuntime, path: &str, words: &AskedWords) -> Result<(), Refused> {
-    let question = match question_of(words) {
-        Ok(question) => question,
-        Err(unknown) => return Err(misspelt_in(rt.alloc(), words, unknown)),
-    };
-    match print_trail(rt, path, &Some(question)) {
+    if let Err(unknown) = question_of(words) {
+        return Err(misspelt_in(rt.alloc(), words, unknown));
+    }
+    let copied = trail_at(rt, path)?;
+    match print_words(rt.alloc(), copied, SEED, words, &mut rt.stdout()) {
         Ok(()) => Ok(()),
-        Err(
-            Refused {
-                failure: Failure::Unknown(unknown),
-                ..
-            },
-        ) => Err(absent_in(rt.alloc(), words, unknown)),
-        Err(refused) => Err(refused),
+        Err(WordsFailure::Misspelt(unknown)) => Err(misspelt_in(rt.alloc(), words, unknown)),
+        Err(WordsFailure::Failed(Failure::Unknown(unknown))) => {
+            Err(absent_in(rt.alloc(), words, unknown))
+        }
+        Err(WordsFailure::Failed(failure)) => Err(with_fault(rt, path, failure)),
     }
 }
 
@@ -124,6 +127,29 @@ fn log_failure(failure: Failure) -> Failure {
             broken: None,
         })),
         failure => failure,
+    }
+}
+
+/// The failure of one of two trails, with a line that names it.
+fn of_one(rt: &HostRuntime, path: &str, failure: Failure) -> Refused {
+    let Refused { failure, reason } = with_fault(rt, path, failure);
+    match reason {
+        Some(reason) => Refused::of_word(rt.alloc(), failure, path, &reason),
+        None => Refused::of_file(rt.alloc(), failure, path),
+    }
+}
+
+/// Prints how the trails at two paths differ.
+fn compare(rt: &HostRuntime, path: &str, other: &str) -> Result<(), Refused> {
+    let a = trail_at(rt, path)?;
+    let b = trail_at(rt, other)?;
+    match print_compared(rt.alloc(), a, b, SEED, &mut rt.stdout()) {
+        Ok(()) => Ok(()),
+        Err(ComparedFailure::OfA(failure)) => Err(of_one(rt, path, failure)),
+        Err(ComparedFailure::OfB(failure)) => Err(of_one(rt, other, failure)),
+        Err(ComparedFailure::Differ) => Err(Refused::from(Failure::Differs)),
+        Err(ComparedFailure::Memory) => Err(Refused::from(Failure::Stopped(Stop::Memory))),
+        Err(ComparedFailure::Output) => Err(Refused::from(Failure::Stopped(Stop::Output))),
     }
 }
 
@@ -162,10 +188,11 @@ fn migrate(rt: &HostRuntime, path: &str, form: Form) -> Result<(), Refused> {
 
 fn run(rt: &HostRuntime) -> Result<(), Refused> {
     match task_given(rt)? {
-        Task::Print { path } => print_trail(rt, &path, &None),
+        Task::Print { path } => print_trail(rt, &path),
         Task::Migrate { path } => migrate(rt, &path, Form::Lines),
         Task::Ask { path, words } => ask(rt, &path, &words),
         Task::Against { path, desk, log } => ask_against(rt, &path, desk, &log),
+        Task::Compare { path, other } => compare(rt, &path, &other),
         Task::Help => Ok(()),
     }
 }

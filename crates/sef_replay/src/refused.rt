@@ -2,7 +2,9 @@
 
 use crate::failure::Failure;
 use std::alloc::Global;
-use trail_questions::{AskedWords, BookWords, BrokenLine, NarrowingWords, NoLog, Unknown};
+use trail_questions::{
+    AskedWords, BookWords, BrokenLine, NarrowingWords, NoLog, RestsWords, Unknown,
+};
 
 /// A failure, and a line that names the word or the entry at fault, if one is known.
 #[derive(Drop)]
@@ -24,6 +26,15 @@ impl Refused {
     /// A refusal of a word. Without its reason where an allocation fails.
     pub fn of_word(alloc: Global, failure: Failure, word: &str, reason: &str) -> Refused {
         let reason = match format!(in alloc; "{word}: {reason}") {
+            Ok(text) => Some(text),
+            Err(_) => None,
+        };
+        Refused { failure, reason }
+    }
+
+    /// A refusal of a file, without more that is known of it.
+    pub fn of_file(alloc: Global, failure: Failure, path: &str) -> Refused {
+        let reason = match String::from_str(alloc, path) {
             Ok(text) => Some(text),
             Err(_) => None,
         };
@@ -61,7 +72,7 @@ fn absence_of(unknown: Unknown) -> &'static str {
         Unknown::Trade => "the day has no trade with this number",
         Unknown::Recipient | Unknown::Sender => "no participant of the trail has this name",
         Unknown::Instrument => "no instrument of the trail has this symbol",
-        Unknown::Row => "the trail has no such rows: from 1, the first before the last",
+        Unknown::Row => "the trail has no such row, or the first of some is behind the last",
         Unknown::Order => "no row of the day is about this order",
         Unknown::Room => "no request of the day was sent in this room",
         Unknown::Log(_) => "no frame from the venue to the desk stands in it",
@@ -106,6 +117,17 @@ fn book_word(words: &BookWords, unknown: Unknown) -> Option<&str> {
     }
 }
 
+fn rests_word(words: &RestsWords, unknown: Unknown) -> Option<&str> {
+    let word = match unknown {
+        Unknown::Recipient => &words.to,
+        _ => &words.row,
+    };
+    match word {
+        Some(word) => Some(word.as_str()),
+        None => None,
+    }
+}
+
 /// The word that names this.
 fn word_for(words: &AskedWords, unknown: Unknown) -> Option<&str> {
     match words {
@@ -115,6 +137,7 @@ fn word_for(words: &AskedWords, unknown: Unknown) -> Option<&str> {
         AskedWords::Against(desk, _) => Some(desk.as_str()),
         AskedWords::Table | AskedWords::Digest(None) => None,
         AskedWords::Book(words, _) => book_word(words, unknown),
+        AskedWords::Rests(words, _) => rests_word(words, unknown),
         AskedWords::Answers(words, _) => narrowing_word(words, unknown),
     }
 }

@@ -3,14 +3,15 @@ use Rattle.std.proofs.Common.{◌≡◌, ◌≢◌, ℕ, ◌+◌, ◌-◌, ◌<�
 use Rattle.std.specs.Prelude.{All, Contains, Decides, IsTrue, ◌==◌, bytes_eq}
 use Rattle.std.proofs.lemmas.Grind.{reverse_onto}
 use Rattle.std.proofs.lemmas.List.{get_or-reverse, length-reverse, reverse-reverse}
-use Rattle.std.proofs.lemmas.List.Elements.{All-head, All-tail, Contains-append_left, Contains-append_right}
+use Rattle.std.proofs.lemmas.List.Elements.{All-head, All-tail, All-take, Contains-append_left, Contains-append_right}
 use Rattle.std.proofs.lemmas.List.Sums.{fold-append}
 use Rattle.std.proofs.lemmas.Slice.Eq.{bytes_eq-Decides}
 use Rattle.sha2.proofs.Facts256.{length-sha256}
 use Rattle.venue_rules.specs.declared.trail.TrailRow.{TrailRow}
 use Rattle.trail_digest.specs.Trail.{Trail}
 use Rattle.trail_digest.specs.Chain.{chain, link, link_text, links, start_of, start_text}
-use Rattle.trail_digest.specs.Laws.{Collision, FitsRow, FitsTrail, OneDigestIsOneTrail, texts, texts_from}
+use Rattle.trail_digest.specs.Head.{up_to}
+use Rattle.trail_digest.specs.Laws.{Collision, FitsRow, FitsTrail, ItsDigestIsItsBeginning, OneDigestIsOneTrail, texts, texts_from}
 use Rattle.trail_digest.proofs.Encoding.{link_injective, start_injective}
 
 either : {P : Type 0} (r : Bool) → Decides r P → P ⊎ (P → ⊥)
@@ -143,3 +144,16 @@ one_digest a b fa fb e =
           let R : Trail → Type 0 = λ t. Collision a t in
           inr (subst R (uncut b) (subst L (uncut a) c))
     ]
+
+-- the first rows of a trail that fits fit too
+fits_first : (n : ℕ) (t : Trail) → FitsTrail t → FitsTrail (up_to n t)
+fits_first n t fits = record {
+  participants = fits.participants;
+  instruments = fits.instruments;
+  count = fits.count;
+  delays = fits.delays;
+  rows = All-take FitsRow n t.rows fits.rows;
+}
+
+pub one_beginning : ItsDigestIsItsBeginning
+one_beginning a b n fits fits_too same = one_digest a (up_to n b) fits (fits_first n b fits_too) same

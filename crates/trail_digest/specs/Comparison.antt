@@ -1,6 +1,5 @@
 -- The text that compares two trails, A and B.
-use Rattle.std.specs.Prelude.{◌≡◌, ℕ, ◌+◌, ◌-◌, ◌≤◌, zero, suc, min, ◌&&◌, List, [], ◌∷◌, ◌++◌, length, take, slice_index, slice_get, codes, decimal, bytes_eq, ◌==◌, if◌then◌else◌, Option, Some, None}
-use Rattle.std.specs.Io.KnownBytes.{Appends}
+use Rattle.std.specs.Prelude.{◌≡◌, ℕ, ◌+◌, ◌-◌, ◌≤◌, zero, suc, min, Bool, ◌&&◌, List, [], ◌∷◌, ◌++◌, length, take, slice_index, slice_get, codes, decimal, bytes_eq, ◌==◌, if◌then◌else◌, Option, Some, None}
 use Rattle.instruments.specs.declared.instruments.Instrument.{Instrument}
 use Rattle.instruments.specs.Listing.{symbol_of}
 use Rattle.participants.specs.ParticipantFile.{ParticipantFile}
@@ -68,7 +67,7 @@ begins_pieces n one other more =
     codes "rows: all " ∷ decimal n ∷ codes " of " ∷ one ∷ codes " are the first of " ∷ other ∷ codes ", which has " ∷ decimal more ∷ codes " more\n" ∷ []
 
 abbrev pub differs_pieces : ℕ → List (List ℕ)
-differs_pieces k = codes "rows: the first " ∷ decimal k ∷ codes " are the same, row " ∷ decimal (k + 1) ∷ codes " differs, no later row is compared\n" ∷ []
+differs_pieces k = codes "rows: row " ∷ decimal (k + 1) ∷ codes " is the first that differs, no later row is compared\n" ∷ []
 
 -- what follows the first rows, which both share, where A has no more
 abbrev pub ended_text : Side → ℕ → List ℕ
@@ -88,11 +87,9 @@ unended_text a b k =
 abbrev pub rest_text : Side → Side → ℕ → List ℕ
 rest_text a b k = if k == length a.trail.rows then ended_text b k else unended_text a b k
 
--- rows are answered by the files and the delays
-abbrev pub answers_line : Trail → Trail → List ℕ
-answers_line a b =
-    if bytes_eq a.participants b.participants && bytes_eq a.instruments b.instruments && bytes_eq a.delays b.delays then []
-    else codes "answers: not compared, and the same row may have another with other files or delays\n"
+-- the same files and delays, by which rows are answered
+abbrev pub same_rules : Trail → Trail → Bool
+same_rules a b = bytes_eq a.participants b.participants && bytes_eq a.instruments b.instruments && bytes_eq a.delays b.delays
 
 abbrev pub heads_text : Trail → Trail → List ℕ
 heads_text a b = (codes "A: " ++ head_text Line a) ++ (codes "B: " ++ head_text Line b)
@@ -105,10 +102,8 @@ comparison_text a b k =
     ++ bytes_line (codes "instruments") a.trail.instruments b.trail.instruments
     ++ delays_text a b
     ++ rest_text a b k
-    ++ answers_line a.trail b.trail
 
--- What was written compares the trails, and no other byte.
-pub record EmitsComparison (a b : Side) (before after : Option (List ℕ)) : Type 0 where
-  pub shared : ℕ
+-- The text was made longer by the comparison of the trails, of which the first rows are shared, and no more.
+pub record IsCompared (a b : Side) (old new : List ℕ) (shared : ℕ) : Type 0 where
   pub longest : AreShared a.trail.rows b.trail.rows shared
-  pub written : Appends before after (comparison_text a b shared)
+  pub appended : new ≡ old ++ comparison_text a b shared

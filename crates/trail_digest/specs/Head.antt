@@ -2,7 +2,7 @@
 --
 --     trail of 13 rows, participants SHA-256 <64 digits>, instruments SHA-256 <64 digits>, digest <64 digits>
 --     {"trail":{"rows":13,"participants_sha256":"<64>","instruments_sha256":"<64>","digest":"<64>"}}
-use Rattle.std.specs.Prelude.{ℕ, ◌&&◌, Bool, true, nat_le, List, [], ◌∷◌, length, take, codes, decimal, Option, Some, None, ◌==◌, if◌then◌else◌}
+use Rattle.std.specs.Prelude.{ℕ, Bool, true, nat_le, List, [], ◌∷◌, length, take, codes, decimal, Option, Some, None, ◌==◌, if◌then◌else◌}
 use Rattle.hex.specs.Hex.{encode_lower}
 use Rattle.sha2.specs.Sha256.{sha256}
 use Rattle.trail_digest.specs.declared.head.HeadForm.{HeadForm}
@@ -42,10 +42,10 @@ abbrev pub count_asked : Option ℕ → ℕ → ℕ
 count_asked None rows = rows
 count_asked (Some n) rows = n
 
--- a row that is asked for is there
+-- a row that is asked for is there; 0 is the beginning, before the first
 abbrev pub is_there : Option ℕ → ℕ → Bool
 is_there None rows = true
-is_there (Some n) rows = nat_le 1 n && nat_le n rows
+is_there (Some n) rows = nat_le n rows
 
 -- the trail up to a row
 abbrev pub up_to : ℕ → Trail → Trail

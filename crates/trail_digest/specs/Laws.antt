@@ -2,6 +2,7 @@
 use Rattle.std.specs.Prelude.{◌≡◌, ◌≢◌, ℕ, ◌<◌, ◌^◌, ◌⊎◌, List, [], ◌∷◌, ◌++◌, length, All, Contains, codes}
 use Rattle.sha2.specs.Sha256.{sha256}
 use Rattle.venue_rules.specs.declared.trail.TrailRow.{TrailRow}
+use Rattle.trail_digest.specs.Head.{up_to}
 use Rattle.trail_digest.specs.Trail.{Trail}
 use Rattle.trail_digest.specs.Chain.{chain, link, link_text, links, start_of, start_text}
 
@@ -45,6 +46,10 @@ pub record Collision (a b : Trail) : Type 0 where
 -- two trails with one digest are the same files, delays and rows, or two texts with one SHA-256 are named
 abbrev pub OneDigestIsOneTrail : Type 0
 OneDigestIsOneTrail = (a b : Trail) → FitsTrail a → FitsTrail b → chain a ≡ chain b → (a ≡ b) ⊎ Collision a b
+
+-- and so a trail whose digest is that of another's first rows is these rows of it
+abbrev pub ItsDigestIsItsBeginning : Type 0
+ItsDigestIsItsBeginning = (a b : Trail) (n : ℕ) → FitsTrail a → FitsTrail b → chain a ≡ chain (up_to n b) → (a ≡ up_to n b) ⊎ Collision a (up_to n b)
 
 -- the digest of a trail's beginning is the chain's value there, from which the further rows go on
 abbrev pub ABeginningHasItsDigest : Type 0

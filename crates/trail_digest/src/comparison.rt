@@ -1,23 +1,19 @@
 //! Two trails compared: files, delays and rows.
 
 ghost use Rattle.std.specs.Prelude.{◌≡◌, ◌++◌, ◌+◌, ◌<◌, ◌≤◌, ◌↔◌, ◌-◌, min, length, slice_get, Some, bytes_eq, ◌&&◌, ◌^◌, IfErr, IfOk, OnOk, IsTrue};
-ghost use Rattle.std.specs.Io.KnownBytes.{Appends, Keeps};
 ghost use Rattle.instruments.specs.Listing.{symbol_of};
-ghost use Rattle.trail_digest.specs.Comparison.{AreShared, EmitsComparison, answers_line, begins_pieces, both_rows, bytes_line, comparison_text, count_line, delay_line, delay_lines, delay_pieces, delays_text, difference_text, differs_pieces, ended_text, heads_text, rest_text, rows_text, same_pieces, side_of, unended_text};
+ghost use Rattle.trail_digest.specs.Comparison.{AreShared, IsCompared, begins_pieces, both_rows, bytes_line, comparison_text, count_line, delay_line, delay_lines, delay_pieces, delays_text, difference_text, differs_pieces, ended_text, heads_text, rest_text, rows_text, same_pieces, same_rules, side_of, unended_text};
 ghost use Rattle.trail_digest.specs.Printed.{concat};
 ghost use Rattle.trail_digest.specs.Trail.{trail_of};
-ghost use Rattle.trail_digest.specs.declared.fault.DigestFault.TheVariants.{Memory, NoRow};
 
 use crate::contents::Contents;
-use crate::fault::DigestFault;
 use crate::head::{HeadForm, append_head};
 use crate::shared::shared_rows;
-use crate::text::{append, append_row, write_text};
+use crate::text::{append, append_row};
 use instruments::Instruments;
 use itoa::Buffer;
 use participants::Participants;
 use std::alloc::{AllocError, Global};
-use std::io::Write;
 use venue_rules::TrailRow;
 
 /// A trail, with the values of its files.
@@ -215,16 +211,13 @@ fn append_differs(text: &mut Vec<u8>, k: usize) -> Result<(), AllocError>
     requires { k < 2 ^ 64 - 1 }
     ensures { OnOk result (text.new.items ≡ text.old.items ++ concat (differs_pieces k)) }
 {
-    let mut first = Buffer::new();
     let mut row = Buffer::new();
     append(
         text,
         &[
-            b"rows: the first ",
-            first.format(k).as_bytes(),
-            b" are the same, row ",
+            b"rows: row ",
             row.format(k + 1).as_bytes(),
-            b" differs, no later row is compared\n",
+            b" is the first that differs, no later row is compared\n",
         ],
     )
 }
@@ -298,22 +291,10 @@ fn append_rest(
 }
 
 /// Whether the files and the delays are the same, by which rows are answered.
-fn are_same_rules(a: &Contents, b: &Contents) -> bool
-    ensures { result ≡ (bytes_eq a.now.participants.now b.now.participants.now && bytes_eq a.now.instruments.now b.now.instruments.now && bytes_eq a.now.delays.now b.now.delays.now) }
+pub fn are_same_rules(a: &Contents, b: &Contents) -> bool
+    ensures { result ≡ same_rules (trail_of a.now) (trail_of b.now) }
 {
     a.participants == b.participants && a.instruments == b.instruments && a.delays == b.delays
-}
-
-fn append_answers_line(text: &mut Vec<u8>, a: &Contents, b: &Contents) -> Result<(), AllocError>
-    ensures { OnOk result (text.new.items ≡ text.old.items ++ answers_line (trail_of a.now) (trail_of b.now)) }
-{
-    if are_same_rules(a, b) {
-        return Ok(());
-    }
-    append(
-        text,
-        &[b"answers: not compared, and the same row may have another with other files or delays\n"],
-    )
 }
 
 fn append_heads(
@@ -330,7 +311,7 @@ fn append_heads(
     append_head(alloc, text, HeadForm::Line, b)
 }
 
-fn append_comparison(
+fn append_of_shared(
     alloc: Global,
     text: &mut Vec<u8>,
     a: &Side,
@@ -355,8 +336,22 @@ fn append_comparison(
         b.contents.instruments,
     )?;
     append_delays(text, a, b)?;
-    append_rest(alloc, text, a, b, k)?;
-    append_answers_line(text, &a.contents, &b.contents)
+    append_rest(alloc, text, a, b, k)
+}
+
+/// Appends how two trails, A and B, differ: their heads, whether the files are the same, each delay that differs, and
+/// the first row that differs, or how many more rows one of them has. Returns how many of the first rows are shared.
+pub fn append_comparison(
+    alloc: Global,
+    text: &mut Vec<u8>,
+    a: &Side,
+    b: &Side,
+) -> Result<usize, AllocError>
+    ensures { IfOk result (IsCompared (side_of a.now) (side_of b.now) text.old.items text.new.items) }
+{
+    let k = shared_rows(a.contents.rows, b.contents.rows);
+    append_of_shared(alloc, text, a, b, k)?;
+    Ok(k)
 }
 
 /// Whether the rows are the same, of which the first k are shared and no more.
@@ -368,30 +363,9 @@ fn are_same_rows(a: &[TrailRow], b: &[TrailRow], k: usize) -> bool
 }
 
 /// Whether nothing differs, of trails whose first k rows are shared and no more.
-fn is_same(a: &Contents, b: &Contents, k: usize) -> bool
+pub fn is_same(a: &Contents, b: &Contents, k: usize) -> bool
     requires { AreShared a.now.rows.now b.now.rows.now k }
     ensures { IsTrue result ↔ (trail_of a.now ≡ trail_of b.now) }
 {
     are_same_rules(a, b) && are_same_rows(a.rows, b.rows, k)
-}
-
-/// Writes how two trails, A and B, differ: their heads, whether the files are the same, each delay that differs, and
-/// the first row that differs, or how many more rows one of them has; and where files or delays differ, that the
-/// answers are not compared. Returns whether nothing differs.
-pub fn print_comparison<W: Write>(
-    alloc: Global,
-    a: &Side,
-    b: &Side,
-    writer: &mut W,
-) -> Result<bool, DigestFault>
-    ensures emitted { OnOk result (EmitsComparison (side_of a.now) (side_of b.now) (W.contents writer.old) (W.contents writer.new)) }
-    ensures same { IfOk result (λ same. IsTrue same ↔ (trail_of a.now.contents ≡ trail_of b.now.contents)) }
-    ensures unwritten { IfErr result (λ fault. fault ≡ Memory → Keeps (W.contents writer.old) (W.contents writer.new)) }
-    ensures failed { IfErr result (λ fault. fault ≡ NoRow → ⊥) }
-{
-    let k = shared_rows(a.contents.rows, b.contents.rows);
-    let mut text = Vec::new(alloc);
-    append_comparison(alloc, &mut text, a, b, k)?;
-    write_text(&text, writer)?;
-    Ok(is_same(&a.contents, &b.contents, k))
 }

@@ -125,12 +125,12 @@ pub fn print_head<W: Write>(
     write_text(&text, writer)
 }
 
-/// This row, if it is there.
+/// This row, if it is there; 0 is the beginning, before the first.
 fn there(n: u64, count: u64) -> Option<u64>
     ensures there { IfSome result (λ row. (row ≡ n) × (is_there (Some n) count ≡ true)) }
     ensures lost { IfNone result (is_there (Some n) count ≡ false) }
 {
-    if 1 <= n && n <= count { Some(n) } else { None }
+    if n <= count { Some(n) } else { None }
 }
 
 /// How many rows are asked for: all, or those up to a row, if it is there.

@@ -2,12 +2,13 @@
 
 ghost use Rattle.std.specs.Prelude.{◌≡◌, codes};
 ghost use Rattle.trail_digest.specs.Head.{digest_text};
-ghost use Rattle.trail_digest.specs.Laws.{ABeginningHasItsDigest, OneDigestIsOneTrail, worked_trail};
+ghost use Rattle.trail_digest.specs.Laws.{ABeginningHasItsDigest, ItsDigestIsItsBeginning, OneDigestIsOneTrail, worked_trail};
 
 /// Two trails with one digest have the same files, delays and rows, or a text hashed in each chain is named: two
-/// different byte strings with one SHA-256.
+/// different byte strings with one SHA-256. The same of one trail and the first rows of another.
 pub fn one_digest_is_one_trail()
-    ensures { OneDigestIsOneTrail }
+    ensures whole { OneDigestIsOneTrail }
+    ensures first { ItsDigestIsItsBeginning }
 {}
 
 /// The digest of a trail's first rows is the chain's value there, and further rows go on from it.

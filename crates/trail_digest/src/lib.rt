@@ -12,7 +12,7 @@ mod shared;
 mod text;
 
 pub use chain::{Chain, digest};
-pub use comparison::{Side, print_comparison};
+pub use comparison::{Side, append_comparison, are_same_rules, is_same};
 pub use contents::Contents;
 pub use fault::DigestFault;
 pub use head::{HeadForm, append_head, print_digest, print_head};

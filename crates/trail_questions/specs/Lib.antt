@@ -5,6 +5,7 @@ pub mod Evidence
 pub mod Answers
 pub mod Why
 pub mod Book
+pub mod Rests
 pub mod Against
 pub mod Digest
 pub mod Question

@@ -8,7 +8,7 @@ use Rattle.trade_reconstruction.specs.Emitted.{EmitsTrade}
 use Rattle.trade_table.specs.Table.{BeginsTable, EmitsTable}
 use Rattle.trail_questions.specs.declared.fault.Unknown.{Unknown}
 use Rattle.trail_questions.specs.declared.question.Question.{Question}
-use Rattle.trail_questions.specs.declared.question.Question.TheVariants.{Against, Answers, Book, Digest, Evidence, Table, Why}
+use Rattle.trail_questions.specs.declared.question.Question.TheVariants.{Against, Answers, Book, Digest, Evidence, Rests, Table, Why}
 use Rattle.trail_digest.specs.declared.head.HeadForm.{HeadForm}
 use Rattle.trail_digest.specs.declared.head.HeadForm.TheVariants.{Line}
 use Rattle.trail_questions.specs.Against.{AgreesWith, DiffersFrom, IsUnknownDesk}
@@ -18,6 +18,7 @@ use Rattle.trail_questions.specs.Headed.{Under, head_form}
 use Rattle.trail_questions.specs.Digest.{EmitsDigest, IsUnknownRow}
 use Rattle.trail_questions.specs.Ending.{IsNever}
 use Rattle.trail_questions.specs.Evidence.{IsUnknownTrade}
+use Rattle.trail_questions.specs.Rests.{EmitsRestsAfter, IsUnknownRests}
 use Rattle.trail_questions.specs.Why.{IsUnknownWhy}
 
 -- the output is the answer to the question, without the head above it
@@ -28,9 +29,10 @@ EmitsAnswer (Digest row) m trail before after = EmitsDigest trail row before aft
 EmitsAnswer (Evidence number) m trail before after = EmitsTrade m trail.rows number before after
 EmitsAnswer (Why number) m trail before after = EmitsWhy m trail.rows number before after
 EmitsAnswer (Book b form) m trail before after = EmitsBookAfter b form m trail.rows before after
+EmitsAnswer (Rests r form) m trail before after = EmitsRestsAfter r form m trail.rows before after
 EmitsAnswer (Answers n form) m trail before after = EmitsNarrowed n form m trail before after
 
--- or a first part of it; of evidence, a cause, a book or a digest nothing is written before all is made
+-- or a first part of it; of evidence, a cause, a book, what rests or a digest nothing is written before all is made
 abbrev pub BeginsAnswer : Question → Market → Trail → (before after : Option (List ℕ)) → Type 0
 BeginsAnswer Table m trail before after = BeginsTable m trail.rows before after
 BeginsAnswer (Against desk log) m trail before after = ⊥
@@ -38,6 +40,7 @@ BeginsAnswer (Digest row) m trail before after = ⊥
 BeginsAnswer (Evidence number) m trail before after = ⊥
 BeginsAnswer (Why number) m trail before after = ⊥
 BeginsAnswer (Book b form) m trail before after = ⊥
+BeginsAnswer (Rests r form) m trail before after = ⊥
 BeginsAnswer (Answers n form) m trail before after = BeginsNarrowed n form m trail before after
 
 -- the output is that what was compared differs
@@ -48,6 +51,7 @@ DiffersAnswer (Digest row) m trail before after = ⊥
 DiffersAnswer (Evidence number) m trail before after = ⊥
 DiffersAnswer (Why number) m trail before after = ⊥
 DiffersAnswer (Book b form) m trail before after = ⊥
+DiffersAnswer (Rests r form) m trail before after = ⊥
 DiffersAnswer (Answers n form) m trail before after = ⊥
 
 -- what the question names is not there
@@ -58,6 +62,7 @@ IsUnknownAsked (Digest row) m trail what = IsUnknownRow trail row what
 IsUnknownAsked (Evidence number) m trail what = IsUnknownTrade number m trail.rows what
 IsUnknownAsked (Why number) m trail what = IsUnknownWhy number trail.rows what
 IsUnknownAsked (Book b form) m trail what = IsUnknownBook b m trail.rows what
+IsUnknownAsked (Rests r form) m trail what = IsUnknownRests r m trail.rows what
 IsUnknownAsked (Answers n form) m trail what = IsUnknownAnswer n m trail.rows what
 
 -- the head above an answer that is made whole before it is written
@@ -66,6 +71,7 @@ head_of (Evidence number) = Some Line
 head_of (Why number) = Some Line
 head_of (Against desk log) = Some Line
 head_of (Book b form) = book_head form
+head_of (Rests r form) = book_head form
 head_of (Answers n form) = if is_sought n then head_form form else None
 head_of Table = None
 head_of (Digest row) = None

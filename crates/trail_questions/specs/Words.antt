@@ -9,9 +9,11 @@ use Rattle.trail_questions.specs.declared.fault.Unknown.TheVariants.{Instrument,
 use Rattle.trail_questions.specs.declared.question.Question.{Question}
 use Rattle.trail_questions.specs.declared.question.Question.TheVariants as question
 use Rattle.trail_questions.specs.declared.words.AskedWords.{AskedWords}
-use Rattle.trail_questions.specs.declared.words.AskedWords.TheVariants.{Against, Answers, Book, Digest, Evidence, Table, Why}
+use Rattle.trail_questions.specs.declared.words.AskedWords.TheVariants.{Against, Answers, Book, Digest, Evidence, Rests, Table, Why}
 use Rattle.trail_questions.specs.declared.words.BookWords.{BookWords}
 use Rattle.trail_questions.specs.declared.words.NarrowingWords.{NarrowingWords}
+use Rattle.trail_questions.specs.declared.rests.RestsAfter.{RestsAfter}
+use Rattle.trail_questions.specs.declared.words.RestsWords.{RestsWords}
 use Rattle.trail_questions.specs.Numbers.{SpellsSpan}
 
 -- a letter and the digits of a number, or no word and no number
@@ -62,6 +64,15 @@ IsMisspeltBook w Instrument = IsNoName (Some (string_bytes w.symbol))
 IsMisspeltBook w Row = IsNoNumber (codes "") (option_map string_bytes w.row)
 IsMisspeltBook w _ = ⊥
 
+pub record SpellsRests (w : RestsWords) (r : RestsAfter) : Type 0 where
+  pub to : r.to ≡ option_map string_bytes w.to
+  pub row : SpellsNumber (codes "") (option_map string_bytes w.row) r.row
+
+abbrev pub IsMisspeltRests : RestsWords → Unknown → Type 0
+IsMisspeltRests w Recipient = IsNoName (option_map string_bytes w.to)
+IsMisspeltRests w Row = IsNoNumber (codes "") (option_map string_bytes w.row)
+IsMisspeltRests w _ = ⊥
+
 -- how this log of the desk agrees
 abbrev pub IsAgainst : (desk log : List ℕ) → Question → Type 0
 IsAgainst desk log (question.Against d l) = (d ≡ desk) × (l.now ≡ log)
@@ -75,6 +86,7 @@ Spells (Digest word) q = (row : Option ℕ) × (q ≡ question.Digest row) × Sp
 Spells (Evidence word) q = (n : ℕ) × (q ≡ question.Evidence n) × (string_bytes word ≡ codes "T" ++ decimal n)
 Spells (Why word) q = (n : ℕ) × (q ≡ question.Why n) × (string_bytes word ≡ decimal n)
 Spells (Book w form) q = (b : BookAfter) × (q ≡ question.Book b form) × SpellsBook w b
+Spells (Rests w form) q = (r : RestsAfter) × (q ≡ question.Rests r form) × SpellsRests w r
 Spells (Answers w form) q = (n : Narrowing) × (q ≡ question.Answers n form) × SpellsNarrowing w n
 
 -- and ask none, since the word for this has not its form
@@ -89,4 +101,5 @@ IsMisspelt (Evidence word) _ = ⊥
 IsMisspelt (Why word) Row = IsNoNumber (codes "") (Some (string_bytes word))
 IsMisspelt (Why word) _ = ⊥
 IsMisspelt (Book w form) what = IsMisspeltBook w what
+IsMisspelt (Rests w form) what = IsMisspeltRests w what
 IsMisspelt (Answers w form) what = IsMisspeltNarrowing w what

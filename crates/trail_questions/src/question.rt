@@ -17,6 +17,7 @@ use crate::digest::print_digest_at;
 use crate::evidence::print_evidence_for;
 use crate::fault::AskedFault;
 use crate::headed::head_form;
+use crate::rests::{RestsAfter, print_rests_after};
 use crate::trades::print_table_of;
 use crate::why::print_why_at;
 use fix_dictionary::Identifier;
@@ -41,6 +42,8 @@ pub enum Question<'a> {
     Answers(Narrowing, Form),
     /// The book of an instrument.
     Book(BookAfter, BookForm),
+    /// What rests or is held, of each participant or of one.
+    Rests(RestsAfter, BookForm),
     /// How a desk's log of messages agrees with what it was owed.
     Against(Identifier, &'a [u8]),
     /// The digest of the trail's content, up to a row or the last.
@@ -54,7 +57,7 @@ fn head_of(question: &Question<'_>) -> Option<HeadForm>
 {
     match question {
         Question::Evidence(_) | Question::Why(_) | Question::Against(_, _) => Some(HeadForm::Line),
-        Question::Book(_, form) => book_head(*form),
+        Question::Book(_, form) | Question::Rests(_, form) => book_head(*form),
         Question::Answers(narrowing, form) => {
             if is_sought(narrowing) {
                 head_form(*form)
@@ -93,6 +96,9 @@ fn print_answer<W: Write>(
         }
         Question::Book(book, form) => {
             print_book_after(alloc, participants, instruments, rows, book, *form, writer)
+        }
+        Question::Rests(rests, form) => {
+            print_rests_after(alloc, participants, instruments, rows, rests, *form, writer)
         }
         Question::Answers(narrowing, form) => {
             print_narrowed(

@@ -1,13 +1,14 @@
 //! Questions in the words of the command line.
 
 ghost use Rattle.std.specs.Prelude.{◌≡◌, None, IfOk, IfErr, IfSome, codes, option_map, string_bytes};
-ghost use Rattle.trail_questions.specs.Words.{IsMisspelt, IsMisspeltBook, IsMisspeltNarrowing, IsNoName, IsNoNumber, IsNoSpan, Spells, SpellsBook, SpellsNarrowing, SpellsNumber, SpellsRows};
+ghost use Rattle.trail_questions.specs.Words.{IsMisspelt, IsMisspeltBook, IsMisspeltNarrowing, IsMisspeltRests, IsNoName, IsNoNumber, IsNoSpan, Spells, SpellsBook, SpellsNarrowing, SpellsNumber, SpellsRests, SpellsRows};
 
 use crate::answers::Narrowing;
 use crate::book::BookAfter;
 use crate::fault::Unknown;
 use crate::numbers::{order_number, plain_number, room_number, span_in, trade_number};
 use crate::question::Question;
+use crate::rests::RestsAfter;
 use fix_dictionary::Identifier;
 use message_words::Form;
 use resting_orders::Form as BookForm;
@@ -30,6 +31,13 @@ pub struct BookWords {
     pub row: Option<String>,
 }
 
+/// A participant and a row, as they were written.
+#[derive(Drop)]
+pub struct RestsWords {
+    pub to: Option<String>,
+    pub row: Option<String>,
+}
+
 /// A question, as it was written.
 #[derive(Drop)]
 pub enum AskedWords {
@@ -43,6 +51,8 @@ pub enum AskedWords {
     Answers(NarrowingWords, Form),
     /// `--book IRS5Y`, perhaps with `--row 12`
     Book(BookWords, BookForm),
+    /// `--rests`, perhaps with `--to BETA` and `--row 12`
+    Rests(RestsWords, BookForm),
     /// `--against FILE --desk BETA`, with the bytes of the file
     Against(String, Vec<u8>),
     /// `--digest`, perhaps with `--row 12`
@@ -160,6 +170,19 @@ fn book_of(words: &BookWords) -> Result<BookAfter, Unknown>
     }
 }
 
+fn rests_of(words: &RestsWords) -> Result<RestsAfter, Unknown>
+    ensures spelled { IfOk result (SpellsRests words.now) }
+    ensures refused { IfErr result (IsMisspeltRests words.now) }
+{
+    let Some(to) = name_given(&words.to) else {
+        return Err(Unknown::Recipient);
+    };
+    match row_given(&words.row) {
+        Some(row) => Ok(RestsAfter { to, row }),
+        None => Err(Unknown::Row),
+    }
+}
+
 /// The question in these words: each word sets the field that it names. Where a word has not the form of what it
 /// names, that is refused.
 pub fn question_of<'a>(words: &'a AskedWords) -> Result<Question<'a>, Unknown>
@@ -182,6 +205,10 @@ pub fn question_of<'a>(words: &'a AskedWords) -> Result<Question<'a>, Unknown>
         },
         AskedWords::Book(words, form) => match book_of(words) {
             Ok(book) => Ok(Question::Book(book, *form)),
+            Err(unknown) => Err(unknown),
+        },
+        AskedWords::Rests(words, form) => match rests_of(words) {
+            Ok(rests) => Ok(Question::Rests(rests, *form)),
             Err(unknown) => Err(unknown),
         },
         AskedWords::Against(desk, log) => match Identifier::read(desk.as_bytes()) {

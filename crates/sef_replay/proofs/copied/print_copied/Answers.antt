@@ -1,4 +1,4 @@
-use Rattle.std.proofs.Common.{◌≡◌, inl, inr, ap, refl, Err}
+use Rattle.std.proofs.Common.{◌≡◌, inl, inr, refl}
 use Rattle.sqlite.specs.Files.{file_state}
 use Rattle.sef_replay.proofs.OverBytes.{of_same, or_begun, unopened}
 use Rattle.sef_replay.proofs.copied.print_copied.Goals as goal
@@ -6,7 +6,7 @@ use Rattle.sef_replay.proofs.copied.print_copied.Goals as goal
 pub returns-in-Err-clause-fault : goal.returns-in-Err-clause-fault
 returns-in-Err-clause-fault g c =
     inl (unopened _ _ _ _ c.in-Err.error _ c.as_slice.ensures.value c.as_slice-2.ensures.value c.from.ensures c.in-Err.ensures.named
-    (λ is. c.in-Err.ensures.none (ap (λ e. Err e) is)))
+    c.in-Err.ensures.refused c.in-Err.ensures.fault)
 
 pub returns-in-Err-print_wanted-clause-fault : goal.returns-in-Err-print_wanted-clause-fault
 returns-in-Err-print_wanted-clause-fault g c =

@@ -1,0 +1,5 @@
+pub mod Sent
+pub mod Lines
+pub mod Differences
+pub mod Comparison
+pub mod Laws
