@@ -3,7 +3,7 @@
 use crate::moments::moment_after;
 use crate::texts::word_in;
 use crate::world::reading::frame_of;
-use crate::world::running::{Answer, Outcome, give};
+use crate::world::running::{Answer, Outcome, answer_of};
 use sef_moment::Moment;
 use std::alloc::{AllocError, Global};
 use venue_rules::Who;
@@ -31,7 +31,7 @@ fn filling_in(text: &str) -> Option<Filling<'_>> {
     })
 }
 
-// The message of this number is sent, received, handed and taken; the first answer that is a fault ends it.
+// The message of this number is sent, received, handed and taken, as one run of a world; the first fault is the answer.
 fn send_one(
     alloc: Global,
     world: &mut Outcome,
@@ -42,16 +42,18 @@ fn send_one(
     let Some(frame) = frame_of(alloc, who, number, filling.text)? else {
         return Ok(Answer::Unknown);
     };
+    if !world.has(who) {
+        return Ok(Answer::Unknown);
+    }
     let events = [
         Event::Piece(who, Piece::of(&frame)),
         Event::Step(who, filling.t),
         Event::Hand(who),
         Event::Take(who, filling.t),
     ];
-    for event in events {
-        match give(world, event)? {
-            Answer::Nothing => {}
-            answer => return Ok(answer),
+    for result in world.run(alloc, &events)? {
+        if let Err(fault) = result {
+            return answer_of(fault);
         }
     }
     Ok(Answer::Nothing)

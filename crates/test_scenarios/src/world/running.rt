@@ -49,16 +49,16 @@ fn renew(alloc: Global, world: &mut Outcome, refuses: Option<u64>) -> Result<Ans
     Ok(Answer::Nothing)
 }
 
-// What came of an event or a call.
-fn answer_of(fault: EventFault) -> Result<Answer, AllocError> {
+/// What came of an event or a call.
+pub fn answer_of(fault: EventFault) -> Result<Answer, AllocError> {
     match fault {
         EventFault::NoMemory => Err(AllocError),
         fault => Ok(Answer::Fault(fault)),
     }
 }
 
-/// One event. One that names nobody that there is, is not given.
-pub fn give(world: &mut Outcome, event: Event<'_>) -> Result<Answer, AllocError> {
+// One event. One that names nobody that there is, is not given.
+fn give(world: &mut Outcome, event: Event<'_>) -> Result<Answer, AllocError> {
     if !world.names(&event) {
         return Ok(Answer::Unknown);
     }
