@@ -3,8 +3,9 @@
 
 usage: make_trail.py ROWS FILE
 
-Two unrelated participants trade: an order rests, and the next one fills it. Each tenth message asks for the prices or
-cancels nothing; in each thousand four are a request for quotes, a quote, its hit, and a pass.
+Two unrelated participants trade: the orders of one fill those of the other, and some rest a while. In each twenty
+messages one asks for the prices and one cancels nothing; in each thousand four are a request for quotes, two quotes and
+a hit.
 """
 
 import os
@@ -13,7 +14,8 @@ import sys
 
 NAMES = ["ALPHA", "BETA", "GAMMA", "DELTA", "EPSILON"]
 PARTICIPANTS = 'venue = "SEF"\n' + "".join(f'[[participant]]\nname = "{name}"\n' for name in NAMES)
-INSTRUMENTS = "".join(f'[[instrument]]\nsymbol = "{it}"\ntick = 2500\nleast = 1\nrfq_life = 30\n' for it in ("IRS5Y", "BASIS1Y"))
+DELAYS = {"IRS5Y": 15_000, "BASIS1Y": 1_000}
+INSTRUMENTS = "".join(f'[[instrument]]\nsymbol = "{it}"\ntick = 2500\nleast = 1\nrfq_life = 30\ndelay_ms = {ms}\n' for it, ms in DELAYS.items())
 TABLES = [
     "CREATE TABLE head (id INTEGER PRIMARY KEY, version INTEGER NOT NULL, participants BLOB NOT NULL, instruments BLOB NOT NULL)",
     "CREATE TABLE item (n INTEGER PRIMARY KEY, who INTEGER NOT NULL, number INTEGER NOT NULL, moment INTEGER NOT NULL, text BLOB NOT NULL)",
@@ -44,23 +46,23 @@ def messages(count):
             yield ALPHA, f"35=AJ|693=h{k}|117=Q{2 * quotes - 1}|694=1|"
         elif k % 20 == 10:
             yield who, f"35=F|11=c{k}|41=none|"
-        elif k % 10 == 0:
+        elif k % 20 == 5:
             yield who, f"35=V|262=v{k}|263=0|264=0|267=1|269=0|146=1|55=IRS5Y|"
         else:
             side = 1 if who == ALPHA else 2
             yield who, f"35=D|11=o{k}|55=IRS5Y|54={side}|38={10 + k % 7}|40=2|44=2.5|"
 
 
-def main():
-    rows, path = int(sys.argv[1]), sys.argv[2]
-    if os.path.exists(path):
-        os.remove(path)
+def make(rows, path):
+    for end in ("", "-wal"):
+        if os.path.exists(path + end):
+            os.remove(path + end)
     db = sqlite3.connect(path)
     db.execute("PRAGMA journal_mode = WAL")
     for table in TABLES:
         db.execute(table)
     db.execute("INSERT INTO head VALUES (1, 3, ?, ?)", (PARTICIPANTS.encode(), INSTRUMENTS.encode()))
-    db.execute("INSERT INTO delay VALUES (1, 15000), (2, 1000)")
+    db.executemany("INSERT INTO delay VALUES (?, ?)", enumerate(DELAYS.values(), 1))
     numbers = dict.fromkeys(range(1, len(NAMES) + 1), 1)
     batch = []
     for n, (who, text) in enumerate(messages(rows), 1):
@@ -73,4 +75,4 @@ def main():
 
 
 if __name__ == "__main__":
-    main()
+    make(int(sys.argv[1]), sys.argv[2])

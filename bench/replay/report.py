@@ -1,5 +1,6 @@
 """Times each mode of sef_replay, and Python's sqlite3 over the same rows, alternately."""
 
+import csv
 import hashlib
 import os
 import sqlite3
@@ -9,15 +10,19 @@ import sys
 import time
 
 sys.dont_write_bytecode = True
-HERE = os.path.dirname(os.path.abspath(__file__))
+TOP = os.path.join(os.path.dirname(os.path.abspath(__file__)), "..", "..")
+sys.path.append(os.path.join(TOP, "tests", "lib"))
+import make_trail  # noqa: E402
+from fix import frame, wire  # noqa: E402
 
-BARE = "book"
+# (tables have no head, and so no digest of all rows)
+BARE = "book, table"
 MODES = {
-    BARE: ["TRAIL", "--book", "IRS5Y"],
+    BARE: ["TRAIL", "--book", "IRS5Y", "--csv"],
+    "book": ["TRAIL", "--book", "IRS5Y"],
     "trades": ["TRAIL"],
     "trades, table": ["--csv", "TRAIL"],
     "evidence of the first": ["TRAIL", "--trade", "T1"],
-    "evidence of all": ["TRAIL", "--trade", "all"],
     "answers": ["TRAIL", "--answers"],
     "answers, table": ["TRAIL", "--answers", "--csv"],
     "answers, JSON": ["TRAIL", "--answers", "--json"],
@@ -25,14 +30,15 @@ MODES = {
     "one order": ["TRAIL", "--answers", "--order", "O3"],
     "one request": ["TRAIL", "--answers", "--room", "R1"],
     "why": ["TRAIL", "--why", "10"],
-    "what rests": ["TRAIL", "--rests"],
+    "what rests": ["TRAIL", "--rests", "--csv"],
+    "one participant's figures": ["TRAIL", "--desk", "ALPHA", "--csv"],
+    "a participant's log": ["TRAIL", "--against", "LOG", "--desk", "ALPHA"],
     "digest": ["TRAIL", "--digest"],
 }
 
 
 def sample(words):
-    """Seconds, peak MB and bytes of a program's run; None where it is refused."""
-    began = time.monotonic()
+    """Seconds of the processor, peak MB and bytes of a program's run; None where it is refused."""
     with subprocess.Popen(words, stdout=subprocess.PIPE, stderr=subprocess.PIPE) as ran:
         count = 0
         while chunk := ran.stdout.read(1 << 20):
@@ -43,17 +49,32 @@ def sample(words):
     if ran.returncode != 0:
         print(f"bench/replay: {' '.join(words)}: status {ran.returncode}: {fault.strip()}", file=sys.stderr)
         return None
-    return time.monotonic() - began, usage.ru_maxrss / 1024, count
+    return usage.ru_utime + usage.ru_stime, usage.ru_maxrss / 1024, count
+
+
+def make_log(program, trail, path):
+    """The log of ALPHA: a Logon, and each message that it was owed."""
+    texts = subprocess.Popen([program, trail, "--answers", "--to", "ALPHA", "--csv"], stdout=subprocess.PIPE, text=True)
+    with texts, open(path, "wb") as log:
+        log.write(frame(wire("35=A|49=SEF|56=ALPHA|34=1|52=20250303-14:30:00.000|98=0|108=30|1137=9|")) + b"\n")
+        for number, row in enumerate(csv.DictReader(texts.stdout), 2):
+            kind, fields = row["text"].split("|", 1)
+            log.write(frame(wire(f"{kind}|49=SEF|56=ALPHA|34={number}|52={row['moment_utc']}|{fields}")) + b"\n")
 
 
 def read_by_sqlite(path):
-    """Seconds in which Python's sqlite3 reads the rows and hashes them."""
-    began = time.monotonic()
+    """Seconds of the processor in which Python's sqlite3 reads the rows and hashes them."""
+    began = time.process_time()
     summed = hashlib.sha256()
     with sqlite3.connect(f"file:{path}?mode=ro", uri=True) as db:
         for row in db.execute("SELECT n, who, number, moment, text FROM item ORDER BY n"):
             summed.update(repr(row).encode())
-    return time.monotonic() - began
+    return time.process_time() - began
+
+
+def shown(values, form):
+    """The median, and in brackets the least and the greatest."""
+    return f"{statistics.median(values):{form}} ({min(values):{form}} to {max(values):{form}})"
 
 
 def main():
@@ -61,27 +82,32 @@ def main():
     print("| Rows | Mode | Seconds | Rows/s | Of a bare replay | Peak MB | Printed bytes |")
     print("|---|---|---|---|---|---|---|")
     for rows in map(int, counts):
-        path = os.path.join(folder, f"replay_{rows}.trail")
-        subprocess.run([sys.executable, "-B", os.path.join(HERE, "make_trail.py"), str(rows), path], check=True)
+        files = {"TRAIL": os.path.join(folder, f"replay_{rows}.trail"), "LOG": os.path.join(folder, f"replay_{rows}.log")}
+        make_trail.make(rows, files["TRAIL"])
+        make_log(program, files["TRAIL"], files["LOG"])
         samples = 5 if rows <= 100_000 else 3
         found, peer = {mode: [] for mode in MODES}, []
         for _ in range(samples):
-            peer.append(read_by_sqlite(path))
+            peer.append(read_by_sqlite(files["TRAIL"]))
             for mode, words in MODES.items():
                 if found[mode] is not None:
-                    one = sample([program, *[path if it == "TRAIL" else it for it in words]])
+                    one = sample([program, *[files.get(it, it) for it in words]])
                     found[mode] = None if one is None else [*found[mode], one]
-        bare = statistics.median(it[0] for it in found[BARE])
+        bare = [it[0] for it in found[BARE]]
         for mode, taken in found.items():
             if taken is None:
                 print(f"| {rows:,} | {mode} | not run | | | | |")
                 continue
-            seconds = statistics.median(it[0] for it in taken)
+            seconds = [it[0] for it in taken]
+            ratios = [mine / other for mine, other in zip(seconds, bare)]
             peak, count = max(it[1] for it in taken), taken[0][2]
-            print(f"| {rows:,} | {mode} | {seconds:.3f} | {rows / seconds:,.0f} | {seconds / bare:.2f} | {peak:.0f} | {count:,} |", flush=True)
-        seconds = statistics.median(peer)
-        print(f"| {rows:,} | Python's sqlite3 | {seconds:.3f} | {rows / seconds:,.0f} | {seconds / bare:.2f} | | |", flush=True)
-        os.remove(path)
+            pace = rows / statistics.median(seconds)
+            print(f"| {rows:,} | {mode} | {shown(seconds, '.3f')} | {pace:,.0f} | {shown(ratios, '.2f')} | {peak:.0f} | {count:,} |", flush=True)
+        ratios = [mine / other for mine, other in zip(peer, bare)]
+        pace = rows / statistics.median(peer)
+        print(f"| {rows:,} | Python's sqlite3 | {shown(peer, '.3f')} | {pace:,.0f} | {shown(ratios, '.2f')} | | |", flush=True)
+        for path in files.values():
+            os.remove(path)
 
 
 if __name__ == "__main__":

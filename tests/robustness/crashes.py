@@ -122,7 +122,7 @@ class Crashes:
         """How many messages a venue closes with that begins from the trail."""
         with Venue(self.venue_main, self.files, port, "--trail", trail, turns=1) as venue:
             venue.process.wait(LONGEST)
-            expect("status of a venue that begins again", venue.process.returncode, 0)
+            expect(f"status of a venue that begins again: {venue.faults()}", venue.process.returncode, 0)
             return venue.process.stdout.read()
 
     def serve(self, at, fails):
