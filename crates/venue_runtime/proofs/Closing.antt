@@ -30,7 +30,8 @@ use Rattle.venue_rules.specs.declared.trail.TrailRow.{TrailRow}
 use Rattle.venue_worker.specs.InputHistory.{IsAccount, owed_to}
 use Rattle.outbound_queue.specs.Taken.{items_from}
 use Rattle.venue_worker.specs.Inputs.{Each, IsSeated}
-use Rattle.venue_worker.specs.Queued.{IsOwed, AreEmptyQueues}
+use Rattle.venue_engine.specs.Queued.{AreEmpty}
+use Rattle.venue_worker.specs.Queued.{IsOwed}
 use Rattle.venue_worker.specs.Turns.{GoesOn, BehindIsOwedMuch, IsMomentOf, IsStop}
 use Rattle.venue_worker.specs.Work.{Work}
 use Rattle.outbound_queue.specs.declared.outgoing.Outgoing.{Outgoing}
@@ -119,7 +120,7 @@ beyond : (a b c : ℕ) → a + b < c → a < c
 beyond a b c below = omega (arith, below)
 
 -- one that was cut in a worker's turns was owed more than 64,000 replies
-cut_much : (P : ℕ → Type 0) (m : Market) (before : List Input) (w w' : Work) (goes : GoesOn P before [] w w') (j : ℕ) (q : Queue) (h : HandEnd Outgoing) → BehindIsOwedMuch → w.ledger.market ≡ m → AreEmptyQueues w.ledger.queues → j < length w.ledger.queues →
+cut_much : (P : ℕ → Type 0) (m : Market) (before : List Input) (w w' : Work) (goes : GoesOn P before [] w w') (j : ℕ) (q : Queue) (h : HandEnd Outgoing) → BehindIsOwedMuch → w.ledger.market ≡ m → AreEmpty w.ledger.queues → j < length w.ledger.queues →
     slice_get w'.ledger.queues j ≡ Some q → slice_get w'.hands j ≡ Some h → q.is_cut ≡ true → 64000 < length (owed_to m before goes.more j)
 cut_much P m before w w' goes j q h law market empty below at_q at_h is_cut =
     let first = get_within w.ledger.queues j below in

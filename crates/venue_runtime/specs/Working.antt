@@ -13,7 +13,7 @@ use Rattle.venue_rules.specs.declared.trail.TrailRow.{TrailRow}
 use Rattle.outbound_queue.specs.declared.outgoing.Outgoing.{Outgoing}
 use Rattle.outbound_queue.specs.declared.queue.Queue.{Queue}
 use Rattle.venue_worker.specs.InputHistory.{IsAccount, IsKept}
-use Rattle.venue_worker.specs.Queued.{AreEmptyQueues}
+use Rattle.venue_engine.specs.Queued.{AreEmpty}
 use Rattle.venue_worker.specs.Turns.{HasRun}
 use Rattle.venue_worker.specs.Work.{Work}
 
@@ -50,7 +50,7 @@ pub record IsNewWorker (m : Market) (stands : VenueFacts) (kept : List TrailRow)
   pub replies_is : w.replies ≡ replies
   pub hands_are : w.hands ≡ hands
   pub count : length w.ledger.queues ≡ length hands
-  pub empty : AreEmptyQueues w.ledger.queues
+  pub empty : AreEmpty w.ledger.queues
   pub before : List Input
   pub kept_is : kept ≡ rows before
   pub account : IsAccount before [] w

@@ -6,11 +6,11 @@ use Rattle.intake_seats.specs.Given.{HandEnd}
 use Rattle.outbound_queue.specs.declared.outgoing.Outgoing.{Outgoing}
 use Rattle.outbound_queue.specs.declared.queue.Queue.{Queue}
 use Rattle.venue_worker.specs.Work.{Work}
-use Rattle.venue_worker.specs.Calls.{IsDelivery, Delivers, Cuts, IsCut, IsSameElse, with_session, with_sessions}
+use Rattle.venue_engine.specs.Queued.{IsCut}
+use Rattle.venue_worker.specs.Calls.{IsDelivery, Delivers, Cuts, IsSameElse, with_session, with_sessions}
 use Rattle.venue_worker.specs.Turns.{IsServed, AreServed}
 use Rattle.venue_worker.specs.Shutdown.{cut_token, IsSeenOff, AreDrained, CutsServed, SeesOff, AreServedUpTo, AreLookedAt}
-use Rattle.venue_worker.proofs.Lists.{at_set, at_below, below_at}
-use Rattle.venue_worker.proofs.Moving.{some_at}
+use Rattle.venue_worker.proofs.Lists.{at_set, at_below, below_at, some_at}
 use Rattle.venue_worker.proofs.Turning.{looks_grow, served_by}
 
 -- sentinels

@@ -12,6 +12,7 @@ use Rattle.outbound_queue.specs.declared.queue.Queue.{Queue}
 use Rattle.venue_rules.specs.Limits.{IsRising}
 use Rattle.venue_rules.specs.MoreInputs.{said_to}
 use Rattle.outbound_queue.specs.Taken.{items_from}
+use Rattle.venue_engine.specs.Queued.{AreFew}
 use Rattle.venue_worker.specs.Inputs.{Each, IsSeated}
 use Rattle.venue_worker.specs.Queued.{IsOwed}
 use Rattle.venue_worker.specs.Work.{Work}
@@ -23,8 +24,8 @@ owed_to m before since who = said_to who (run_from m (run m before).history sinc
 -- A worker's account: the inputs of the keeper's rows at the start, and those that it added. The rows are theirs, where
 -- the store is clean; the venue is where they lead; each tick that was added found a side due, and no message did;
 -- their moments do not fall, and the last is none before it; the messages that were added interleave those taken from
--- the seats, each whole and in order; and what was given to a session, and then its queue, is what it is owed for what
--- was added.
+-- the seats, each whole and in order; at most 65,536 replies wait for each participant; and what was given to a
+-- session, and then its queue, is what it is owed for what was added.
 pub record IsAccount (before since : List Input) (w : Work) : Type 0 where
   pub begun : length before ≡ w.ledger.begun
   pub rows : w.ledger.is_clean ≡ true → w.ledger.rows ≡ rows (before ++ since)
@@ -35,6 +36,7 @@ pub record IsAccount (before since : List Input) (w : Work) : Type 0 where
   pub takes : AreTakes w.intake w.takes
   pub hands : AreHands w.replies w.hands
   pub queues : (length w.ledger.queues ≡ length w.hands) × (length w.takes ≡ length w.hands) × (length w.hands ≤ 32)
+  pub few : AreFew w.ledger.queues
   pub taken : (k : ℕ) (t : TakeEnd Item) → slice_get w.takes k ≡ Some t → t.taken ≡ items_from k since
   pub owed : (k : ℕ) (q : Queue) (h : HandEnd Outgoing) → slice_get w.ledger.queues k ≡ Some q → slice_get w.hands k ≡ Some h
       → IsOwed (owed_to w.ledger.market before since k) h.given q.waiting.items q.is_cut

@@ -43,7 +43,7 @@ impl<'a, K: Keep + Drop> Worker<'a, K> {
     // Whether each participant was given its sentinel.
     fn are_shut_down(&self) -> bool {
         self.engine
-            .queues
+            .queues()
             .iter()
             .all(|queue| queue.is_cut && queue.waiting.is_empty())
     }
@@ -92,6 +92,6 @@ impl<'a, K: Keep + Drop> Worker<'a, K> {
         ensures long { length self.now.ledger.queues ≡ length self.now.hands }
         ensures served { (q : Queue) → slice_get self.now.ledger.queues j ≡ Some q → result ≡ true → q.waiting.items ≡ [] }
     {
-        self.engine.queues[j].waiting.is_empty() && may_cut
+        self.engine.queues()[j].waiting.is_empty() && may_cut
     }
 }

@@ -27,7 +27,7 @@ use Rattle.venue_world.specs.World.{WorldState, after_act, after_all, answered, 
 use Rattle.venue_world.specs.Headline.{AreFrom, QueuesAreFew}
 use Rattle.venue_world.proofs.Behind.{emptied_behind}
 use Rattle.venue_world.proofs.Lists.{IsAt, here, there, heard_by, side_at, side_posted}
-use Rattle.venue_world.proofs.Capacity.{length-at, length-posted}
+use Rattle.venue_world.proofs.Places.{length-at, length-posted}
 
 -- One queue.
 

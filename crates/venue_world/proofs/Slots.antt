@@ -1,121 +1,27 @@
--- A change at one slot, in the model of all.
-use Rattle.std.proofs.Common.{◌≡◌, ℕ, zero, suc, ◌+◌, ◌<◌, Bool, true, false, List, [], ◌∷◌, ◌++◌, length, map, max, set, take, get_or, length-set, refl, sym, ap, ◌∙◌, arith, subst, Option, Some, None, Result, Ok, Err}
-use Rattle.std.specs.Prelude.{IfErr, IfOk, OnErr, OnOk, if◌then◌else◌, slice_get}
+-- An act at one slot, by all sides.
+use Rattle.std.proofs.Common.{◌≡◌, ℕ, zero, suc, ◌+◌, ◌<◌, ◌≤◌, Bool, true, false, List, [], ◌∷◌, ◌++◌, length, map, max, take, get_or, set, length-set, refl, sym, ap, ◌∙◌, arith, subst, Option, Some, None, Result, Ok, Err}
+use Rattle.std.specs.Prelude.{IfErr, IfOk, OnErr, OnOk, if◌then◌else◌, is_some, slice_get}
 use Rattle.fix_session.specs.Reader.{Reader}
-use Rattle.std.proofs.lemmas.List.{map-append}
-use Rattle.fix_dictionary.specs.declared.messages.Item.{Item}
-use Rattle.participants.specs.ParticipantFile.{ParticipantFile}
-use Rattle.participants.specs.Relations.{name_of}
-use Rattle.venue_rules.specs.declared.trail.EventFault.{EventFault}
-use Rattle.venue_rules.specs.declared.trail.EventFault.TheVariants.{Behind, Due, Down, NoMemory, TrailRefused}
-use Rattle.venue_rules.specs.declared.trail.TrailRow.{TrailRow}
-use Rattle.venue_rules.specs.Run.{Tick}
-use Rattle.venue_core.specs.State.{State as Venue}
-use Rattle.outbound_queue.specs.declared.outgoing.Outgoing.{Outgoing}
-use Rattle.outbound_queue.specs.declared.outgoing.Outgoing.TheVariants.{Cut}
-use Rattle.venue_world.specs.declared.world_event.SessionEvent.{SessionEvent}
-use Rattle.venue_world.specs.declared.world_event.SessionEvent.TheVariants.{Pieces, Steps, Ticks, Breaks, Resumes, Hands, Delivers, Collects, Cuts, Writes}
 use Rattle.fix_session.specs.Machine.{step}
 use Rattle.fix_session.specs.declared.plan.Step.{Step}
-use Rattle.venue_world.specs.Seen.{takes_memory}
+use Rattle.participants.specs.ParticipantFile.{ParticipantFile}
+use Rattle.participants.specs.Relations.{name_of}
+use Rattle.outbound_queue.specs.declared.outgoing.Outgoing.{Outgoing}
+use Rattle.outbound_queue.specs.declared.outgoing.Outgoing.TheVariants.{Cut}
+use Rattle.outbound_queue.specs.declared.queue.Queue.{Queue}
+use Rattle.venue_engine.specs.Ledger.{Ledger}
+use Rattle.venue_engine.specs.Queued.{AreEmpty, IsCut}
+use Rattle.venue_engine.specs.Step.{IsFront}
+use Rattle.venue_rules.specs.declared.trail.EventFault.{EventFault}
+use Rattle.venue_rules.specs.declared.trail.EventFault.TheVariants.{Behind, Due, Down, NoMemory, TrailRefused}
+use Rattle.venue_world.specs.declared.world_event.SessionEvent.{SessionEvent}
+use Rattle.venue_world.specs.declared.world_event.SessionEvent.TheVariants.{Pieces, Steps, Ticks, Breaks, Resumes, Hands, Delivers, Collects, Cuts, Writes}
 use Rattle.venue_world.specs.declared.session_slot.SessionSlot.{SessionSlot}
-use Rattle.venue_world.specs.Side.{Side, does, fresh_side}
-use Rattle.venue_world.specs.World.{at, emptied, filled, ids_of, message_from, refusal_at, seat_at}
-use Rattle.venue_world.specs.Slots.{IsCauseAlone, side_of, sides_of}
-use Rattle.venue_world.specs.Answering.{AreRows, IsAnswered, IsDueAt, IsHindered, IsTakeFault, IsTick, IsTickFault, tick_if}
-use Rattle.venue_world.proofs.Capacity.{at_same, length-sides, written}
-
--- a slot's side, in its place
-pub seen_at : (ds : List SessionSlot) (who place : ℕ) (d : SessionSlot) → place ≡ who → place < length ds → d ≡ get_or ds place d → slice_get (sides_of ds) who ≡ Some (side_of d)
-seen_at ds who place d is low at_d = subst (λ (n : ℕ). slice_get (sides_of ds) n ≡ Some (side_of d)) is (go ds place low at_d)
-  where
-    go : (ds : List SessionSlot) (i : ℕ) → i < length ds → d ≡ get_or ds i d → slice_get (sides_of ds) i ≡ Some (side_of d)
-    go [] i low e = absurd (omega arith)
-    go (x ∷ ds) zero low e = ap (λ (y : SessionSlot). Some (side_of y)) (sym e)
-    go (x ∷ ds) (suc i) low e = go ds i (omega arith) e
-
-pub done_at : {A : Type 0} (r : Reader) (x : SessionEvent) (who place : ℕ) (ds : List SessionSlot) (d d' : SessionSlot) (result : Result A EventFault) → place ≡ who → place < length ds → d ≡ get_or ds place d
-    → OnOk result (side_of d' ≡ does r x (side_of d)) → OnOk result (sides_of (set ds place d') ≡ at who (does r x) (sides_of ds))
-done_at r x who place ds d d' (Ok y) is low at_d e = written ds place (does r x) d d' low at_d e ∙ ap (λ (n : ℕ). at n (does r x) (sides_of ds)) is
-done_at r x who place ds d d' (Err f) is low at_d e = tt
-
-pub undone_at : {A : Type 0} (place : ℕ) (ds : List SessionSlot) (d d' : SessionSlot) (result : Result A EventFault) → place < length ds → d ≡ get_or ds place d → OnErr result (side_of d' ≡ side_of d) → OnErr result (sides_of (set ds place d') ≡ sides_of ds)
-undone_at place ds d d' (Ok y) low at_d e = tt
-undone_at place ds d d' (Err f) low at_d e = written ds place (λ s. s) d d' low at_d e ∙ at_same (sides_of ds) place
-
-pub refused_at : {A : Type 0} (x : SessionEvent) (who place : ℕ) (ds : List SessionSlot) (d : SessionSlot) (result : Result A EventFault) → place ≡ who → place < length ds → d ≡ get_or ds place d
-    → OnOk result (refusal_at who x (Some (side_of d)) ≡ None) → OnOk result (refusal_at who x (slice_get (sides_of ds) who) ≡ None)
-refused_at x who place ds d (Ok y) is low at_d e = ap (refusal_at who x) (seen_at ds who place d is low at_d) ∙ e
-refused_at x who place ds d (Err f) is low at_d e = tt
-
-pub failed_at : {A : Type 0} (x : SessionEvent) (who place : ℕ) (ds : List SessionSlot) (d : SessionSlot) (result : Result A EventFault) → place ≡ who → place < length ds → d ≡ get_or ds place d
-    → IfErr result (λ fault. IsCauseAlone (refusal_at who x (Some (side_of d))) x fault) → IfErr result (λ fault. IsCauseAlone (refusal_at who x (slice_get (sides_of ds) who)) x fault)
-failed_at x who place ds d (Ok y) is low at_d e = tt
-failed_at x who place ds d (Err f) is low at_d e = subst (λ (o : Option Side). IsCauseAlone (refusal_at who x o) x f) (sym (seen_at ds who place d is low at_d)) e
-
-pub same_length : (xs ys : List SessionSlot) → sides_of xs ≡ sides_of ys → length xs ≡ length ys
-same_length xs ys e = sym (length-sides xs) ∙ ap length e ∙ length-sides ys
-
--- a message taken out of its seat is put back
-pub refilled : (ds : List SessionSlot) (i : ℕ) (d : SessionSlot) (item : Item) → i < length ds → d ≡ get_or ds i d → (side_of d).seat ≡ Some item → at i (filled item) (at i emptied (sides_of ds)) ≡ sides_of ds
-refilled [] i d item low is full = absurd (omega arith)
-refilled (x ∷ ds) zero d item low is full =
-    ap (λ (seat : Option Item). record (side_of x) { seat = seat } ∷ sides_of ds) (sym full ∙ ap (λ (y : SessionSlot). (side_of y).seat) is)
-refilled (x ∷ ds) (suc i) d item low is full = ap (λ (ss : List Side). side_of x ∷ ss) (refilled ds i d item (omega arith) is full)
-
-pub take_fault : (i t : ℕ) (v : Venue) (sides : List Side) (refused refused' : ℕ) (fault : EventFault) (item : Item) → IsDueAt v t false → seat_at i sides ≡ Some item
-    → IsHindered (message_from i item t) v (at i emptied sides) refused refused' fault → IsTakeFault i t v sides refused refused' fault
-take_fault i t v sides refused refused' (Behind j) item d seat h = (d, (item, seat, h))
-take_fault i t v sides refused refused' TrailRefused item d seat h = (d, (item, seat, h))
-take_fault i t v sides refused refused' NoMemory item d seat h = (d, (item, seat, h))
-take_fault i t v sides refused refused' (Down j) item d seat h = absurd h
-take_fault i t v sides refused refused' Due item d seat h = absurd h
-
-pub tick_took : {A B : Type 0} (t : ℕ) (v v' : Venue) (sides sides' : List Side) (rows rows' : List TrailRow) (clean' : Bool) (count count' : ℕ) (result : Result A B) → IsDueAt v t true
-    → OnOk result (IsAnswered (Tick t) v v' sides sides') → OnOk result (AreRows rows rows' clean' count count' (Some (Tick t)))
-    → OnOk result ((took : Bool) × IsTick t v v' sides sides' took × AreRows rows rows' clean' count count' (tick_if t took))
-tick_took t v v' sides sides' rows rows' clean' count count' (Ok x) d a r = (true, (d, a), r)
-tick_took t v v' sides sides' rows rows' clean' count count' (Err x) d a r = tt
-
-pub tick_fault : {A : Type 0} (t : ℕ) (v : Venue) (sides : List Side) (refused refused' : ℕ) (result : Result A EventFault) → IsDueAt v t true
-    → IfErr result (λ fault. IsHindered (Tick t) v sides refused refused' fault) → IfErr result (λ fault. IsTickFault t v sides refused refused' fault)
-tick_fault t v sides refused refused' (Ok x) d h = tt
-tick_fault t v sides refused refused' (Err f) d h = (d, h)
-
--- a further slot
-named_suc : (file : ParticipantFile) (names : List (List ℕ)) (k : ℕ) → k < length names → map (λ name. fresh_side (ids_of file name)) (take (suc k) names) ≡ map (λ name. fresh_side (ids_of file name)) (take k names) ++ fresh_side (ids_of file (get_or names k [])) ∷ []
-named_suc file [] k low = absurd (omega arith)
-named_suc file (n ∷ names) zero low = refl
-named_suc file (n ∷ names) (suc k) low = ap (λ (l : List Side). fresh_side (ids_of file n) ∷ l) (named_suc file names k (omega arith))
-
-pub slots_more : (file : ParticipantFile) (ds : List SessionSlot) (d : SessionSlot) (k who : ℕ) → who ≡ k → k < length file.names → sides_of ds ≡ map (λ name. fresh_side (ids_of file name)) (take k file.names) → side_of d ≡ fresh_side (ids_of file (name_of file who))
-    → sides_of (ds ++ d ∷ []) ≡ map (λ name. fresh_side (ids_of file name)) (take (k + 1) file.names)
-slots_more file ds d k who is low before here =
-    map-append side_of ds (d ∷ [])
-    ∙ (λ j. before j ++ (here ∙ ap (λ (n : ℕ). fresh_side (ids_of file (name_of file n))) is) j ∷ [])
-    ∙ sym (named_suc file file.names k low)
-    ∙ ap (λ (n : ℕ). map (λ name. fresh_side (ids_of file name)) (take n file.names)) (let e : suc k ≡ k + 1 = omega arith in e)
-
-pub same_count : (ds : List SessionSlot) (i : ℕ) (d : SessionSlot) → length (sides_of (set ds i d)) ≡ length (sides_of ds)
-same_count ds i d = length-sides (set ds i d) ∙ length-set ds i d ∙ sym (length-sides ds)
-
--- the side at a place is that of the slot there
-pub its_side : (ds : List SessionSlot) (who place : ℕ) (d : SessionSlot) (s : Side) → place ≡ who → place < length ds → d ≡ get_or ds place d → slice_get (sides_of ds) who ≡ Some s → side_of d ≡ s
-its_side ds who place d s is low at_d s_at = same_side (side_of d) s (sym (seen_at ds who place d is low at_d) ∙ s_at)
-  where
-    same_side : (a b : Side) → Some a ≡ Some b → a ≡ b
-    same_side a b e = cc
-
-pub wire_at : (ds : List SessionSlot) (who place : ℕ) (d : SessionSlot) (wire : List ℕ) (s : Side) → place ≡ who → place < length ds → d ≡ get_or ds place d → wire ≡ d.session.state.wire → slice_get (sides_of ds) who ≡ Some s → wire ≡ s.session.wire
-wire_at ds who place d wire s is low at_d taken s_at = taken ∙ ap (λ (x : Side). x.session.wire) (its_side ds who place d s is low at_d s_at)
-
-pub answer_at : (r : Reader) (t who place : ℕ) (ds : List SessionSlot) (d : SessionSlot) (result : Result Step EventFault) (s : Side) → place ≡ who → place < length ds → d ≡ get_or ds place d
-    → IfOk result (λ answer. answer ≡ (step r d.session.state (max d.moment t)).1) → slice_get (sides_of ds) who ≡ Some s → IfOk result (λ answer. answer ≡ (step r s.session (max s.moment t)).1)
-answer_at r t who place ds d result s is low at_d emitted s_at =
-    subst (λ (z : Side). IfOk result (λ answer. answer ≡ (step r z.session (max z.moment t)).1)) (its_side ds who place d s is low at_d s_at) emitted
-
-pub queue_at : (ds : List SessionSlot) (who place : ℕ) (d : SessionSlot) (count : ℕ) (s : Side) → place ≡ who → place < length ds → d ≡ get_or ds place d → count ≡ length (side_of d).queue → slice_get (sides_of ds) who ≡ Some s → count ≡ length s.queue
-queue_at ds who place d count s is low at_d emitted s_at = emitted ∙ ap (λ (x : Side). length x.queue) (its_side ds who place d s is low at_d s_at)
+use Rattle.venue_world.specs.Seen.{takes_memory}
+use Rattle.venue_world.specs.Side.{Side, delivered, does, fresh_side}
+use Rattle.venue_world.specs.Slots.{AreFreshSlots, IsCauseAlone, IsDoneAt, IsFreshSlot, IsStillAt, side_of, sides_of}
+use Rattle.venue_world.specs.World.{ids_of, refusal_at}
+use Rattle.venue_world.proofs.Places.{set_same, some_at}
 
 -- a failing act of one side may allocate
 pub free_at : {A : Type 0} (i : ℕ) (x : SessionEvent) (side : Option Side) (result : Result A EventFault) → IfErr result (λ fault. IsCauseAlone (refusal_at i x side) x fault) → OnErr result (takes_memory x ≡ true)
@@ -146,9 +52,113 @@ always (Ok y) = tt
 always (Err f) = refl
 
 -- a side is cut as its queue is
-pub cut_side : (s : Side) (queue : List Outgoing) (cut : Bool) → cut ≡ true → queue ≡ (if s.is_cut then s.queue else Cut ∷ []) → record s { queue = queue; is_cut = cut } ≡ (if s.is_cut then s else record s { queue = Cut ∷ []; is_cut = true })
-cut_side s queue cut is waits = go s.is_cut refl waits
+pub cut_side : (d : SessionSlot) (q q' : Queue) → IsCut q q' q.is_cut → side_of d q' ≡ (if q.is_cut then side_of d q else record (side_of d q) { queue = Cut ∷ []; is_cut = true })
+cut_side d q q' cut = go q.is_cut refl cut
   where
-    go : (b : Bool) → s.is_cut ≡ b → queue ≡ (if b then s.queue else Cut ∷ []) → record s { queue = queue; is_cut = cut } ≡ (if b then s else record s { queue = Cut ∷ []; is_cut = true })
-    go true was waits = λ j. record s { queue = waits j; is_cut = (is ∙ sym was) j }
-    go false was waits = λ j. record s { queue = waits j; is_cut = is j }
+    go : (b : Bool) → q.is_cut ≡ b → IsCut q q' b → side_of d q' ≡ (if b then side_of d q else record (side_of d q) { queue = Cut ∷ []; is_cut = true })
+    go true was c = λ j. record (side_of d q) { queue = c.0 j; is_cut = (c.1 ∙ sym was) j }
+    go false was c = λ j. record (side_of d q) { queue = c.0 j; is_cut = c.1 j }
+
+-- one slot more
+fresh_suc : (file : ParticipantFile) (names : List (List ℕ)) (slots : List SessionSlot) (d : SessionSlot) (k : ℕ) → k < length names → AreFreshSlots file (take k names) slots → IsFreshSlot file (get_or names k []) d → AreFreshSlots file (take (suc k) names) (slots ++ d ∷ [])
+fresh_suc file [] slots d k low all here = absurd (omega arith)
+fresh_suc file (n ∷ names) [] d zero low all here = (here, tt)
+fresh_suc file (n ∷ names) (x ∷ slots) d zero low all here = absurd all
+fresh_suc file (n ∷ names) [] d (suc k) low all here = absurd all
+fresh_suc file (n ∷ names) (x ∷ slots) d (suc k) low all here = (all.0, fresh_suc file names slots d k (omega arith) all.1 here)
+
+pub fresh_more : (file : ParticipantFile) (slots : List SessionSlot) (d : SessionSlot) (k who : ℕ) → who ≡ k → k < length file.names → AreFreshSlots file (take k file.names) slots → IsFreshSlot file (name_of file who) d → AreFreshSlots file (take (k + 1) file.names) (slots ++ d ∷ [])
+fresh_more file slots d k who is low all here =
+    subst (λ (n : ℕ). AreFreshSlots file (take n file.names) (slots ++ d ∷ [])) (let e : suc k ≡ k + 1 = omega arith in e)
+    (fresh_suc file file.names slots d k low all (subst (λ (n : ℕ). IsFreshSlot file (name_of file n) d) is here))
+
+-- the sides of a new world
+pub fresh_sides : (file : ParticipantFile) (names : List (List ℕ)) (slots : List SessionSlot) (queues : List Queue) → AreFreshSlots file names slots → length slots ≡ length queues → AreEmpty queues → sides_of slots queues ≡ map (λ name. fresh_side (ids_of file name)) names
+fresh_sides file [] [] queues all long empty = refl
+fresh_sides file [] (d ∷ slots) queues all long empty = absurd all
+fresh_sides file (n ∷ names) [] queues all long empty = absurd all
+fresh_sides file (n ∷ names) (d ∷ slots) [] all long empty = absurd (omega (arith, long))
+fresh_sides file (n ∷ names) (d ∷ slots) (q ∷ queues) all long empty =
+    let f = all.0 in
+    let e = empty 0 q refl in
+    (λ j. record { session = f.session j; moment = f.moment j; seat = f.seat j; reply = f.reply j; queue = e.0 j; is_cut = e.1 j } ∷ fresh_sides file names slots queues all.1 (omega (arith, long)) (λ k x at. empty (suc k) x at) j)
+
+-- an act at a slot alone, whatever the queues
+pub own_done : (i : ℕ) (l : Ledger) (d d' : SessionSlot) (f : Reader → Side → Side) → i < length l.queues → ((r : Reader) (q : Queue) → side_of d' q ≡ f r (side_of d q)) → IsDoneAt i d d' l l f
+own_done i l d d' f low e =
+    let s = some_at l.queues i low in
+    record { queue = s.0; queue' = s.0; here = s.1; engine = sym (ap (λ (qs : List Queue). record l { queues = qs }) (set_same l.queues i s.0 s.1)); side = λ r. e r s.0 }
+
+pub own_ok : {A B : Type 0} (result : Result A B) (i : ℕ) (l : Ledger) (d d' : SessionSlot) (f : Reader → Side → Side) → i < length l.queues → ((r : Reader) (q : Queue) → OnOk result (side_of d' q ≡ f r (side_of d q))) → OnOk result (IsDoneAt i d d' l l f)
+own_ok (Ok x) i l d d' f low e = own_done i l d d' f low e
+own_ok (Err x) i l d d' f low e = tt
+
+pub own_still : (i : ℕ) (l : Ledger) (d d' : SessionSlot) → i < length l.queues → ((q : Queue) → side_of d' q ≡ side_of d q) → IsStillAt i d d' l l
+own_still i l d d' low e =
+    let s = some_at l.queues i low in
+    record { queue = s.0; queue' = s.0; here = s.1; engine = sym (ap (λ (qs : List Queue). record l { queues = qs }) (set_same l.queues i s.0 s.1)); side = e s.0 }
+
+pub own_err : {A B : Type 0} (result : Result A B) (i : ℕ) (l : Ledger) (d d' : SessionSlot) → i < length l.queues → ((q : Queue) → OnErr result (side_of d' q ≡ side_of d q)) → OnErr result (IsStillAt i d d' l l)
+own_err (Ok x) i l d d' low e = tt
+own_err (Err x) i l d d' low e = own_still i l d d' low e
+
+-- an allocation failure alone
+pub no_memory : {A : Type 0} (result : Result A EventFault) (refusal : Option EventFault) (x : SessionEvent) → takes_memory x ≡ true → refusal ≡ None → IfErr result (λ fault. fault ≡ NoMemory) → IfErr result (λ fault. IsCauseAlone refusal x fault)
+no_memory (Ok y) refusal x may none f = tt
+no_memory (Err fault) refusal x may none f = subst (λ (z : EventFault). IsCauseAlone refusal x z) (sym f) (may, none)
+
+pub allowed_always : {A B : Type 0} (result : Result A B) (refusal : Option EventFault) → refusal ≡ None → OnOk result (refusal ≡ None)
+allowed_always (Ok y) refusal e = e
+allowed_always (Err y) refusal e = tt
+
+-- the parts of the engine that no act at one side changes
+pub same_engine : {A B : Type 0} (result : Result A B) (i : ℕ) (l l' : Ledger) (d d' : SessionSlot) (f : Reader → Side → Side) → OnOk result (IsDoneAt i d d' l l' f) → OnErr result (IsStillAt i d d' l l') → length l'.queues ≡ length l.queues
+same_engine (Ok x) i l l' d d' f k e = ap (λ (m : Ledger). length m.queues) k.engine ∙ length-set l.queues i k.queue'
+same_engine (Err x) i l l' d d' f k e = ap (λ (m : Ledger). length m.queues) e.engine ∙ length-set l.queues i e.queue'
+
+pub same_ledger : {A B : Type 0} (result : Result A B) (i : ℕ) (l l' : Ledger) (d d' : SessionSlot) (f : Reader → Side → Side) → OnOk result (IsDoneAt i d d' l l' f) → OnErr result (IsStillAt i d d' l l') → l'.is_clean ≡ l.is_clean
+same_ledger (Ok x) i l l' d d' f k e = ap (λ (m : Ledger). m.is_clean) k.engine
+same_ledger (Err x) i l l' d d' f k e = ap (λ (m : Ledger). m.is_clean) e.engine
+
+pub some_queue : (queues : List Queue) (i : ℕ) → i < length queues → Queue
+some_queue queues i low = (some_at queues i low).0
+
+same_slot : (slots : List SessionSlot) (i : ℕ) (a b : SessionSlot) → slice_get slots i ≡ Some a → slice_get slots i ≡ Some b → a ≡ b
+same_slot slots i a b p q = cc
+
+pub answer_of_slot : (r : Reader) (t : ℕ) (result : Result Step EventFault) (slots : List SessionSlot) (i : ℕ) (d d0 : SessionSlot) (q : Queue) (s : Side) → slice_get slots i ≡ Some d → slice_get slots i ≡ Some d0 → s ≡ side_of d0 q
+    → IfOk result (λ answer. answer ≡ (step r d.session.state (max d.moment t)).1) → IfOk result (λ answer. answer ≡ (step r s.session (max s.moment t)).1)
+answer_of_slot r t result slots i d d0 q s d_at d0_at is emitted =
+    subst (λ (z : Side). IfOk result (λ answer. answer ≡ (step r z.session (max z.moment t)).1)) (ap (λ (x : SessionSlot). side_of x q) (same_slot slots i d d0 d_at d0_at) ∙ sym is) emitted
+
+pub wire_of_slot : (wire : List ℕ) (slots : List SessionSlot) (i : ℕ) (d d0 : SessionSlot) (q : Queue) (s : Side) → slice_get slots i ≡ Some d → slice_get slots i ≡ Some d0 → s ≡ side_of d0 q → wire ≡ d.session.state.wire → wire ≡ s.session.wire
+wire_of_slot wire slots i d d0 q s d_at d0_at is taken = taken ∙ ap (λ (z : Side). z.session.wire) (ap (λ (x : SessionSlot). side_of x q) (same_slot slots i d d0 d_at d0_at) ∙ sym is)
+
+-- the front is in the empty seat
+pub delivered_by : (i : ℕ) (l l' : Ledger) (d : SessionSlot) (front : Option Outgoing) → d.reply ≡ None → IsFront i l l' front → IsDoneAt i d (record d { reply = front }) l l' (λ r. does r Delivers)
+delivered_by i l l' d None none f = record {
+  queue = f.0;
+  queue' = f.1;
+  here = f.2;
+  engine = f.3;
+  side = λ r. (λ j. record (side_of d f.0) { reply = sym none j; queue = (f.5 ∙ sym f.4) j; is_cut = f.6 j }) ∙ sym (λ j. delivered (side_of d f.0) (none j) (f.4 j));
+}
+delivered_by i l l' d (Some x) none f = record {
+  queue = f.0;
+  queue' = f.1;
+  here = f.2;
+  engine = f.3;
+  side = λ r. (λ j. record (side_of d f.0) { reply = Some x; queue = f.1.waiting.items; is_cut = f.5 j }) ∙ sym (λ j. delivered (side_of d f.0) (none j) (f.4 j));
+}
+
+-- a full seat stays
+pub delivered_not : (i : ℕ) (l : Ledger) (d : SessionSlot) (x : Outgoing) → i < length l.queues → d.reply ≡ Some x → IsDoneAt i d d l l (λ r. does r Delivers)
+delivered_not i l d x low full = own_done i l d d (λ r. does r Delivers) low (λ r q. sym (ap (λ (o : Option Outgoing). delivered (side_of d q) o q.waiting.items) full))
+
+pub is_full : (o : Option Outgoing) → is_some o ≡ true → (x : Outgoing) × (o ≡ Some x)
+is_full None e = absurd (cc)
+is_full (Some x) e = (x, refl)
+
+pub is_empty : (o : Option Outgoing) → is_some o ≡ false → o ≡ None
+is_empty None e = refl
+is_empty (Some x) e = absurd (cc)

@@ -2,13 +2,13 @@
 use Rattle.std.specs.Prelude.{ℕ, ◌<◌, ◌≡◌, Result, Ok, Err, Bool, true, false, List, [], ◌∷◌, ◌++◌, Option, Some, None, length}
 use Rattle.fix_session.specs.Reader.{Reader}
 use Rattle.venue_rules.specs.declared.trail.EventFault.{EventFault}
-use Rattle.venue_rules.specs.declared.trail.EventFault.TheVariants.{Due, Down, NoMemory, TrailRefused}
+use Rattle.venue_rules.specs.declared.trail.EventFault.TheVariants.{Behind, Due, Down, NoMemory, TrailRefused}
 use Rattle.venue_rules.specs.declared.trail.TrailRow.{TrailRow}
 use Rattle.venue_rules.specs.Kept.{IsRisen}
 use Rattle.venue_rules.specs.Market.{Market}
-use Rattle.venue_rules.specs.Run.{rows}
-use Rattle.venue_core.specs.State.{State as Venue}
-use Rattle.venue_core.specs.Taking.{Stands as VenueStands}
+use Rattle.venue_rules.specs.Run.{rows, run}
+use Rattle.venue_core.specs.State.{VenueFacts}
+use Rattle.venue_core.specs.VenueFacts.{IsStanding}
 use Rattle.venue_world.specs.declared.world_event.WorldEvent.{WorldEvent}
 use Rattle.venue_world.specs.declared.world_event.WorldEvent.TheVariants.{Alone, Takes, VenueTicks}
 use Rattle.venue_world.specs.declared.world_event.SessionEvent.{SessionEvent}
@@ -18,10 +18,11 @@ use Rattle.venue_world.specs.Acts.{act_of}
 use Rattle.venue_world.specs.Side.{Side}
 use Rattle.venue_world.specs.World.{WorldState, after_act, after_all, fresh_world, refusal}
 
--- The venue; the keeper's rows, whether its store is as its calls left it, and its count of refusals; the count of
--- items; the venue's last moment; and the participants' sides.
+-- the venue's market and its state; the keeper's rows, whether its store is clean and how often it refused; the count
+-- of items; the last moment; and the participants' sides
 pub record Seen : Type 0 where
-  pub venue : Venue
+  pub market : Market
+  pub stands : VenueFacts
   pub rows : List TrailRow
   pub is_clean : Bool
   pub refused : ℕ
@@ -32,7 +33,8 @@ pub record Seen : Type 0 where
 -- The world's state: its venue is in the state of the items taken, its rows are theirs, unless the store failed, and
 -- its sides are these.
 pub record Shows (s : Seen) (w : WorldState) : Type 0 where
-  pub venue : VenueStands w.market w.items s.venue
+  pub market : s.market ≡ w.market
+  pub history : IsStanding s.stands (run w.market w.items).history
   pub rows : s.is_clean ≡ true → s.rows ≡ rows w.items
   pub count : s.count ≡ length w.items
   pub moment : s.moment ≡ w.moment
@@ -66,19 +68,24 @@ is_refused_first (Some Due) = true
 is_refused_first (Some (Down j)) = true
 is_refused_first refusal = false
 
--- Why an act failed: its refusal; the trail, whose count of refusals rose; or an allocation, where it may allocate.
+-- why an act failed: its refusal; the trail, whose count of refusals rose, as for no other cause; or an allocation
+-- failure, where the act may take memory
 abbrev pub IsCause : Option EventFault → WorldEvent → ℕ → ℕ → EventFault → Type 0
-IsCause refusal a refused refused' NoMemory = (may_take_memory a ≡ true) × (is_refused_first refusal ≡ false)
+IsCause refusal a refused refused' NoMemory = (may_take_memory a ≡ true) × (is_refused_first refusal ≡ false) × (refused' ≡ refused)
 IsCause refusal a refused refused' TrailRefused = (refusal ≡ None) × IsRisen refused refused' × (is_of_venue a ≡ true)
-IsCause refusal a refused refused' fault = refusal ≡ Some fault
+IsCause refusal a refused refused' (Behind j) = (refusal ≡ Some (Behind j)) × (refused' ≡ refused)
+IsCause refusal a refused refused' (Down j) = (refusal ≡ Some (Down j)) × (refused' ≡ refused)
+IsCause refusal a refused refused' Due = (refusal ≡ Some Due) × (refused' ≡ refused)
 
--- an act was done in this state: it was not refused, and the world is in the state after it
-pub record WasDone (r : Reader) (a : WorldEvent) (w : WorldState) (s' : Seen) : Type 0 where
+-- an act was done to a world that this showed: it was not refused, the model is that of the world after it, and the
+-- keeper refused nothing
+pub record WasDone (r : Reader) (a : WorldEvent) (w : WorldState) (s s' : Seen) : Type 0 where
   pub shows : Shows s' (after_act r w a)
   pub allowed : refusal w a ≡ None
+  pub refused : s'.refused ≡ s.refused
 
 abbrev pub Done : Reader → WorldEvent → Seen → Seen → Type 0
-Done r a s s' = (w : WorldState) → Shows s w → WasDone r a w s'
+Done r a s s' = (w : WorldState) → Shows s w → WasDone r a w s s'
 
 -- an act failed: the state is as before, and there was a cause
 pub record WasUndone (a : WorldEvent) (w : WorldState) (s s' : Seen) (fault : EventFault) : Type 0 where

@@ -1,11 +1,12 @@
 //! Events of one participant's side alone.
 
-ghost use Rattle.std.specs.Prelude.{◌≡◌, ◌<◌, max, length, None, Some, slice_get, IfErr, IfOk, OnOk, OnErr};
+ghost use Rattle.std.specs.Prelude.{◌≡◌, ◌<◌, max, length, None, Some, is_some, IfErr, IfOk, OnOk, OnErr};
 ghost use Rattle.fix_session.specs.Reader.{Reader};
 ghost use Rattle.fix_session.specs.Machine as machine;
-ghost use Rattle.venue_world.specs.Slots.{IsCauseAlone, side_of, sides_of};
-ghost use Rattle.venue_world.specs.Side.{Side, does, wire_taken};
-ghost use Rattle.venue_world.specs.World.{at, refusal_at};
+ghost use Rattle.outbound_queue.specs.declared.queue.Queue.{Queue};
+ghost use Rattle.venue_world.specs.Slots.{IsCauseAlone, IsDoneAt, IsStillAt, side_of};
+ghost use Rattle.venue_world.specs.Side.{does, wire_taken};
+ghost use Rattle.venue_world.specs.World.{refusal_at};
 
 use crate::session_slot::SessionSlot;
 use crate::world_event::SessionEvent;
@@ -13,65 +14,32 @@ use fix_session::{SendFault, Step};
 use outbound_queue::Outgoing;
 use participants::Who;
 use sef_moment::{Moment, later};
-use venue_rules::EventFault;
+use venue_engine::Engine;
+use venue_rules::{EventFault, Keep};
 
-/// Applies a change to a participant's side, and to no other.
-pub(crate) fn do_at(
-    slots: &mut Vec<SessionSlot>,
-    who: Who,
-    doing: &SessionEvent<'_>,
-) -> Result<(), EventFault>
-    requires { who < length slots.old.items }
-    ensures ok { (r : Reader) → OnOk result (sides_of slots.new.items ≡ at who (does r doing.now) (sides_of slots.old.items)) }
-    ensures allowed { OnOk result (refusal_at who doing.now (slice_get (sides_of slots.old.items) who) ≡ None) }
-    ensures err { OnErr result (sides_of slots.new.items ≡ sides_of slots.old.items) }
-    ensures cause { IfErr result (λ fault. IsCauseAlone (refusal_at who doing.now (slice_get (sides_of slots.old.items) who)) doing.now fault) }
-    ensures len { length (sides_of slots.new.items) ≡ length (sides_of slots.old.items) }
-{
-    let place = who.place() as usize;
-    does(&mut slots[place], who, doing)
-}
-
-/// Has a participant's session process its next frame; gives the session's result.
-pub(crate) fn step_at(slots: &mut Vec<SessionSlot>, who: Who, t: Moment) -> Result<Step, EventFault>
-    requires { who < length slots.old.items }
-    ensures ok { (r : Reader) → OnOk result (sides_of slots.new.items ≡ at who (does r (SessionEvent.Steps t)) (sides_of slots.old.items)) }
-    ensures answer { (r : Reader) (s : Side) → slice_get (sides_of slots.old.items) who ≡ Some s → IfOk result (λ answer. answer ≡ (machine.step r s.session (max s.moment t)).1) }
-    ensures err { OnErr result (sides_of slots.new.items ≡ sides_of slots.old.items) }
-    ensures cause { IfErr result (λ fault. fault ≡ EventFault.NoMemory) }
-    ensures len { length (sides_of slots.new.items) ≡ length (sides_of slots.old.items) }
-{
-    let place = who.place() as usize;
-    step(&mut slots[place], t)
-}
-
-/// The number of messages and sentinels in a participant's queue.
-pub(crate) fn queued_at(slots: &[SessionSlot], who: Who) -> usize
-    requires { who < length slots.now }
-    ensures { (s : Side) → slice_get (sides_of slots.now) who ≡ Some s → result ≡ length s.queue }
-{
-    let place = who.place() as usize;
-    queued(&slots[place])
-}
-
-fn queued(slot: &SessionSlot) -> usize
-    ensures { result ≡ length (side_of slot.now).queue }
-{
-    slot.queue.waiting.len()
-}
-
-/// Applies an event to a participant's side, or changes nothing.
-pub(crate) fn does(
+/// Does an act at one participant's side, or changes nothing.
+pub(crate) fn does<K: Keep + Drop>(
     slot: &mut SessionSlot,
+    engine: &mut Engine<K>,
+    place: usize,
     who: Who,
     doing: &SessionEvent<'_>,
 ) -> Result<(), EventFault>
-    ensures ok { (r : Reader) → OnOk result (side_of slot.new ≡ does r doing.now (side_of slot.old)) }
-    ensures allowed { OnOk result (refusal_at who doing.now (Some (side_of slot.old)) ≡ None) }
-    ensures err { OnErr result (side_of slot.new ≡ side_of slot.old) }
-    ensures cause { IfErr result (λ fault. IsCauseAlone (refusal_at who doing.now (Some (side_of slot.old))) doing.now fault) }
+    requires { place < length engine.old.queues }
+    ensures ok { OnOk result (IsDoneAt place slot.old slot.new engine.old engine.new (λ r. does r doing.now)) }
+    ensures allowed { (q : Queue) → OnOk result (refusal_at who doing.now (Some (side_of slot.old q)) ≡ None) }
+    ensures err { OnErr result (IsStillAt place slot.old slot.new engine.old engine.new) }
+    ensures cause { (q : Queue) → IfErr result (λ fault. IsCauseAlone (refusal_at who doing.now (Some (side_of slot.old q))) doing.now fault) }
 {
     match doing {
+        SessionEvent::Delivers => {
+            deliver(slot, engine, place);
+            Ok(())
+        }
+        SessionEvent::Cuts => {
+            engine.cut(place);
+            Ok(())
+        }
         SessionEvent::Pieces(piece) => receive(slot, piece.as_slice()),
         SessionEvent::Steps(t) => match step(slot, *t) {
             Ok(_) => Ok(()),
@@ -79,7 +47,7 @@ pub(crate) fn does(
         },
         SessionEvent::Ticks(t) => tick(slot, *t),
         SessionEvent::Breaks => {
-            slot.session.break_line();
+            drop_line(slot);
             Ok(())
         }
         SessionEvent::Resumes(t) => {
@@ -90,25 +58,17 @@ pub(crate) fn does(
             hand(slot);
             Ok(())
         }
-        SessionEvent::Delivers => {
-            deliver(slot);
-            Ok(())
-        }
         SessionEvent::Collects(t) => collect(slot, who, *t),
-        SessionEvent::Cuts => {
-            cut(slot);
-            Ok(())
-        }
         SessionEvent::Writes => {
-            let _bytes = slot.session.take_wire();
+            let _bytes = write(slot);
             Ok(())
         }
     }
 }
 
 fn receive(slot: &mut SessionSlot, bytes: &[u8]) -> Result<(), EventFault>
-    ensures ok { (r : Reader) → OnOk result (side_of slot.new ≡ does r (SessionEvent.Pieces bytes.now) (side_of slot.old)) }
-    ensures err { OnErr result (side_of slot.new ≡ side_of slot.old) }
+    ensures ok { (r : Reader) (q : Queue) → OnOk result (side_of slot.new q ≡ does r (SessionEvent.Pieces bytes.now) (side_of slot.old q)) }
+    ensures err { (q : Queue) → OnErr result (side_of slot.new q ≡ side_of slot.old q) }
     ensures cause { IfErr result (λ fault. fault ≡ EventFault.NoMemory) }
 {
     match slot.session.push_bytes(bytes) {
@@ -117,10 +77,10 @@ fn receive(slot: &mut SessionSlot, bytes: &[u8]) -> Result<(), EventFault>
     }
 }
 
-fn step(slot: &mut SessionSlot, t: Moment) -> Result<Step, EventFault>
+pub(crate) fn step(slot: &mut SessionSlot, t: Moment) -> Result<Step, EventFault>
     ensures answer { (r : Reader) → IfOk result (λ answer. answer ≡ (machine.step r slot.old.session.state (max slot.old.moment t)).1) }
-    ensures ok { (r : Reader) → OnOk result (side_of slot.new ≡ does r (SessionEvent.Steps t) (side_of slot.old)) }
-    ensures err { OnErr result (side_of slot.new ≡ side_of slot.old) }
+    ensures ok { (r : Reader) (q : Queue) → OnOk result (side_of slot.new q ≡ does r (SessionEvent.Steps t) (side_of slot.old q)) }
+    ensures err { (q : Queue) → OnErr result (side_of slot.new q ≡ side_of slot.old q) }
     ensures cause { IfErr result (λ fault. fault ≡ EventFault.NoMemory) }
 {
     let t = later(slot.moment, t);
@@ -134,8 +94,8 @@ fn step(slot: &mut SessionSlot, t: Moment) -> Result<Step, EventFault>
 }
 
 fn tick(slot: &mut SessionSlot, t: Moment) -> Result<(), EventFault>
-    ensures ok { (r : Reader) → OnOk result (side_of slot.new ≡ does r (SessionEvent.Ticks t) (side_of slot.old)) }
-    ensures err { OnErr result (side_of slot.new ≡ side_of slot.old) }
+    ensures ok { (r : Reader) (q : Queue) → OnOk result (side_of slot.new q ≡ does r (SessionEvent.Ticks t) (side_of slot.old q)) }
+    ensures err { (q : Queue) → OnErr result (side_of slot.new q ≡ side_of slot.old q) }
     ensures cause { IfErr result (λ fault. fault ≡ EventFault.NoMemory) }
 {
     let t = later(slot.moment, t);
@@ -148,8 +108,14 @@ fn tick(slot: &mut SessionSlot, t: Moment) -> Result<(), EventFault>
     }
 }
 
+fn drop_line(slot: &mut SessionSlot)
+    ensures { (r : Reader) (q : Queue) → side_of slot.new q ≡ does r SessionEvent.Breaks (side_of slot.old q) }
+{
+    slot.session.break_line();
+}
+
 fn resume(slot: &mut SessionSlot, t: Moment)
-    ensures { (r : Reader) → side_of slot.new ≡ does r (SessionEvent.Resumes t) (side_of slot.old) }
+    ensures { (r : Reader) (q : Queue) → side_of slot.new q ≡ does r (SessionEvent.Resumes t) (side_of slot.old q) }
 {
     let t = later(slot.moment, t);
     slot.session.resume(t);
@@ -158,28 +124,36 @@ fn resume(slot: &mut SessionSlot, t: Moment)
 
 /// Moves the first ready message to the intake seat, if that is empty.
 fn hand(slot: &mut SessionSlot)
-    ensures { (r : Reader) → side_of slot.new ≡ does r SessionEvent.Hands (side_of slot.old) }
+    ensures { (r : Reader) (q : Queue) → side_of slot.new q ≡ does r SessionEvent.Hands (side_of slot.old q) }
 {
     if slot.seat.is_none() {
         slot.seat = slot.session.pop_ready();
     }
 }
 
-/// Moves the first of the queue to the reply seat, if that is empty.
-fn deliver(slot: &mut SessionSlot)
-    ensures { (r : Reader) → side_of slot.new ≡ does r SessionEvent.Delivers (side_of slot.old) }
+/// What waits first moves to the reply seat, if that is empty.
+fn deliver<K: Keep + Drop>(slot: &mut SessionSlot, engine: &mut Engine<K>, place: usize)
+    requires { place < length engine.old.queues }
+    ensures { IsDoneAt place slot.old slot.new engine.old engine.new (λ r. does r SessionEvent.Delivers) }
 {
-    if slot.reply.is_none() {
-        slot.reply = slot.queue.waiting.pop_front();
+    if has_reply(slot) {
+        return;
     }
+    slot.reply = engine.take_front(place);
+}
+
+fn has_reply(slot: &SessionSlot) -> bool
+    ensures { result ≡ is_some slot.now.reply }
+{
+    slot.reply.is_some()
 }
 
 /// Has the session send the reply in the seat; at the sentinel its line breaks.
 fn collect(slot: &mut SessionSlot, who: Who, t: Moment) -> Result<(), EventFault>
-    ensures ok { (r : Reader) → OnOk result (side_of slot.new ≡ does r (SessionEvent.Collects t) (side_of slot.old)) }
-    ensures allowed { OnOk result (refusal_at who (SessionEvent.Collects t) (Some (side_of slot.old)) ≡ None) }
-    ensures err { OnErr result (side_of slot.new ≡ side_of slot.old) }
-    ensures cause { IfErr result (λ fault. IsCauseAlone (refusal_at who (SessionEvent.Collects t) (Some (side_of slot.old))) (SessionEvent.Collects t) fault) }
+    ensures ok { (r : Reader) (q : Queue) → OnOk result (side_of slot.new q ≡ does r (SessionEvent.Collects t) (side_of slot.old q)) }
+    ensures allowed { (q : Queue) → OnOk result (refusal_at who (SessionEvent.Collects t) (Some (side_of slot.old q)) ≡ None) }
+    ensures err { (q : Queue) → OnErr result (side_of slot.new q ≡ side_of slot.old q) }
+    ensures cause { (q : Queue) → IfErr result (λ fault. IsCauseAlone (refusal_at who (SessionEvent.Collects t) (Some (side_of slot.old q))) (SessionEvent.Collects t) fault) }
 {
     let t = later(slot.moment, t);
     match slot.reply.take() {
@@ -206,28 +180,10 @@ fn fault_of(fault: SendFault, who: Who) -> EventFault
     }
 }
 
-/// Replaces the queue by the sentinel. A session that is cut stays so.
-fn cut(slot: &mut SessionSlot)
-    ensures { (r : Reader) → side_of slot.new ≡ does r SessionEvent.Cuts (side_of slot.old) }
-{
-    slot.queue.cut();
-}
-
-/// Takes the frames that the session queued.
-fn write(slot: &mut SessionSlot) -> Vec<u8>
+/// The frames that the session queued, once.
+pub(crate) fn write(slot: &mut SessionSlot) -> Vec<u8>
     ensures taken { result.items ≡ slot.old.session.state.wire }
-    ensures left { side_of slot.new ≡ wire_taken (side_of slot.old) }
+    ensures left { (q : Queue) → side_of slot.new q ≡ wire_taken (side_of slot.old q) }
 {
     slot.session.take_wire()
-}
-
-/// Takes the frames that a participant's session queued.
-pub(crate) fn write_at(slots: &mut Vec<SessionSlot>, who: Who) -> Vec<u8>
-    requires { who < length slots.old.items }
-    ensures taken { (s : Side) → slice_get (sides_of slots.old.items) who ≡ Some s → result.items ≡ s.session.wire }
-    ensures left { sides_of slots.new.items ≡ at who wire_taken (sides_of slots.old.items) }
-    ensures len { length (sides_of slots.new.items) ≡ length (sides_of slots.old.items) }
-{
-    let place = who.place() as usize;
-    write(&mut slots[place])
 }

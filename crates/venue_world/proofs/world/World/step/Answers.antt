@@ -1,64 +1,93 @@
-use Rattle.std.proofs.Common.{◌≤◌, ℕ, length, refl, sym, ap, subst, ◌∙◌}
-use Rattle.std.specs.Prelude.{IfErr, OnOk, slice_get}
+use Rattle.std.proofs.Common.{◌≡◌, ◌≤◌, ◌<◌, ℕ, length, set, length-set, refl, sym, ap, subst, ◌∙◌, arith, Ok, Err}
+use Rattle.std.specs.Prelude.{IfErr, IfOk, OnOk, OnErr, slice_get, Some}
 use Rattle.venue_rules.specs.declared.trail.EventFault.{EventFault}
-use Rattle.venue_world.specs.declared.world_event.WorldEvent.TheVariants.{Alone}
-use Rattle.venue_world.specs.declared.world_event.SessionEvent.TheVariants.{Steps}
-use Rattle.venue_world.specs.Slots.{sides_of}
+use Rattle.outbound_queue.specs.declared.queue.Queue.{Queue}
+use Rattle.venue_engine.specs.Ledger.{Ledger}
+use Rattle.venue_world.specs.declared.world_event.WorldEvent.TheVariants.{Alone, VenueTicks}
+use Rattle.venue_world.specs.declared.world_event.SessionEvent.TheVariants.{Steps, Writes}
 use Rattle.venue_world.specs.Seen.{Done, Seen, Undone}
-use Rattle.venue_world.proofs.Shows.{step_err, step_ok}
+use Rattle.venue_world.specs.Side.{Side, does, wire_taken}
+use Rattle.venue_world.specs.Slots.{seen, side_of, sides_of}
+use Rattle.venue_world.specs.World.{at}
+use Rattle.venue_world.proofs.Places.{length-sides, parts_at, read_at}
+use Rattle.venue_world.proofs.Shows.{alone_err, alone_ok}
+use Rattle.venue_world.proofs.Slots.{allowed_always, no_memory, own_err, own_ok, answer_of_slot}
 use Rattle.venue_world.proofs.world.World.step.Goals as goal
 
 pub invariant_of-self : goal.invariant_of-self
-invariant_of-self g c = (c.self.invariant.0, c.self.invariant.1, c.self.invariant.2, subst (λ (n : ℕ). n ≤ 32) (sym c.step_at.ensures.len) c.self.invariant.3)
+invariant_of-self g c =
+    let inv = c.self.invariant in
+    let l = c.self.inside.engine in
+    let slots = c.self.inside.slots.items in
+    (length-set slots c.place-place.result c.step.new.slot ∙ inv.0, subst (λ (n : ℕ). n ≤ 32) (sym (length-set slots c.place-place.result c.step.new.slot)) inv.1)
 
 pub returns-clause-ok : goal.returns-clause-ok
 returns-clause-ok g c = λ r.
-    let old : Seen = record {
-      venue = c.self.inside.engine.venue;
-      rows = g.K.Keep.rows c.self.inside.engine.keeper;
-      is_clean = g.K.Keep.is_clean c.self.inside.engine.keeper;
-      refused = g.K.Keep.refused c.self.inside.engine.keeper;
-      count = c.self.inside.engine.count;
-      moment = c.self.inside.moment;
-      sides = sides_of c.self.inside.engine.slots.items;
-    } in
-    let new : Seen = record {
-      venue = c.self.inside.engine.venue;
-      rows = g.K.Keep.rows c.self.inside.engine.keeper;
-      is_clean = g.K.Keep.is_clean c.self.inside.engine.keeper;
-      refused = g.K.Keep.refused c.self.inside.engine.keeper;
-      count = c.self.inside.engine.count;
-      moment = c.self.inside.moment;
-      sides = sides_of c.step_at.new.slots.items;
-    } in
-    subst (λ (o : Seen). OnOk c.step_at.result (Done r (Alone c.args.who (Steps c.args.t)) o new)) c.self.view_is
-    (step_ok r c.args.who c.args.t old new c.step_at.result refl refl refl refl refl (c.step_at.ensures.ok r))
+    let inv = c.self.invariant in
+    let l = c.self.inside.engine in
+    let slots = c.self.inside.slots.items in
+    let long = length-sides slots l.queues inv.0 in
+    let seen_long = ap (λ (o : Seen). length o.sides) c.self.view_is in
+    let is = c.place-place.ensures in
+    let i = c.place-place.result in
+    let low : i < length slots = omega (arith, c.requires, seen_long, long, is) in
+    let low_queue : i < length l.queues = (let e = inv.0 in omega (arith, low, e)) in
+    let d = c.index_mut.result.now in
+    let d_at = read_at slots i d low c.index_mut.ensures.value in
+    let d' = c.step.new.slot in
+    subst (λ (n : ℕ). OnOk c.step.result (Done r (Alone n (Steps c.args.t)) c.args.self.now (seen l (set slots i d')))) is
+    (subst (λ (o : Seen). OnOk c.step.result (Done r (Alone i (Steps c.args.t)) o (seen l (set slots i d')))) c.self.view_is
+    (alone_ok r i (Steps c.args.t) l l slots d d' c.step.result d_at (own_ok c.step.result i l d d' (λ k. does k (Steps c.args.t)) low_queue c.step.ensures.ok) (λ q. allowed_always c.step.result _ refl)))
 
 pub returns-clause-answer : goal.returns-clause-answer
-returns-clause-answer g c = λ r s s_at. c.step_at.ensures.answer r s (ap (λ (o : Seen). slice_get o.sides c.args.who) c.self.view_is ∙ s_at)
+returns-clause-answer g c = λ r s s_at.
+    let inv = c.self.invariant in
+    let l = c.self.inside.engine in
+    let slots = c.self.inside.slots.items in
+    let long = length-sides slots l.queues inv.0 in
+    let seen_long = ap (λ (o : Seen). length o.sides) c.self.view_is in
+    let is = c.place-place.ensures in
+    let i = c.place-place.result in
+    let low : i < length slots = omega (arith, c.requires, seen_long, long, is) in
+    let low_queue : i < length l.queues = (let e = inv.0 in omega (arith, low, e)) in
+    let d = c.index_mut.result.now in
+    let d_at = read_at slots i d low c.index_mut.ensures.value in
+    let p = parts_at slots l.queues i s (subst (λ (n : ℕ). slice_get (sides_of slots l.queues) n ≡ Some s) (sym is) (ap (λ (o : Seen). slice_get o.sides c.args.who) c.self.view_is ∙ s_at)) in
+    answer_of_slot r c.args.t c.step.result slots i d p.0 p.1 s d_at p.2 p.4 (c.step.ensures.answer r)
 
 pub returns-clause-err : goal.returns-clause-err
 returns-clause-err g c =
-    let old : Seen = record {
-      venue = c.self.inside.engine.venue;
-      rows = g.K.Keep.rows c.self.inside.engine.keeper;
-      is_clean = g.K.Keep.is_clean c.self.inside.engine.keeper;
-      refused = g.K.Keep.refused c.self.inside.engine.keeper;
-      count = c.self.inside.engine.count;
-      moment = c.self.inside.moment;
-      sides = sides_of c.self.inside.engine.slots.items;
-    } in
-    let new : Seen = record {
-      venue = c.self.inside.engine.venue;
-      rows = g.K.Keep.rows c.self.inside.engine.keeper;
-      is_clean = g.K.Keep.is_clean c.self.inside.engine.keeper;
-      refused = g.K.Keep.refused c.self.inside.engine.keeper;
-      count = c.self.inside.engine.count;
-      moment = c.self.inside.moment;
-      sides = sides_of c.step_at.new.slots.items;
-    } in
-    subst (λ (o : Seen). IfErr c.step_at.result (λ (fault : EventFault). Undone (Alone c.args.who (Steps c.args.t)) o new fault)) c.self.view_is
-    (step_err c.args.who c.args.t old new c.step_at.result refl refl refl refl refl c.step_at.ensures.err c.step_at.ensures.cause)
+    let inv = c.self.invariant in
+    let l = c.self.inside.engine in
+    let slots = c.self.inside.slots.items in
+    let long = length-sides slots l.queues inv.0 in
+    let seen_long = ap (λ (o : Seen). length o.sides) c.self.view_is in
+    let is = c.place-place.ensures in
+    let i = c.place-place.result in
+    let low : i < length slots = omega (arith, c.requires, seen_long, long, is) in
+    let low_queue : i < length l.queues = (let e = inv.0 in omega (arith, low, e)) in
+    let d = c.index_mut.result.now in
+    let d_at = read_at slots i d low c.index_mut.ensures.value in
+    let d' = c.step.new.slot in
+    subst (λ (n : ℕ). IfErr c.step.result (λ (fault : EventFault). Undone (Alone n (Steps c.args.t)) c.args.self.now (seen l (set slots i d')) fault)) is
+    (subst (λ (o : Seen). IfErr c.step.result (λ (fault : EventFault). Undone (Alone i (Steps c.args.t)) o (seen l (set slots i d')) fault)) c.self.view_is
+    (alone_err i (Steps c.args.t) l l slots d d' c.step.result d_at (own_err c.step.result i l d d' low_queue c.step.ensures.err) (λ q. no_memory c.step.result _ (Steps c.args.t) refl refl c.step.ensures.cause)))
 
 pub returns-clause-sides : goal.returns-clause-sides
-returns-clause-sides g c = c.step_at.ensures.len ∙ ap (λ (o : Seen). length o.sides) c.self.view_is
+returns-clause-sides g c =
+    let inv = c.self.invariant in
+    let l = c.self.inside.engine in
+    let slots = c.self.inside.slots.items in
+    let d' = c.step.new.slot in
+    let i = c.place-place.result in
+    length-sides (set slots i d') l.queues (length-set slots i d' ∙ inv.0) ∙ length-set slots i d' ∙ sym (length-sides slots l.queues inv.0) ∙ ap (λ (o : Seen). length o.sides) c.self.view_is
+
+pub index_mut-requires : goal.index_mut-requires
+index_mut-requires g c =
+    let inv = c.self.invariant in
+    let slots = c.self.inside.slots.items in
+    let long = length-sides slots c.self.inside.engine.queues inv.0 in
+    let seen_long = ap (λ (o : Seen). length o.sides) c.self.view_is in
+    let is = c.place-place.ensures in
+    let ok = c.self.inside.slots.ok.0 in
+    omega (arith, c.requires, seen_long, long, is, ok)
