@@ -131,7 +131,7 @@ fn hand(slot: &mut SessionSlot)
     }
 }
 
-/// What waits first moves to the reply seat, if that is empty.
+/// Moves the first of the queue to the reply seat, if that is empty.
 fn deliver<K: Keep + Drop>(slot: &mut SessionSlot, engine: &mut Engine<K>, place: usize)
     requires { place < length engine.old.queues }
     ensures { IsDoneAt place slot.old slot.new engine.old engine.new (λ r. does r SessionEvent.Delivers) }
@@ -180,7 +180,7 @@ fn fault_of(fault: SendFault, who: Who) -> EventFault
     }
 }
 
-/// The frames that the session queued, once.
+/// Takes the frames that the session queued.
 pub(crate) fn write(slot: &mut SessionSlot) -> Vec<u8>
     ensures taken { result.items ≡ slot.old.session.state.wire }
     ensures left { (q : Queue) → side_of slot.new q ≡ wire_taken (side_of slot.old q) }

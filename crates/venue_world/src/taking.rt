@@ -14,7 +14,7 @@ use sef_moment::Moment;
 use venue_engine::Engine;
 use venue_rules::{EventFault, Keep, Taken};
 
-/// Takes the message out of the intake seat.
+/// Takes the message out of the seat.
 fn take_seat(slot: &mut SessionSlot) -> Option<Item>
     ensures item { result ≡ slot.old.seat }
     ensures side { (q : Queue) → side_of slot.new q ≡ emptied (side_of slot.old q) }
@@ -22,7 +22,7 @@ fn take_seat(slot: &mut SessionSlot) -> Option<Item>
     slot.seat.take()
 }
 
-/// Puts a message back.
+/// Puts a message back into the seat.
 fn fill_seat(slot: &mut SessionSlot, item: Item)
     ensures { (q : Queue) → side_of slot.new q ≡ filled item (side_of slot.old q) }
 {
