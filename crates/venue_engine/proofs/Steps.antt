@@ -1,16 +1,16 @@
 -- The effect of the engine's parts on its model.
-use Rattle.std.proofs.Common.{◌≡◌, ℕ, ◌+◌, ◌≤◌, Bool, true, false, List, [], ◌∷◌, ◌++◌, length, length-append, refl, sym, ap, ◌∙◌, subst, max, Result, Ok, Err}
+use Rattle.std.proofs.Common.{◌≡◌, ℕ, ◌+◌, ◌≤◌, Bool, true, false, List, [], ◌∷◌, ◌++◌, length, length-append, sym, ap, ◌∙◌, subst, max, Result, Ok, Err}
 use Rattle.std.specs.Prelude.{IfErr, OnOk}
 use Rattle.venue_rules.specs.declared.trail.EventFault.{EventFault}
 use Rattle.venue_rules.specs.declared.trail.EventFault.TheVariants.{Behind, TrailRefused, Down, Due, NoMemory}
 use Rattle.venue_rules.specs.declared.trail.TrailRow.{TrailRow}
 use Rattle.venue_rules.specs.Run.{Input, row}
-use Rattle.venue_core.specs.State.{VenueFacts, State, standing}
+use Rattle.venue_core.specs.State.{State}
 use Rattle.venue_core.specs.Taking.{IsSame}
 use Rattle.outbound_queue.specs.declared.queue.Queue.{Queue}
 use Rattle.venue_engine.specs.Inner.{AreRows, IsHindered, IsPosted}
-use Rattle.venue_engine.specs.Ledger.{IsSameLedger, Ledger, ledger}
-use Rattle.venue_engine.specs.Outbox.{Waiting, all_waits}
+use Rattle.venue_engine.specs.Ledger.{Ledger, ledger}
+use Rattle.venue_engine.specs.Outbox.{all_waits}
 use Rattle.venue_engine.specs.Queued.{AreFew}
 use Rattle.venue_engine.specs.Step.{IsAnswered, IsDone, IsDue, IsRefused, HasAnswered, IsUnanswered, IsUndone, IsUntimely}
 use Rattle.venue_engine.proofs.Each.{first_each, none_each, queued_each, same_each}

@@ -1,5 +1,5 @@
 -- The effect of each call of an engine: the answer to an input, and the causes of a refusal.
-use Rattle.std.specs.Prelude.{◌≡◌, ℕ, ◌+◌, ◌<◌, Bool, true, false, List, [], ◌∷◌, ◌++◌, length, set, slice_get, Option, None, Some, Ok, Err, is_some}
+use Rattle.std.specs.Prelude.{◌≡◌, ℕ, ◌+◌, Bool, true, false, [], ◌∷◌, ◌++◌, length, set, slice_get, Option, None, Some, Ok, Err, is_some}
 use Rattle.std.specs.declared.result.Result.{Result}
 use Rattle.venue_rules.specs.declared.trail.EventFault.{EventFault}
 use Rattle.venue_rules.specs.declared.trail.EventFault.TheVariants.{Behind, TrailRefused, Down, Due, NoMemory}

@@ -1,13 +1,10 @@
 -- The effect of the engine, by the sides.
-use Rattle.std.proofs.Common.{◌≡◌, ℕ, zero, suc, ◌+◌, ◌<◌, Bool, true, false, List, [], ◌∷◌, ◌++◌, length, refl, sym, ap, ◌∙◌, arith, subst, Option, Some, None}
+use Rattle.std.proofs.Common.{◌≡◌, ℕ, zero, suc, ◌+◌, ◌<◌, Bool, true, false, List, [], ◌∷◌, ◌++◌, length, refl, sym, ap, ◌∙◌, arith, subst, Some, None}
 use Rattle.std.specs.Prelude.{slice_get, if◌then◌else◌}
 use Rattle.venue_rules.specs.declared.replies.Reply.{Reply}
 use Rattle.venue_rules.specs.declared.trail.EventFault.{EventFault}
 use Rattle.venue_rules.specs.declared.trail.EventFault.TheVariants.{Behind, Due, Down, NoMemory, TrailRefused}
-use Rattle.venue_rules.specs.MoreInputs.{said_to}
 use Rattle.venue_rules.specs.Run.{Input}
-use Rattle.outbound_queue.specs.Owed.{added, is_behind as puts_behind}
-use Rattle.outbound_queue.specs.declared.outgoing.Outgoing.{Outgoing}
 use Rattle.outbound_queue.specs.declared.queue.Queue.{Queue}
 use Rattle.venue_engine.specs.Ledger.{Ledger}
 use Rattle.venue_engine.specs.Queued.{AreQueued, AreSameQueues, IsFirstBehind, NoneBehind}
@@ -18,7 +15,7 @@ use Rattle.venue_world.specs.Side.{Side}
 use Rattle.venue_world.specs.Slots.{side_of, sides_of}
 use Rattle.venue_world.specs.World.{first_behind, is_behind, posted}
 use Rattle.venue_world.proofs.Lists.{heard_by, side_posted}
-use Rattle.venue_world.proofs.Places.{all_same, length-posted, length-sides, parts_at, seen_at}
+use Rattle.venue_world.proofs.Places.{all_same, length-posted, length-sides, parts_at}
 
 same_slot : (slots : List SessionSlot) (i : ℕ) (a b : SessionSlot) → slice_get slots i ≡ Some a → slice_get slots i ≡ Some b → a ≡ b
 same_slot slots i a b p q = cc

@@ -1,5 +1,5 @@
 -- A message leaves its seat, and may be put back.
-use Rattle.std.proofs.Common.{◌≡◌, ℕ, ◌<◌, length, List, set, refl, sym, ap, ◌∙◌, subst, max, Result, Ok, Err, Option, Some, None}
+use Rattle.std.proofs.Common.{◌≡◌, ℕ, ◌<◌, List, set, sym, ap, ◌∙◌, subst, Err, Option, Some, None}
 use Rattle.std.specs.Prelude.{slice_get}
 use Rattle.fix_dictionary.specs.declared.messages.Item.{Item}
 use Rattle.outbound_queue.specs.declared.queue.Queue.{Queue}
@@ -8,7 +8,6 @@ use Rattle.venue_engine.specs.Step.{HasAnswered}
 use Rattle.venue_rules.specs.declared.trail.EventFault.{EventFault}
 use Rattle.venue_rules.specs.declared.trail.EventFault.TheVariants.{Behind, Due, Down, NoMemory, TrailRefused}
 use Rattle.venue_world.specs.declared.session_slot.SessionSlot.{SessionSlot}
-use Rattle.venue_world.specs.Side.{Side}
 use Rattle.venue_world.specs.Slots.{side_of, sides_of}
 use Rattle.venue_world.specs.Taken.{AreSameSlots, IsEmptied, IsSeat, IsTake}
 use Rattle.venue_world.specs.World.{at, emptied, filled, message_from}

@@ -1,5 +1,5 @@
 -- A take from a participant's seat.
-use Rattle.std.specs.Prelude.{ℕ, ◌≡◌, Bool, true, false, List, Option, Some, None, Ok, Err, slice_get}
+use Rattle.std.specs.Prelude.{ℕ, ◌≡◌, true, false, List, Option, Some, None, Ok, Err, slice_get}
 use Rattle.std.specs.declared.result.Result.{Result}
 use Rattle.fix_dictionary.specs.declared.messages.Item.{Item}
 use Rattle.venue_rules.specs.declared.trail.EventFault.{EventFault}

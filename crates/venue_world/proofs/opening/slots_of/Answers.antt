@@ -1,6 +1,5 @@
-use Rattle.std.proofs.Common.{◌<◌, length, take, arith, subst, sym, List}
+use Rattle.std.proofs.Common.{◌<◌, length, take, arith, subst, sym}
 use Rattle.venue_world.specs.Slots.{AreFreshSlots}
-use Rattle.venue_world.specs.declared.session_slot.SessionSlot.{SessionSlot}
 use Rattle.venue_world.proofs.Slots.{fresh_more}
 use Rattle.venue_world.proofs.opening.slots_of.Goals as goal
 

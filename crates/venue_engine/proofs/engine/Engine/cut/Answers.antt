@@ -1,9 +1,7 @@
-use Rattle.std.proofs.Common.{◌≤◌, ◌<◌, ℕ, length, set, length-set, refl, sym, subst}
-use Rattle.std.specs.Prelude.{slice_get, Some}
-use Rattle.outbound_queue.specs.declared.queue.Queue.{Queue}
+use Rattle.std.proofs.Common.{◌≤◌, ◌<◌, ℕ, length, length-set, refl, sym, subst}
 use Rattle.venue_engine.specs.Ledger.{Ledger, ledger}
-use Rattle.venue_engine.specs.Step.{Cuts, IsFront, IsPutBack, with_queue}
-use Rattle.venue_engine.proofs.Few.{few_cut, few_popped, few_put, few_set, front_by, is_cut_by}
+use Rattle.venue_engine.specs.Step.{Cuts, with_queue}
+use Rattle.venue_engine.proofs.Few.{few_cut, few_set, is_cut_by}
 use Rattle.venue_engine.proofs.Lists.{at_read}
 use Rattle.venue_engine.proofs.engine.Engine.cut.Goals as goal
 

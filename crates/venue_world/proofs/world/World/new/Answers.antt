@@ -1,9 +1,7 @@
-use Rattle.std.proofs.Common.{◌≡◌, ◌≤◌, ℕ, length, refl, sym, ap, subst, ◌∙◌, arith}
+use Rattle.std.proofs.Common.{◌≡◌, ◌≤◌, length, sym, ap, subst, ◌∙◌, arith}
 use Rattle.venue_rules.specs.Facts.{no_history}
 use Rattle.venue_core.specs.State.{VenueFacts}
 use Rattle.venue_core.specs.VenueFacts.{IsStanding}
-use Rattle.venue_world.specs.Seen.{Shows}
-use Rattle.venue_world.specs.Slots.{seen}
 use Rattle.venue_world.proofs.Places.{length-sides}
 use Rattle.venue_world.proofs.Slots.{fresh_sides}
 use Rattle.venue_world.proofs.world.World.new.Goals as goal

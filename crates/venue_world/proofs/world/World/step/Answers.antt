@@ -1,13 +1,11 @@
 use Rattle.std.proofs.Common.{◌≡◌, ◌≤◌, ◌<◌, ℕ, length, set, length-set, refl, sym, ap, subst, ◌∙◌, arith, Ok, Err}
-use Rattle.std.specs.Prelude.{IfErr, IfOk, OnOk, OnErr, slice_get, Some}
+use Rattle.std.specs.Prelude.{IfErr, OnOk, slice_get, Some}
 use Rattle.venue_rules.specs.declared.trail.EventFault.{EventFault}
-use Rattle.outbound_queue.specs.declared.queue.Queue.{Queue}
-use Rattle.venue_engine.specs.Ledger.{Ledger}
-use Rattle.venue_world.specs.declared.world_event.WorldEvent.TheVariants.{Alone, VenueTicks}
-use Rattle.venue_world.specs.declared.world_event.SessionEvent.TheVariants.{Steps, Writes}
+use Rattle.venue_world.specs.declared.world_event.WorldEvent.TheVariants.{Alone}
+use Rattle.venue_world.specs.declared.world_event.SessionEvent.TheVariants.{Steps}
 use Rattle.venue_world.specs.Seen.{Done, Seen, Undone}
-use Rattle.venue_world.specs.Side.{Side, does, wire_taken}
-use Rattle.venue_world.specs.Slots.{seen, side_of, sides_of}
+use Rattle.venue_world.specs.Side.{does}
+use Rattle.venue_world.specs.Slots.{seen, sides_of}
 use Rattle.venue_world.specs.World.{at}
 use Rattle.venue_world.proofs.Places.{length-sides, parts_at, read_at}
 use Rattle.venue_world.proofs.Shows.{alone_err, alone_ok}
