@@ -1,5 +1,9 @@
 -- When a line ends a connection itself. Times are milliseconds, a heartbeat interval is seconds.
-use Rattle.std.specs.Prelude.{ℕ, ◌+◌, ◌-◌, ◌*◌, ◌^◌, Bool, not, ◌&&◌, ◌||◌, if◌then◌else◌, Option, Some, None, nat_le, nat_eq, min}
+use Rattle.std.specs.Prelude.{◌≡◌, ◌⊎◌, ℕ, ◌+◌, ◌-◌, ◌*◌, ◌^◌, Bool, not, ◌&&◌, ◌||◌, if◌then◌else◌, List, [], ◌∷◌, ◌++◌, Option, Some, None, nat_le, nat_eq, min}
+use Rattle.gateway.specs.declared.line.Read.{Read}
+use Rattle.gateway.specs.declared.line.Read.TheVariants as read
+use Rattle.gateway.specs.declared.piece.Given.TheVariants as gave
+use Rattle.gateway.specs.Said.{Said, Gave}
 use Rattle.tcp_line.specs.declared.events.ClockStep.{ClockStep}
 use Rattle.tcp_line.specs.declared.events.ClockStep.TheVariants as step
 use Rattle.tcp_line.specs.declared.line_watch.LineEnd.{LineEnd}
@@ -19,6 +23,17 @@ is_overdue standing = standing.is_outstanding && nat_le (gap_limit standing.hear
 
 abbrev pub end_of : Standing → Option LineEnd
 end_of standing = if is_late standing then Some ended.NoLogon else if is_overdue standing then Some ended.GapOverdue else None
+
+-- a connection ends by these times only after a read that gave nothing
+abbrev pub end_after : Read → Standing → Option LineEnd
+end_after read.Quiet standing = end_of standing
+end_after (read.Got count) standing = None
+end_after read.Ended standing = None
+end_after read.Fault standing = None
+
+-- between these accounts a connection was read once, and either gave nothing or had ended
+abbrev pub GaveNothing : List Said → List Said → Type 0
+GaveNothing old new = (new ≡ old ++ Gave gave.Quiet ∷ []) ⊎ (new ≡ old ++ Gave gave.Ended ∷ [])
 
 -- nothing came for ten seconds
 abbrev pub is_silent : ℕ → Bool

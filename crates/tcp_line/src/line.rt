@@ -240,8 +240,20 @@ impl<T: Clock + Drop> TcpLine<T> {
         self.next_connection()
     }
 
-    /// Reads once. A connection that reported a fault is dropped.
+    /// Reads once, and records the answer. A connection that reported a fault is dropped.
     pub(crate) fn receive(&mut self, buffer: &mut [u8; READ_SIZE]) -> Read
+        ensures within { IsWithin result }
+        ensures said { self.new.log ≡ self.old.log ++ Gave (given result buffer.new) ∷ [] }
+        ensures gone { result ≡ Read.Fault → self.new.connection ≡ None }
+    {
+        let answer = self.read_connection(buffer);
+        let given = given_of(answer, buffer);
+        self.log.note(LineEvent::Gave { given });
+        answer
+    }
+
+    // Reads the connection once, and drops one that reported a fault.
+    fn read_connection(&mut self, buffer: &mut [u8; READ_SIZE]) -> Read
         ensures within { IsWithin result }
         ensures same { self.new.log ≡ self.old.log }
         ensures gone { result ≡ Read.Fault → self.new.connection ≡ None }
@@ -296,6 +308,20 @@ impl<T: Clock + Drop> TcpLine<T> {
             self.connection = None;
         }
         has_taken
+    }
+}
+
+/// What a read gave, by its answer and what the buffer has afterwards.
+pub(crate) fn given_of(answer: Read, buffer: &[u8; READ_SIZE]) -> Given
+    ensures { result ≡ given answer buffer.now }
+{
+    match answer {
+        Read::Got { count } => Given::Got {
+            piece: Piece::front(buffer, count),
+        },
+        Read::Quiet => Given::Quiet,
+        Read::Ended => Given::Ended,
+        Read::Fault => Given::Fault,
     }
 }
 
@@ -363,17 +389,7 @@ impl<T: Clock + Drop> Line for TcpLine<T> {
         ensures said { self.new.log ≡ self.old.log ++ Gave (given result buffer.new) ∷ [] }
         ensures gone { result ≡ Read.Fault → self.new.connection ≡ None }
     {
-        let answer = self.receive(buffer);
-        let given = match answer {
-            Read::Got { count } => Given::Got {
-                piece: Piece::front(buffer, count),
-            },
-            Read::Quiet => Given::Quiet,
-            Read::Ended => Given::Ended,
-            Read::Fault => Given::Fault,
-        };
-        self.log.note(LineEvent::Gave { given });
-        answer
+        self.receive(buffer)
     }
 
     fn write<R: Wait>(&mut self, _rt: &R, bytes: &[u8]) -> Result<(), LineFault>

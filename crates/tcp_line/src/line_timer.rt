@@ -1,8 +1,9 @@
 //! When a line ends a connection itself. Times are milliseconds of a clock that never goes back.
-ghost use Rattle.std.specs.Prelude.{◌≡◌};
+ghost use Rattle.std.specs.Prelude.{◌≡◌, is_some, true};
 ghost use Rattle.tcp_line.specs.Endings as endings;
 
 use crate::line_watch::{LineEnd, LineWatch};
+use gateway::line::Read;
 
 /// The time without a Logon after which a connection ends.
 const MAX_LOGON_MS: u64 = 10_000;
@@ -58,8 +59,8 @@ fn is_overdue(standing: &Standing) -> bool
     standing.is_outstanding && standing.stuck_ms >= gap_limit(standing.heartbeat)
 }
 
-/// Why a connection ends now, where it does.
-pub(crate) fn end_of(standing: &Standing) -> Option<LineEnd>
+// Why a connection of which nothing waits to be read ends now, where it does.
+fn end_of(standing: &Standing) -> Option<LineEnd>
     ensures { result ≡ endings.end_of standing.now }
 {
     if is_late(standing) {
@@ -68,6 +69,17 @@ pub(crate) fn end_of(standing: &Standing) -> Option<LineEnd>
         Some(LineEnd::GapOverdue)
     } else {
         None
+    }
+}
+
+/// Why a connection ends after a read that gave this, where it does.
+pub(crate) fn end_after(answer: Read, standing: &Standing) -> Option<LineEnd>
+    ensures cause { result ≡ endings.end_after answer standing.now }
+    ensures quiet { is_some result ≡ true → answer ≡ Read.Quiet }
+{
+    match answer {
+        Read::Quiet => end_of(standing),
+        Read::Got { count: _ } | Read::Ended | Read::Fault => None,
     }
 }
 
@@ -83,7 +95,9 @@ pub(crate) fn is_silent(silent_ms: u64) -> bool
 pub(crate) struct LineTimer {
     now: u64,
     connected: u64,
+    /// The first look at the clock after bytes came; `has_heard`: before that look.
     heard: u64,
+    has_heard: bool,
     looked: u64,
     /// The count of progress, and when it last rose.
     progress: u64,
@@ -96,6 +110,7 @@ impl LineTimer {
             now: 0,
             connected: 0,
             heard: 0,
+            has_heard: false,
             looked: 0,
             progress: 0,
             progressed: 0,
@@ -104,20 +119,25 @@ impl LineTimer {
 
     /// A connection was accepted.
     pub(crate) fn begin(&mut self, now: u64) {
+        self.has_heard = true;
         self.set_now(now);
         self.connected = now;
-        self.heard = now;
         self.looked = now;
         self.progressed = now;
     }
 
+    /// The time before the last read, which gave nothing.
     pub(crate) fn set_now(&mut self, now: u64) {
         self.now = now;
+        if self.has_heard {
+            self.heard = now;
+            self.has_heard = false;
+        }
     }
 
     /// Bytes came.
     pub(crate) fn hear(&mut self) {
-        self.heard = self.now;
+        self.has_heard = true;
     }
 
     /// Whether bytes have come lately.
@@ -134,19 +154,22 @@ impl LineTimer {
         true
     }
 
-    /// Why the connection ends now, where it does.
-    pub(crate) fn end(&mut self, watch: &LineWatch) -> Option<LineEnd> {
+    /// Why the connection ends after a read that gave this, where it does.
+    pub(crate) fn end(&mut self, answer: Read, watch: &LineWatch) -> Option<LineEnd>
+        ensures quiet { is_some result ≡ true → answer ≡ Read.Quiet }
+    {
         let progress = watch.progress();
         if progress != self.progress {
             self.progress = progress;
             self.progressed = self.now;
         }
-        end_of(&Standing {
+        let standing = Standing {
             is_logged_on: watch.is_logged_on(),
             connected_ms: self.now.saturating_sub(self.connected),
             heartbeat: watch.heartbeat(),
             is_outstanding: watch.is_outstanding(),
             stuck_ms: self.now.saturating_sub(self.progressed),
-        })
+        };
+        end_after(answer, &standing)
     }
 }

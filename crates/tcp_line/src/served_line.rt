@@ -1,18 +1,19 @@
 //! The line of a venue that is served: it stops with its venue, and ends a connection that holds its participant out.
 ghost use Rattle.std.specs.Prelude.{◌≡◌, ◌^◌, ◌-◌, [], ◌∷◌, ◌++◌, MatchResult, min};
 ghost use Rattle.gateway.specs.Said.{IsWithin, Accepted, Gave, Took, Broke_off, given, faults_in};
+ghost use Rattle.tcp_line.specs.Endings.{GaveNothing};
 
 use crate::clocks::ms_of;
 use crate::dirty_flag::DirtyFlag;
 use crate::events::Counts;
-use crate::line::TcpLine;
+use crate::line::{TcpLine, given_of};
 use crate::line_log::{LineLog, past_of};
 use crate::line_timer::LineTimer;
 use crate::line_watch::{LineEnd, LineWatch};
 use crate::stop::Stop;
 use gateway::line::{Accept, Line, LineFault, Read};
 use gateway::mem_line::LineEvent;
-use gateway::piece::{Given, Piece, READ_SIZE};
+use gateway::piece::{Given, READ_SIZE};
 use std::sync::{Arc, Wait};
 use std::time::Clock;
 
@@ -112,6 +113,7 @@ impl<T: Clock + Drop> ServedLine<T> {
     // came for some time. Whether it takes the place.
     fn is_replaced(&mut self) -> bool
         ensures same { self.new.log ≡ self.old.log }
+        ensures unread { self.new.line.log ≡ self.old.line.log }
     {
         if !self.timer.is_look_due() {
             return false;
@@ -132,13 +134,13 @@ impl<T: Clock + Drop> ServedLine<T> {
         false
     }
 
-    // Why the connection ends now, where it does.
-    fn own_end(&mut self) -> Option<LineEnd>
+    // Why the connection, of which nothing waited to be read at this time, ends now, where it does.
+    fn own_end(&mut self, now: u64) -> Option<LineEnd>
         ensures same { self.new.log ≡ self.old.log }
+        ensures unread { self.new.line.log ≡ self.old.line.log }
     {
-        let now = self.now()?;
         self.timer.set_now(now);
-        let end = self.timer.end(&self.shared.watch);
+        let end = self.timer.end(Read::Quiet, &self.shared.watch);
         if end.is_some() {
             return end;
         }
@@ -151,6 +153,7 @@ impl<T: Clock + Drop> ServedLine<T> {
     // Ends the connection, for this cause.
     fn end(&mut self, end: LineEnd) -> Read
         ensures same { self.new.log ≡ self.old.log }
+        ensures unread { self.new.line.log ≡ self.old.line.log }
         ensures within { IsWithin result }
     {
         self.shared.watch.set_end(end);
@@ -163,6 +166,7 @@ impl<T: Clock + Drop> ServedLine<T> {
     fn receive(&mut self, buffer: &mut [u8; READ_SIZE]) -> Read
         ensures within { IsWithin result }
         ensures same { self.new.log ≡ self.old.log }
+        ensures read { self.new.line.log ≡ self.old.line.log ++ Gave (given result buffer.new) ∷ [] }
     {
         let answer = self.line.receive(buffer);
         if let Read::Got { count: _ } = answer {
@@ -171,17 +175,36 @@ impl<T: Clock + Drop> ServedLine<T> {
         answer
     }
 
-    // Reads once where the venue is open. Asks the clock only where the system is asked.
+    // Reads once where the venue is open. Where that gives nothing, the connection may end, by the time before the read:
+    // so what came before its bound was over, as while this thread was stalled, is read first.
     fn receive_open(&mut self, buffer: &mut [u8; READ_SIZE]) -> Read
         ensures within { IsWithin result }
         ensures same { self.new.log ≡ self.old.log }
+        ensures ends { result ≡ Read.Ended → GaveNothing self.old.line.log self.new.line.log }
     {
+        // (The clock is asked only where the system is.)
         if self.line.is_ahead() {
             return self.receive(buffer);
         }
-        match self.own_end() {
+        let now = self.now();
+        match self.receive(buffer) {
+            Read::Quiet => self.after_quiet(now),
+            answer => answer,
+        }
+    }
+
+    // What a read that gave nothing answers, where this is the time before it.
+    fn after_quiet(&mut self, now: Option<u64>) -> Read
+        ensures within { IsWithin result }
+        ensures same { self.new.log ≡ self.old.log }
+        ensures unread { self.new.line.log ≡ self.old.line.log }
+    {
+        let Some(now) = now else {
+            return Read::Quiet;
+        };
+        match self.own_end(now) {
             Some(end) => self.end(end),
-            None => self.receive(buffer),
+            None => Read::Quiet,
         }
     }
 
@@ -226,18 +249,11 @@ impl<T: Clock + Drop> Line for ServedLine<T> {
         ensures said { self.new.log ≡ self.old.log ++ Gave (given result buffer.new) ∷ [] }
     {
         let answer = self.receive_served(buffer);
-        let given = match answer {
-            Read::Got { count } => Given::Got {
-                piece: Piece::front(buffer, count),
-            },
-            Read::Quiet => Given::Quiet,
-            Read::Ended => Given::Ended,
-            Read::Fault => Given::Fault,
-        };
-        match given {
-            Given::Ended | Given::Fault => self.shared.activity.note(),
-            Given::Got { piece: _ } | Given::Quiet => {}
+        match answer {
+            Read::Ended | Read::Fault => self.shared.activity.note(),
+            Read::Got { count: _ } | Read::Quiet => {}
         }
+        let given = given_of(answer, buffer);
         self.log.note(LineEvent::Gave { given });
         answer
     }
