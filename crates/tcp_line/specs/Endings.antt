@@ -9,6 +9,10 @@ use Rattle.tcp_line.specs.declared.events.ClockStep.TheVariants as step
 use Rattle.tcp_line.specs.declared.line_watch.LineEnd.{LineEnd}
 use Rattle.tcp_line.specs.declared.line_watch.LineEnd.TheVariants as ended
 use Rattle.tcp_line.specs.declared.line_timer.Standing.{Standing}
+use Rattle.tcp_line.specs.declared.line_timer.Fate.{Fate}
+use Rattle.tcp_line.specs.declared.line_timer.Fate.TheVariants as fate
+use Rattle.tcp_line.specs.declared.connection.Arrival.{Arrival}
+use Rattle.tcp_line.specs.declared.connection.Arrival.TheVariants as arrival
 
 -- a ResendRequest is overdue after 2.2 heartbeat intervals without progress, and after a minute where there are none
 abbrev pub gap_limit : ℕ → ℕ
@@ -38,6 +42,15 @@ GaveNothing old new = (new ≡ old ++ Gave gave.Quiet ∷ []) ⊎ (new ≡ old +
 -- nothing came for ten seconds
 abbrev pub is_silent : ℕ → Bool
 is_silent silent = nat_le 10000 silent
+
+-- a newcomer takes the place of a silent connection once bytes came on it; it has ten seconds for them
+abbrev pub fate_after : Arrival → ℕ → Fate
+fate_after arrival.Bytes waited = fate.Served
+fate_after arrival.Nothing waited = if nat_le 10000 waited then fate.Closed else fate.Waits
+fate_after arrival.Ended waited = fate.Closed
+
+abbrev pub fate_of : ℕ → Arrival → ℕ → Fate
+fate_of silent came waited = if is_silent silent then fate_after came waited else fate.Closed
 
 -- a venue that closes is at rest where nothing moved for half a second, and after two minutes
 abbrev pub is_at_rest : ℕ → ℕ → Bool

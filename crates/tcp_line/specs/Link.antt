@@ -1,5 +1,5 @@
 -- The model of a connection, and the effect of reads and writes on it.
-use Rattle.std.specs.Prelude.{◌≡◌, ◌≢◌, ℕ, ◌≤◌, Bool, true, false, List, [], ◌++◌, length, min, take, Option}
+use Rattle.std.specs.Prelude.{◌≡◌, ◌≢◌, ℕ, ◌≤◌, Bool, true, false, List, [], ◌++◌, length, min, take, Option, None, Some}
 use Rattle.std.specs.Io.KnownBytes.{Appends, Consumes, Keeps, IsAtEnd, append_known}
 use Rattle.gateway.specs.declared.line.Read.{Read}
 use Rattle.gateway.specs.declared.line.Read.TheVariants as read
@@ -44,6 +44,11 @@ GivesAhead (read.Got count) old new buffer = (1 ≤ count) × (count ≤ 256) ×
 GivesAhead read.Quiet old new buffer = (old ≡ []) × (new ≡ [])
 GivesAhead read.Ended old new buffer = (old ≡ []) × (new ≡ [])
 GivesAhead read.Fault old new buffer = (old ≡ []) × (new ≡ [])
+
+-- there is a connection, of which bytes were read and are to be given
+abbrev pub IsHeard : Option Link → Type 0
+IsHeard None = ⊥
+IsHeard (Some l) = l.ahead ≢ []
 
 -- all that waited was given to the system
 abbrev pub GivesAll : Link → Link → Type 0

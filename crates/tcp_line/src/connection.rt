@@ -1,7 +1,7 @@
 //! One connection: bytes from a peer, read ahead in part, and bytes to it, which may wait briefly.
-ghost use Rattle.std.specs.Prelude.{◌≡◌, [], ◌++◌, length, min, take, IfOk, MatchResult, false};
+ghost use Rattle.std.specs.Prelude.{◌≡◌, ◌≢◌, [], ◌++◌, length, min, take, IfOk, MatchResult, false};
 ghost use Rattle.std.specs.Io.Buffered.{reader_buffer, reader_remaining};
-ghost use Rattle.std.specs.Io.KnownBytes.{Appends, Consumes};
+ghost use Rattle.std.specs.Io.KnownBytes.{Appends, Consumes, Keeps};
 ghost use Rattle.tcp_line.specs.Link.{GivesAhead, HasRead, TookPart, promised, due, kept};
 ghost use Rattle.gateway.specs.Said.{IsWithin};
 
@@ -23,6 +23,15 @@ const MAX_GIVEN: usize = 256;
 
 /// The count of bytes that the system is asked for: the capacity of std's `BufReader`.
 pub(crate) const READ_AHEAD: usize = 8_192;
+
+/// What has come on a connection that is not served yet.
+#[derive(Clone, Copy)]
+pub(crate) enum Arrival {
+    Bytes,
+    Nothing,
+    /// The peer has ended it, or it is broken.
+    Ended,
+}
 
 /// A connection between its input and its output. One system call reads what many turns are given. Written bytes may
 /// wait, so that one call takes them with those written later.
@@ -121,6 +130,31 @@ impl<I: Read, O: Write> Connection<I, O> {
                 ErrorKind::Interrupted => Answer::Quiet,
                 _ => Answer::Fault,
             },
+        }
+    }
+
+    /// Looks whether bytes have come, and leaves them to be read.
+    pub(crate) fn arrival(&mut self) -> Arrival
+        ensures bytes { result ≡ Arrival.Bytes → self.new.ahead ≢ [] }
+        ensures nothing { result ≢ Arrival.Bytes → self.new.ahead ≡ [] }
+        ensures coming { Keeps self.old.coming self.new.coming }
+        ensures written { (self.new.taken ≡ self.old.taken) × (self.new.waiting ≡ self.old.waiting) }
+    {
+        let has_ended = match self.input.fill_buf() {
+            Ok(bytes) => bytes.is_empty(),
+            Err(error) => match error.kind() {
+                ErrorKind::WouldBlock => false,
+                ErrorKind::Interrupted => false,
+                _ => true,
+            },
+        };
+        if self.is_ahead() {
+            return Arrival::Bytes;
+        }
+        if has_ended {
+            Arrival::Ended
+        } else {
+            Arrival::Nothing
         }
     }
 

@@ -1,9 +1,9 @@
 //! A line over one listener and at most one connection.
-ghost use Rattle.std.specs.Prelude.{◌≡◌, ◌≢◌, ◌^◌, ◌-◌, [], ◌∷◌, ◌++◌, false, None, IfOk, IfErr, MatchResult, min};
+ghost use Rattle.std.specs.Prelude.{◌≡◌, ◌≢◌, ◌^◌, ◌-◌, [], ◌∷◌, ◌++◌, false, None, Some, IfSome, IsOkAnd, IfOk, IfErr, MatchResult, min};
 ghost use Rattle.gateway.specs.Said.{IsWithin, Accepted, Gave, Took, Broke_off, given, faults_in};
-ghost use Rattle.tcp_line.specs.Link.{GivesAhead, HasFlushed, HasRead};
+ghost use Rattle.tcp_line.specs.Link.{GivesAhead, HasFlushed, HasRead, IsHeard};
 
-use crate::connection::{Connection, READ_AHEAD};
+use crate::connection::{Arrival, Connection, READ_AHEAD};
 use crate::dirty_flag::DirtyFlag;
 use crate::line_log::{LineLog, past_of};
 use gateway::line::{Accept, Line, LineFault, Read};
@@ -36,8 +36,8 @@ pub struct TcpLine<T> {
     clock: T,
     /// None once the port is closed.
     listener: Option<TcpListener>,
-    /// The next connection, where it came while this one was up.
-    next: Option<TcpStream>,
+    /// The newcomer: the next connection, where it came while this one was up.
+    next: Option<Connection<TcpStream, TcpStream>>,
     connection: Option<Connection<TcpStream, TcpStream>>,
     registry: Registry,
     activity: Arc<DirtyFlag>,
@@ -154,11 +154,32 @@ impl<T: Clock + Drop> TcpLine<T> {
         }
     }
 
-    /// Has this connection be the next.
+    /// Has this connection be the newcomer, where an allocation for it does not fail.
     pub(crate) fn set_next(&mut self, stream: TcpStream)
         ensures same { self.new.log ≡ self.old.log }
     {
-        self.next = Some(stream);
+        self.next = match self.prepare(stream) {
+            Ok(connection) => Some(connection),
+            Err(_) => None,
+        };
+    }
+
+    /// Drops the newcomer. Whether there was one.
+    pub(crate) fn drop_next(&mut self) -> bool
+        ensures same { self.new.log ≡ self.old.log }
+    {
+        self.next.take().is_some()
+    }
+
+    /// What has come on the newcomer, where there is one. Its bytes are left to be read.
+    pub(crate) fn look_at_next(&mut self) -> Option<Arrival>
+        ensures same { self.new.log ≡ self.old.log }
+        ensures heard { result ≡ Some Arrival.Bytes → IsHeard self.new.next }
+    {
+        match &mut self.next {
+            None => None,
+            Some(connection) => Some(connection.arrival()),
+        }
     }
 
     /// Whether bytes are held that were read ahead.
@@ -177,14 +198,8 @@ impl<T: Clock + Drop> TcpLine<T> {
         }
     }
 
-    // Takes the connection that came before, or the next that waits at the listener.
-    fn next_stream(&mut self) -> io::Result<TcpStream>
-        ensures same { self.new.log ≡ self.old.log }
-        ensures kept { self.new.connection ≡ self.old.connection }
-    {
-        if let Some(stream) = self.next.take() {
-            return Ok(stream);
-        }
+    // The next connection that waits at the listener.
+    fn next_stream(&self) -> io::Result<TcpStream> {
         match &self.listener {
             None => Err(io::Error::from(ErrorKind::WouldBlock)),
             Some(listener) => match listener.accept() {
@@ -194,21 +209,37 @@ impl<T: Clock + Drop> TcpLine<T> {
         }
     }
 
+    // Takes the newcomer, with what was read of it, or the next connection that waits at the listener.
+    fn take_next(&mut self) -> io::Result<Connection<TcpStream, TcpStream>>
+        ensures same { self.new.log ≡ self.old.log }
+        ensures kept { self.new.connection ≡ self.old.connection }
+        ensures newcomer { IfSome self.old.next (λ next. IsOkAnd result (λ taken. taken ≡ next)) }
+    {
+        if let Some(connection) = self.next.take() {
+            return Ok(connection);
+        }
+        match self.next_stream() {
+            Ok(stream) => self.prepare(stream),
+            Err(error) => Err(error),
+        }
+    }
+
     // Takes the next connection.
     fn next_connection(&mut self) -> Accept
         ensures over { result ≢ Accept.Over }
         ensures same { self.new.log ≡ self.old.log }
         ensures kept { result ≢ Accept.Up → self.new.connection ≡ self.old.connection }
+        ensures newcomer { IfSome self.old.next (λ next. (result ≡ Accept.Up) × (self.new.connection ≡ Some next)) }
     {
-        match self.next_stream() {
-            Ok(stream) => match self.prepare(stream) {
-                Ok(connection) => {
-                    self.connection = Some(connection);
-                    self.activity.begin();
-                    Accept::Up
+        match self.take_next() {
+            Ok(connection) => {
+                self.activity.begin();
+                self.connection = Some(connection);
+                if self.is_ahead() {
+                    self.activity.set_read(true, false);
                 }
-                Err(_) => Accept::Fault,
-            },
+                Accept::Up
+            }
             Err(error) => match error.kind() {
                 ErrorKind::WouldBlock => Accept::Quiet,
                 ErrorKind::Interrupted => Accept::Quiet,

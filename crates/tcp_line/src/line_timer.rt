@@ -1,7 +1,8 @@
 //! When a line ends a connection itself. Times are milliseconds of a clock that never goes back.
-ghost use Rattle.std.specs.Prelude.{◌≡◌, is_some, true};
+ghost use Rattle.std.specs.Prelude.{◌≡◌, ◌≢◌, is_some, true, Some};
 ghost use Rattle.tcp_line.specs.Endings as endings;
 
+use crate::connection::Arrival;
 use crate::line_watch::{LineEnd, LineWatch};
 use gateway::line::Read;
 
@@ -10,6 +11,9 @@ const MAX_LOGON_MS: u64 = 10_000;
 
 /// The time without a byte after which another connection takes the place of one.
 const MAX_SILENT_MS: u64 = 10_000;
+
+/// The time without a first byte after which a newcomer is closed.
+const MAX_UNHEARD_MS: u64 = 10_000;
 
 /// The time without progress after which a ResendRequest is overdue where there are no heartbeats.
 const MAX_GAP_MS: u64 = 60_000;
@@ -76,6 +80,7 @@ fn end_of(standing: &Standing) -> Option<LineEnd>
 pub(crate) fn end_after(answer: Read, standing: &Standing) -> Option<LineEnd>
     ensures cause { result ≡ endings.end_after answer standing.now }
     ensures quiet { is_some result ≡ true → answer ≡ Read.Quiet }
+    ensures by_time { result ≢ Some LineEnd.Replaced }
 {
     match answer {
         Read::Quiet => end_of(standing),
@@ -83,11 +88,50 @@ pub(crate) fn end_after(answer: Read, standing: &Standing) -> Option<LineEnd>
     }
 }
 
-/// Whether another connection takes the place of one from which nothing came for this time; else it is closed.
-pub(crate) fn is_silent(silent_ms: u64) -> bool
+/// What becomes of a newcomer: another connection that came while one is up.
+#[derive(Clone, Copy)]
+pub(crate) enum Fate {
+    /// It takes the place of the other one.
+    Served,
+    /// It may send its first bytes yet.
+    Waits,
+    Closed,
+}
+
+// Whether a newcomer may take the place of a connection from which nothing came for this time.
+fn is_silent(silent_ms: u64) -> bool
     ensures { result ≡ endings.is_silent silent_ms }
 {
     silent_ms >= MAX_SILENT_MS
+}
+
+// What becomes of a newcomer on which this came, this time after it was accepted.
+fn fate_after(arrival: Arrival, waited_ms: u64) -> Fate
+    ensures { result ≡ endings.fate_after arrival waited_ms }
+{
+    match arrival {
+        Arrival::Bytes => Fate::Served,
+        Arrival::Nothing => {
+            if waited_ms >= MAX_UNHEARD_MS {
+                Fate::Closed
+            } else {
+                Fate::Waits
+            }
+        }
+        Arrival::Ended => Fate::Closed,
+    }
+}
+
+// The same, where nothing came on the connection that is up for this time.
+fn fate_of(silent_ms: u64, arrival: Arrival, waited_ms: u64) -> Fate
+    ensures fate { result ≡ endings.fate_of silent_ms arrival waited_ms }
+    ensures heard { result ≡ Fate.Served → arrival ≡ Arrival.Bytes }
+{
+    if is_silent(silent_ms) {
+        fate_after(arrival, waited_ms)
+    } else {
+        Fate::Closed
+    }
 }
 
 /// The times of a connection.
@@ -99,6 +143,8 @@ pub(crate) struct LineTimer {
     heard: u64,
     has_heard: bool,
     looked: u64,
+    /// When the newcomer was accepted, where there is one.
+    newcomer: u64,
     /// The count of progress, and when it last rose.
     progress: u64,
     progressed: u64,
@@ -112,6 +158,7 @@ impl LineTimer {
             heard: 0,
             has_heard: false,
             looked: 0,
+            newcomer: 0,
             progress: 0,
             progressed: 0,
         }
@@ -126,7 +173,7 @@ impl LineTimer {
         self.progressed = now;
     }
 
-    /// The time before the last read, which gave nothing.
+    /// The time before a read.
     pub(crate) fn set_now(&mut self, now: u64) {
         self.now = now;
         if self.has_heard {
@@ -140,9 +187,22 @@ impl LineTimer {
         self.has_heard = true;
     }
 
-    /// Whether bytes have come lately.
-    pub(crate) fn is_silent(&self) -> bool {
-        is_silent(self.now.saturating_sub(self.heard))
+    /// A newcomer was accepted.
+    pub(crate) fn welcome(&mut self) {
+        self.newcomer = self.now;
+    }
+
+    /// What becomes of the newcomer, on which this came.
+    pub(crate) fn fate(&self, arrival: Arrival) -> Fate
+        ensures heard { result ≡ Fate.Served → arrival ≡ Arrival.Bytes }
+    {
+        let silent = if self.has_heard {
+            0
+        } else {
+            self.now.saturating_sub(self.heard)
+        };
+        let waited = self.now.saturating_sub(self.newcomer);
+        fate_of(silent, arrival, waited)
     }
 
     /// Whether it is time to look for another connection.
@@ -157,6 +217,7 @@ impl LineTimer {
     /// Why the connection ends after a read that gave this, where it does.
     pub(crate) fn end(&mut self, answer: Read, watch: &LineWatch) -> Option<LineEnd>
         ensures quiet { is_some result ≡ true → answer ≡ Read.Quiet }
+        ensures by_time { result ≢ Some LineEnd.Replaced }
     {
         let progress = watch.progress();
         if progress != self.progress {

@@ -1,14 +1,15 @@
 //! The line of a venue that is served: it stops with its venue, and ends a connection that holds its participant out.
-ghost use Rattle.std.specs.Prelude.{◌≡◌, ◌^◌, ◌-◌, [], ◌∷◌, ◌++◌, MatchResult, min};
+ghost use Rattle.std.specs.Prelude.{◌≡◌, ◌^◌, ◌-◌, [], ◌∷◌, ◌++◌, true, Some, MatchResult, min};
 ghost use Rattle.gateway.specs.Said.{IsWithin, Accepted, Gave, Took, Broke_off, given, faults_in};
 ghost use Rattle.tcp_line.specs.Endings.{GaveNothing};
+ghost use Rattle.tcp_line.specs.Link.{IsHeard};
 
 use crate::clocks::ms_of;
 use crate::dirty_flag::DirtyFlag;
 use crate::events::Counts;
 use crate::line::{TcpLine, given_of};
 use crate::line_log::{LineLog, past_of};
-use crate::line_timer::LineTimer;
+use crate::line_timer::{Fate, LineTimer};
 use crate::line_watch::{LineEnd, LineWatch};
 use crate::stop::Stop;
 use gateway::line::{Accept, Line, LineFault, Read};
@@ -89,6 +90,15 @@ impl<T: Clock + Drop> ServedLine<T> {
         }
     }
 
+    fn look_at_clock(&mut self)
+        ensures same { self.new.log ≡ self.old.log }
+        ensures unread { self.new.line.log ≡ self.old.line.log }
+    {
+        if let Some(now) = self.now() {
+            self.timer.set_now(now);
+        }
+    }
+
     // Takes the next connection, unless the venue stops.
     fn change(&mut self) -> Accept
         ensures same { self.new.log ≡ self.old.log }
@@ -109,37 +119,75 @@ impl<T: Clock + Drop> ServedLine<T> {
         answer
     }
 
-    // Closes another connection that waits at the listener, or has it take the place of this one, from which nothing
-    // came for some time. Whether it takes the place.
-    fn is_replaced(&mut self) -> bool
+    // Drops the newcomer, where there is one, and reports that.
+    fn close_newcomer(&mut self)
         ensures same { self.new.log ≡ self.old.log }
         ensures unread { self.new.line.log ≡ self.old.line.log }
     {
-        if !self.timer.is_look_due() {
-            return false;
+        if !self.line.drop_next() {
+            return;
         }
-        let Some(stream) = self.line.take_second() else {
-            return false;
-        };
-        if self.timer.is_silent() {
-            self.line.set_next(stream);
-            return true;
-        }
-        drop(stream);
         let at_ms = match self.clock.since_1970() {
             Ok(time) => ms_of(time),
             Err(_) => 0,
         };
         self.shared.watch.note_second(at_ms);
-        false
     }
 
-    // Why the connection, of which nothing waited to be read at this time, ends now, where it does.
-    fn own_end(&mut self, now: u64) -> Option<LineEnd>
+    // Takes a newcomer from the listener, in the place of one that has sent nothing.
+    fn welcome(&mut self)
         ensures same { self.new.log ≡ self.old.log }
         ensures unread { self.new.line.log ≡ self.old.line.log }
     {
-        self.timer.set_now(now);
+        let Some(stream) = self.line.take_second() else {
+            return;
+        };
+        self.close_newcomer();
+        self.line.set_next(stream);
+        self.timer.welcome();
+    }
+
+    // Whether the newcomer takes the place of this connection. One that neither does nor may wait is closed.
+    fn is_taken(&mut self) -> bool
+        ensures same { self.new.log ≡ self.old.log }
+        ensures unread { self.new.line.log ≡ self.old.line.log }
+        ensures heard { result ≡ true → IsHeard self.new.line.next }
+    {
+        let Some(arrival) = self.line.look_at_next() else {
+            return false;
+        };
+        match self.timer.fate(arrival) {
+            Fate::Served => true,
+            Fate::Waits => false,
+            Fate::Closed => {
+                self.close_newcomer();
+                false
+            }
+        }
+    }
+
+    // Looks at times for a newcomer. Whether it takes the place of this connection: only once its first bytes came.
+    fn is_replaced(&mut self) -> bool
+        ensures same { self.new.log ≡ self.old.log }
+        ensures unread { self.new.line.log ≡ self.old.line.log }
+        ensures heard { result ≡ true → IsHeard self.new.line.next }
+    {
+        if !self.timer.is_look_due() {
+            return false;
+        }
+        if self.is_taken() {
+            return true;
+        }
+        self.welcome();
+        self.is_taken()
+    }
+
+    // Why the connection, of which a read gave nothing, ends now, where it does.
+    fn own_end(&mut self) -> Option<LineEnd>
+        ensures same { self.new.log ≡ self.old.log }
+        ensures unread { self.new.line.log ≡ self.old.line.log }
+        ensures heard { result ≡ Some LineEnd.Replaced → IsHeard self.new.line.next }
+    {
         let end = self.timer.end(Read::Quiet, &self.shared.watch);
         if end.is_some() {
             return end;
@@ -186,23 +234,25 @@ impl<T: Clock + Drop> ServedLine<T> {
         if self.line.is_ahead() {
             return self.receive(buffer);
         }
-        let now = self.now();
+        self.look_at_clock();
         match self.receive(buffer) {
-            Read::Quiet => self.after_quiet(now),
+            Read::Quiet => self.after_quiet(),
+            Read::Got { count } => {
+                // (It takes no place, since bytes came.)
+                let _ = self.is_replaced();
+                Read::Got { count }
+            }
             answer => answer,
         }
     }
 
-    // What a read that gave nothing answers, where this is the time before it.
-    fn after_quiet(&mut self, now: Option<u64>) -> Read
+    // What a read that gave nothing answers.
+    fn after_quiet(&mut self) -> Read
         ensures within { IsWithin result }
         ensures same { self.new.log ≡ self.old.log }
         ensures unread { self.new.line.log ≡ self.old.line.log }
     {
-        let Some(now) = now else {
-            return Read::Quiet;
-        };
-        match self.own_end(now) {
+        match self.own_end() {
             Some(end) => self.end(end),
             None => Read::Quiet,
         }
