@@ -5,6 +5,7 @@ mod clocks;
 mod closing_timer;
 mod connection;
 mod dirty_flag;
+mod draining;
 mod events;
 mod gate;
 mod giving;

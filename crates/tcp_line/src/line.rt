@@ -5,6 +5,7 @@ ghost use Rattle.tcp_line.specs.Link.{GivesAhead, HasFlushed, HasRead, IsHeard};
 
 use crate::connection::{Arrival, Connection, READ_AHEAD};
 use crate::dirty_flag::DirtyFlag;
+use crate::draining::pass_over;
 use crate::line_log::{LineLog, past_of};
 use gateway::line::{Accept, Line, LineFault, Read};
 use gateway::mem_line::LineEvent;
@@ -12,23 +13,17 @@ use gateway::piece::{Given, Piece, READ_SIZE};
 use mio::unix::SourceFd;
 use mio::{Interest, Registry, Token};
 use std::alloc::Global;
+use std::io;
 use std::io::ErrorKind;
 use std::net::{Shutdown, TcpListener, TcpStream};
 use std::os::fd::AsRawFd;
 use std::sync::{Arc, Wait};
-use std::time::{Clock, Duration};
-use std::{io, thread};
+use std::time::Clock;
 
 /// The tokens of the two sockets in the poll of a session's thread.
 const LISTENER_TOKEN: Token = Token(1);
 
 const STREAM_TOKEN: Token = Token(2);
-
-/// The greatest count of looks at a peer that was sent the end of the stream, and the pause between two, in
-/// milliseconds: half a second in all.
-const MAX_LOOKS: u64 = 100;
-
-const LOOK_PAUSE: u64 = 5;
 
 /// A line whose peer connects to a listener: one connection after another, and a new one ends the last.
 pub struct TcpLine<T> {
@@ -91,15 +86,12 @@ impl<T: Clock + Drop> TcpLine<T> {
         })
     }
 
-    /// Gives the system what still waits, and drops the connection. Whether all that was written was taken.
+    /// Gives the system what still waits, ends the connection and drops it. Whether all that was written was taken.
     pub fn close(&mut self) -> bool
         ensures same { self.new.log ≡ self.old.log }
         ensures gone { self.new.connection ≡ None }
     {
-        match self.connection.take() {
-            None => true,
-            Some(mut connection) => connection.flush(&self.clock).is_ok(),
-        }
+        self.finish().is_ok()
     }
 
     /// Gives the system what waits, and keeps the connection where it took that. Whether it did.
@@ -116,20 +108,28 @@ impl<T: Clock + Drop> TcpLine<T> {
         is_given
     }
 
-    /// Ends the connection: gives the system what waits, sends the end of the stream, and passes over what still comes,
-    /// since a socket that is dropped with bytes unread resets the connection and loses what is under way. The count of
-    /// bytes passed over.
-    pub(crate) fn end(&mut self) -> u64
+    // Ends the connection, whoever ended the session: gives the system what waits, sends the end of the stream, and
+    // passes over what still comes. The count of bytes passed over, or a fault of what waited.
+    fn finish(&mut self) -> Result<u64, LineFault>
         ensures same { self.new.log ≡ self.old.log }
         ensures gone { self.new.connection ≡ None }
     {
         let Some(mut connection) = self.connection.take() else {
-            return 0;
+            return Ok(0);
         };
-        match connection.flush(&self.clock) {
-            Err(_) => 0,
-            Ok(()) => drain(&self.clock, connection),
+        connection.flush(&self.clock)?;
+        match connection.output().shutdown(Shutdown::Write) {
+            Err(_) => Ok(0),
+            Ok(()) => Ok(pass_over(&self.clock, &mut connection)),
         }
+    }
+
+    /// Gives the system what still waits, and ends the connection. The count of bytes passed over.
+    pub(crate) fn end(&mut self) -> u64
+        ensures same { self.new.log ≡ self.old.log }
+        ensures gone { self.new.connection ≡ None }
+    {
+        self.finish().unwrap_or(0)
     }
 
     /// Ends the connection, and closes the port.
@@ -354,24 +354,6 @@ pub(crate) fn given_of(answer: Read, buffer: &[u8; READ_SIZE]) -> Given
         Read::Ended => Given::Ended,
         Read::Fault => Given::Fault,
     }
-}
-
-// Sends the end of the stream, and passes over what still comes until the peer ends too, for half a second at most. The
-// count of bytes passed over.
-fn drain<T: Clock>(clock: &T, mut connection: Connection<TcpStream, TcpStream>) -> u64 {
-    let mut passed_over: u64 = 0;
-    if connection.output().shutdown(Shutdown::Write).is_err() {
-        return passed_over;
-    }
-    let mut buffer = [0; READ_SIZE];
-    for _ in 0..MAX_LOOKS {
-        match connection.read(&mut buffer) {
-            Read::Got { count } => passed_over = passed_over.saturating_add(count as u64),
-            Read::Quiet => thread::sleep(clock, Duration::from_millis(LOOK_PAUSE)),
-            Read::Ended | Read::Fault => return passed_over,
-        }
-    }
-    passed_over
 }
 
 // Reads once. What waits is given to the system before it is asked to read, but only once all that was read ahead is
