@@ -3,7 +3,7 @@
 
 usage: operator_day.py PORT VENUE_MAIN [PART..]
 
-PORT and the next 119 are used. The parts, all of them or those that are named, run in parallel, each on venues of its
+PORT and the next 124 are used. The parts, all of them or those that are named, run in parallel, each on venues of its
 own, and at last `turns` alone:
 
 stop        a venue ends by its stop file while five clients send all they can: each message that it took was answered,
@@ -15,6 +15,9 @@ refusals    a connection that is refused or dropped is reported with its cause
 gaps        a gap is reported; one that is not filled ends the connection after 2.2 heartbeat intervals
 hour        the same after 60 seconds without heartbeats; and the metrics of each minute and of the end
 places      a second connection is closed, or takes the place of one that is silent
+newcomers   one that sends nothing takes no place and is closed; a client that comes after it is served at once
+stalls      a stalled venue ends no line for which bytes waited, nor gives its place away
+logouts     a Logout arrives, and no reset with it, also where its receiver goes on sending; who comes next is served
 clock       a clock that steps by an hour is reported (with a C compiler alone)
 eras        a session that has begun 900 of its 1,000 eras is reported
 slow        a slow consumer is reported as cut
@@ -31,6 +34,7 @@ import fcntl
 import os
 import resource
 import shutil
+import signal
 import subprocess
 import sys
 import tempfile
@@ -58,9 +62,11 @@ from fix import (  # noqa: E402
 )
 
 NAME = "tests/e2e/operator_day"
-PORTS = 120
+PORTS = 125
 EVENT_SECONDS = 20.0  # for an event
 IDLE_SECONDS = 10.0
+QUIET_SECONDS = 11.0  # past the ten seconds of each bound
+BEHIND = 1 << 20  # bytes sent behind a message that ends a session
 RATE = 50_000  # messages a second
 MOST_TURNS = 4  # a message; 1.2 are aimed at
 BUSY_SECONDS = 3.0
@@ -534,6 +540,120 @@ def places(part):
         part.end(venue, 0)
 
 
+def probe(venue, name):
+    """A connection that sends nothing, and when it was opened."""
+    return client_of(venue, name), time.monotonic()
+
+
+def goes_on(client, text):
+    client.send("1", f"112={text}|", quietly=True)
+    client.await_field(f"112={text}", quietly=True)
+
+
+def newcomers(part):
+    with part.venue() as venue:
+        venue.await_start()
+        quiet = {name: logged_on(venue, name, heartbeat=0) for name in ("ALPHA", "BETA", "GAMMA")}
+        time.sleep(QUIET_SECONDS)
+        # a port probe that sends nothing, and one that is gone at once
+        held, since = probe(venue, "ALPHA")
+        client_of(venue, "BETA").close()
+        part.await_event(venue, "second_closed", participant="BETA")
+        # a client that comes back while another probe waits
+        probe(venue, "GAMMA")
+        time.sleep(1)
+        again = client_of(venue, "GAMMA")
+        again.number = quiet["GAMMA"].number
+        began = time.monotonic()
+        log_on(again, heartbeat=0)
+        served = time.monotonic() - began
+        if served > 2:
+            raise SystemExit(f"a client that comes after a probe is served after {served:.1f} s")
+        part.print(f"a client that comes after a probe is served after {served:.1f} s")
+        part.await_event(venue, "line_ended", participant="GAMMA", cause="replaced")
+        took = seconds_until_end(held, since, 20)
+        if not 9.5 <= took <= 13:
+            raise SystemExit(f"a probe was closed after {took:.1f} s")
+        part.print(f"a probe that sends nothing was closed after {took:.1f} s")
+        part.await_event(venue, "second_closed", participant="ALPHA")
+        for name in ("ALPHA", "BETA"):
+            goes_on(quiet[name], "still")
+            ended = [event for event in venue.events() if is_of(event, "line_ended", {"participant": name})]
+            part.compare(f"ends of {name}'s line", ended, [])
+        # one that waits is closed once the first is heard
+        time.sleep(QUIET_SECONDS)
+        held, since = probe(venue, "BETA")
+        time.sleep(1)
+        goes_on(quiet["BETA"], "alive")
+        took = seconds_until_end(held, since, 20)
+        if took > 5:
+            raise SystemExit(f"a probe of a line that is heard was closed after {took:.1f} s")
+        part.end(venue, 0)
+
+
+def stalls(part):
+    with part.venue() as venue:
+        venue.await_start()
+        # ALPHA has not logged on; BETA owes what was asked for; GAMMA has logged on
+        alpha = client_of(venue, "ALPHA")
+        part.await_event(venue, "connected", participant="ALPHA")
+        beta = logged_on(venue, "BETA", heartbeat=2)
+        gamma = logged_on(venue, "GAMMA", heartbeat=0)
+        ahead(beta, 3)
+        part.await_event(venue, "gap_asked", participant="BETA")
+        venue.process.send_signal(signal.SIGSTOP)
+        alpha.send("A", "98=0|108=0|1137=9|", quietly=True)
+        for number in (1, 2):
+            beta.number = number
+            beta.send("0", "", quietly=True)
+        beta.send("1", "112=filled|", quietly=True)
+        gamma.send("1", "112=here|", quietly=True)
+        second = client_of(venue, "GAMMA")
+        second.number = 2
+        second.send("A", "98=0|108=0|1137=9|", quietly=True)
+        time.sleep(QUIET_SECONDS)
+        venue.process.send_signal(signal.SIGCONT)
+        alpha.await_field("35=A", quietly=True)
+        beta.await_field("112=filled", quietly=True)
+        gamma.await_field("112=here", quietly=True)
+        part.print(f"three lines go on after a stall of {QUIET_SECONDS:.0f} s")
+        part.await_event(venue, "second_closed", participant="GAMMA")
+        part.compare("ends of lines", [event for event in venue.events() if event["event"] == "line_ended"], [])
+        part.end(venue, 0)
+
+
+def how_it_ends(client):
+    """Reads up to the end of the connection: what came, and whether it was reset."""
+    try:
+        while more := client.connection.recv(4096):
+            client.unread += more
+        return client.unread, "end"
+    except ConnectionError:
+        return client.unread, "reset"
+
+
+def logouts(part):
+    with part.venue() as venue:
+        venue.await_start()
+        for name, sender, kind in (("ALPHA", "ALPHA", "5"), ("BETA", "NOBODY", "0")):
+            client = logged_on(venue, name)
+            client.connection.sendall(message(kind, sender, 2, "", timestamp()) + b"x" * BEHIND)
+            time.sleep(0.3)
+            came, end = how_it_ends(client)
+            part.compare(f"{name}: whether a Logout arrives, and what comes last", (b"\x0135=5\x01" in came, end), (True, "end"))
+            # (the old connection stays open on this side)
+            began = time.monotonic()
+            again = client_of(venue, name)
+            again.number = 2
+            log_on(again)
+            took = time.monotonic() - began
+            if took > 3:
+                raise SystemExit(f"the next connection is served after {took:.1f} s")
+            part.print(f"{name}: the next connection is served after {took:.1f} s")
+            goes_on(again, "here")
+        part.end(venue, 0)
+
+
 def try_until_served(venue, old):
     """A new connection of a client, tried each second until its Logon is answered."""
     deadline = time.monotonic() + 30
@@ -745,7 +865,10 @@ def unread(part):
         venue.wait()
 
 
-PARTS = [stop, eof, worker, session, refusals, gaps, hour, places, clock, eras, slow, failing, starts, unread]
+PARTS = [
+    stop, eof, worker, session, refusals, gaps, hour, places, newcomers, stalls, logouts, clock, eras, slow, failing,
+    starts, unread,
+]  # fmt: skip
 
 
 def run(part, test):
