@@ -560,14 +560,15 @@ def newcomers(part):
         client_of(venue, "BETA").close()
         part.await_event(venue, "second_closed", participant="BETA")
         # a client that comes back while another probe waits
-        probe(venue, "GAMMA")
+        waiting, _since = probe(venue, "GAMMA")
         time.sleep(1)
         again = client_of(venue, "GAMMA")
         again.number = quiet["GAMMA"].number
         began = time.monotonic()
         log_on(again, heartbeat=0)
         served = time.monotonic() - began
-        if served > 2:
+        waiting.close()
+        if served > 3:
             raise SystemExit(f"a client that comes after a probe is served after {served:.1f} s")
         part.print(f"a client that comes after a probe is served after {served:.1f} s")
         part.await_event(venue, "line_ended", participant="GAMMA", cause="replaced")

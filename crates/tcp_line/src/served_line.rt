@@ -223,8 +223,8 @@ impl<T: Clock + Drop> ServedLine<T> {
         answer
     }
 
-    // Reads once where the venue is open. Where that gives nothing, the connection may end, by the time before the read:
-    // so what came before its bound was over, as while this thread was stalled, is read first.
+    // Reads once where the venue is open. Where that gives nothing, the connection may end, by the time before the
+    // read: so what came while this thread was stalled is read first.
     fn receive_open(&mut self, buffer: &mut [u8; READ_SIZE]) -> Read
         ensures within { IsWithin result }
         ensures same { self.new.log ≡ self.old.log }

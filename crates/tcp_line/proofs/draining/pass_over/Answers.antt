@@ -1,4 +1,4 @@
-use Rattle.std.proofs.Common.{◌≡◌, ◌≤◌, ◌<◌, ◌∙◌, ℕ, List, length, length-append, length-take-le, take, ◌+◌, ◌*◌, ◌++◌, arith}
+use Rattle.std.proofs.Common.{◌≡◌, ◌≤◌, ◌∙◌, length, length-append, length-take-le, take, ◌++◌, arith}
 use Rattle.std.proofs.KnownBytes.{Consumes-trans, Consumes-kept}
 use Rattle.tcp_line.proofs.draining.pass_over.Goals as goal
 use Rattle.tcp_line.proofs.draining.pass_over.Goals.{in-Got, in-Quiet+else-looks-ge-MAX_LOOKS}
