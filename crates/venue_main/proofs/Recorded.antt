@@ -13,9 +13,9 @@ use Rattle.venue_rules.specs.declared.trail.TrailFault.TheVariants.{Refused, Oth
 use Rattle.venue_main.specs.Recorded.{HasRecorded, IsRecordingFailure, IsRefusalOf, UnlessEmitting}
 use Rattle.venue_main.specs.Serve.{HasServed, UnlessWriting, closing_line}
 use Rattle.venue_main.specs.declared.failure.Failure.{Failure}
-use Rattle.venue_main.specs.declared.failure.Failure.TheVariants.{Stopped, Served, CommandLine, Participants, Instruments, Trail as TrailRefused}
+use Rattle.venue_main.specs.declared.failure.Failure.TheVariants.{Stopped, Served, CommandLine, HeadsWithoutTrail, SharedHeads, SharedMetrics, Participants, Instruments, Trail as TrailRefused}
 use Rattle.venue_main.specs.declared.serve.ServeFault.{ServeFault}
-use Rattle.venue_main.specs.declared.serve.ServeFault.TheVariants.{Memory, Output, Trail, Network, Thread}
+use Rattle.venue_main.specs.declared.serve.ServeFault.TheVariants.{Memory, Output, Trail, Network, Thread, Heads}
 
 -- the database and the output are those of the closing, where a journal recorded its rows and showed them as they were
 -- read back
@@ -66,11 +66,15 @@ unless_written Output P p = tt
 unless_written Trail P p = p
 unless_written Network P p = p
 unless_written Thread P p = p
+unless_written Heads P p = p
 
 pub unless_emitted : (failure : Failure) (P : Type 0) → P → UnlessEmitting failure P
 unless_emitted (Stopped fault) P p = p
 unless_emitted (Served fault) P p = unless_written fault P p
 unless_emitted CommandLine P p = p
+unless_emitted HeadsWithoutTrail P p = p
+unless_emitted SharedHeads P p = p
+unless_emitted SharedMetrics P p = p
 unless_emitted (Participants number) P p = p
 unless_emitted (Instruments number) P p = p
 unless_emitted (TrailRefused number) P p = p

@@ -9,7 +9,7 @@ use Rattle.venue_main.specs.declared.check.CheckFault.TheVariants as check
 use Rattle.venue_main.specs.declared.market.FilesFault.{FilesFault}
 use Rattle.venue_main.specs.declared.market.FilesFault.TheVariants as files
 use Rattle.venue_main.specs.declared.failure.Failure.{Failure}
-use Rattle.venue_main.specs.declared.failure.Failure.TheVariants.{Stopped, Served, CommandLine, Participants, Instruments, Trail as TrailRefused}
+use Rattle.venue_main.specs.declared.failure.Failure.TheVariants.{Stopped, Served, CommandLine, HeadsWithoutTrail, SharedHeads, SharedMetrics, Participants, Instruments, Trail as TrailRefused}
 use Rattle.once_session.specs.declared.fault.OnceFault.TheVariants.{Memory, Output}
 use Rattle.gateway.specs.declared.threads.RunFault.{RunFault}
 use Rattle.gateway.specs.declared.threads.RunFault.TheVariants as run
@@ -27,6 +27,9 @@ abbrev pub status_of : Failure → ℕ
 status_of (Stopped fault) = 1
 status_of (Served fault) = 1
 status_of CommandLine = 2
+status_of HeadsWithoutTrail = 2
+status_of SharedHeads = 2
+status_of SharedMetrics = 2
 status_of (Participants number) = 3
 status_of (Instruments number) = 3
 status_of (TrailRefused number) = 3

@@ -13,7 +13,7 @@ use Rattle.venue_rules.specs.declared.trail.TrailFault.TheVariants.{Refused}
 use Rattle.venue_main.specs.Failures.{trail_failure}
 use Rattle.venue_main.specs.Serve.{HasServed, UnlessWriting, closing_line}
 use Rattle.venue_main.specs.declared.failure.Failure.{Failure}
-use Rattle.venue_main.specs.declared.failure.Failure.TheVariants.{Stopped, Served, CommandLine, Participants, Instruments, Trail as TrailRefused}
+use Rattle.venue_main.specs.declared.failure.Failure.TheVariants.{Stopped, Served, CommandLine, HeadsWithoutTrail, SharedHeads, SharedMetrics, Participants, Instruments, Trail as TrailRefused}
 use Rattle.venue_main.specs.declared.serve.ServeFault.TheVariants.{Trail}
 
 -- A journal began with what was found in the database as a trail of these files; a venue of this market ran from its
@@ -35,6 +35,9 @@ abbrev pub UnlessEmitting : Failure → Type 0 → Type 0
 UnlessEmitting (Stopped fault) fact = fact
 UnlessEmitting (Served fault) fact = UnlessWriting fault fact
 UnlessEmitting CommandLine fact = fact
+UnlessEmitting HeadsWithoutTrail fact = fact
+UnlessEmitting SharedHeads fact = fact
+UnlessEmitting SharedMetrics fact = fact
 UnlessEmitting (Participants number) fact = fact
 UnlessEmitting (Instruments number) fact = fact
 UnlessEmitting (TrailRefused number) fact = fact
@@ -49,6 +52,9 @@ abbrev pub IsRecordingFailure : Failure → Type 0
 IsRecordingFailure (Stopped fault) = ⊤
 IsRecordingFailure (Served fault) = ⊤
 IsRecordingFailure CommandLine = ⊥
+IsRecordingFailure HeadsWithoutTrail = ⊥
+IsRecordingFailure SharedHeads = ⊥
+IsRecordingFailure SharedMetrics = ⊥
 IsRecordingFailure (Participants number) = ⊥
 IsRecordingFailure (Instruments number) = ⊥
 IsRecordingFailure (TrailRefused number) = (fault : TrailFault) × (trail_failure fault ≡ TrailRefused number)

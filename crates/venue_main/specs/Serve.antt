@@ -7,7 +7,7 @@ use Rattle.venue_runtime.specs.Starting.{SessionIo}
 use Rattle.venue_rules.specs.Market.{Market}
 use Rattle.venue_rules.specs.declared.trail.TrailRow.{TrailRow}
 use Rattle.venue_main.specs.declared.serve.ServeFault.{ServeFault}
-use Rattle.venue_main.specs.declared.serve.ServeFault.TheVariants.{Memory, Output, Trail, Network, Thread}
+use Rattle.venue_main.specs.declared.serve.ServeFault.TheVariants.{Memory, Output, Trail, Network, Thread, Heads}
 
 -- a first port from 1,024 to 65,500, and 1 to 1,000,000,000 turns
 abbrev pub is_service : ℕ → ℕ → Bool
@@ -48,3 +48,4 @@ UnlessWriting Output fact = Unit {0}
 UnlessWriting Trail fact = fact
 UnlessWriting Network fact = fact
 UnlessWriting Thread fact = fact
+UnlessWriting Heads fact = fact

@@ -3,7 +3,7 @@
 use crate::failure::Failure;
 use crate::files::Paths;
 use crate::once::OnceFault;
-use crate::operation::Operation;
+use crate::operation::{KeptPaths, Operation};
 use crate::service::Service;
 use clap::error::ErrorKind;
 use clap::{Arg, ArgAction, ArgMatches, Command, Error};
@@ -20,11 +20,11 @@ pub enum Task {
         at: Moment,
     },
     /// `serve --participants FILE --instruments FILE --port P --turns N`, with or without `--trail FILE`,
-    /// `--stop-file FILE`, `--until-eof`, `--metrics FILE`
+    /// `--heads FILE`, `--stop-file FILE`, `--until-eof`, `--metrics FILE`
     Serve {
         paths: Paths,
         service: Service,
-        trail: Option<String>,
+        kept: KeptPaths,
         operation: Operation,
     },
     /// `check --participants FILE --instruments FILE`
@@ -160,6 +160,12 @@ fn with_operation<'a>(alloc: Global, serve: Command<'a>) -> Result<Command<'a>, 
     let serve = with_file(
         alloc,
         serve,
+        "heads",
+        "The file to which heads of the trail are appended: its count of rows, the last one's moment, its digest",
+    )?;
+    let serve = with_file(
+        alloc,
+        serve,
         "stop-file",
         "Ends the venue once this file exists",
     )?;
@@ -290,14 +296,20 @@ fn serve_in(alloc: Global, given: &ArgMatches<'_>) -> Result<Option<Task>, Alloc
     let Some(paths) = paths_in(alloc, given)? else {
         return Ok(None);
     };
-    let trail = path_in(alloc, given, "trail")?;
+    let kept = kept_in(alloc, given)?;
     let operation = operation_in(alloc, given)?;
     Ok(Some(Task::Serve {
         paths,
         service,
-        trail,
+        kept,
         operation,
     }))
+}
+
+fn kept_in(alloc: Global, given: &ArgMatches<'_>) -> Result<KeptPaths, AllocError> {
+    let trail = path_in(alloc, given, "trail")?;
+    let heads = path_in(alloc, given, "heads")?;
+    Ok(KeptPaths { trail, heads })
 }
 
 fn operation_in(alloc: Global, given: &ArgMatches<'_>) -> Result<Operation, AllocError> {

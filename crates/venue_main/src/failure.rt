@@ -24,6 +24,15 @@ pub enum Failure {
     /// Status 2.
     #[error("command line refused")]
     CommandLine,
+    /// Status 2: heads of no trail.
+    #[error("command line refused: --heads without --trail")]
+    HeadsWithoutTrail,
+    /// Status 2: the file of heads is another file of the venue.
+    #[error("command line refused: --heads names another file of the venue")]
+    SharedHeads,
+    /// Status 2: so is the file of counters.
+    #[error("command line refused: --metrics names another file of the venue")]
+    SharedMetrics,
     /// Status 3: the number of the participant file's fault.
     #[error("participants refused {0}")]
     Participants(u8),
@@ -44,6 +53,9 @@ impl Failure {
             Failure::Stopped(_) => 1,
             Failure::Served(_) => 1,
             Failure::CommandLine => 2,
+            Failure::HeadsWithoutTrail => 2,
+            Failure::SharedHeads => 2,
+            Failure::SharedMetrics => 2,
             Failure::Participants(_) => 3,
             Failure::Instruments(_) => 3,
             Failure::Trail(_) => 3,

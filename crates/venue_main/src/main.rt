@@ -5,6 +5,7 @@ mod check;
 mod command_line;
 mod failure;
 mod files;
+mod heads_file;
 mod market;
 mod metrics_file;
 mod once;
@@ -15,6 +16,7 @@ mod serve;
 mod serve_request;
 mod service;
 mod serving;
+mod shared_file;
 mod stopping;
 mod trail_file;
 
@@ -23,6 +25,7 @@ pub use check::{CheckFault, check};
 use command_line::{Task, task_given};
 pub use failure::Failure;
 use files::{Texts, texts_at};
+use heads_file::HeadsOut;
 pub use market::{FilesFault, Market};
 pub use metrics_file::{MetricsFile, MetricsSink};
 pub use once::{OnceFault, once};
@@ -33,6 +36,7 @@ use sef_moment::Moment;
 pub use serve::{ServeFault, emit_closed, serve};
 use serve_request::{ServeRequest, StoredTrail, asked_for};
 use service::Service;
+use shared_file::refuse_shared;
 use sqlite::{Alter, Connection};
 use std::alloc::Global;
 use std::io::{Read, Write};
@@ -111,18 +115,22 @@ fn serve_trail<
     E: StopSource + Drop,
     N: Write + Send + Drop + 'static,
     M: MetricsSink + Send + Drop + 'static,
+    H: Write + Drop,
     W: Write,
 >(
     rt: &R,
     alloc: Global,
     conn: Connection<S>,
     files: Files,
+    heads: Option<HeadsOut<H>>,
     market: Market,
     service: Service,
     operator: Operator<E, N, M>,
     output: &mut W,
-) -> Result<Connection<S>, Failure> {
-    let served = serve_recorded(rt, alloc, conn, &files, market, service, operator, output);
+) -> Result<(Connection<S>, bool), Failure> {
+    let served = serve_recorded(
+        rt, alloc, conn, &files, heads, market, service, operator, output,
+    );
     drop(files);
     served
 }
@@ -157,6 +165,16 @@ fn operator_of<
     })
 }
 
+/// How a venue ended, whose trail was closed: a head that is missing is a failure.
+fn ended_with(closed: Result<(), Failure>, has_heads: bool) -> Result<(), Failure> {
+    closed?;
+    if has_heads {
+        Ok(())
+    } else {
+        Err(Failure::Served(ServeFault::Heads))
+    }
+}
+
 /// Runs the command. A venue to serve is handed back, since `main` alone may start threads.
 fn run(rt: &HostRuntime) -> Result<Option<ServeRequest>, Failure> {
     match task_given(rt)? {
@@ -173,10 +191,11 @@ fn run(rt: &HostRuntime) -> Result<Option<ServeRequest>, Failure> {
         Task::Serve {
             paths,
             service,
-            trail,
+            kept,
             operation,
         } => {
-            let asked = asked_for(rt, texts_at(rt, &paths)?, service, trail, operation)?;
+            refuse_shared(rt, &paths, &kept, &operation)?;
+            let asked = asked_for(rt, texts_at(rt, &paths)?, service, kept, operation)?;
             return Ok(Some(asked));
         }
         Task::Help => {}
@@ -197,17 +216,18 @@ fn main(rt: HostRuntime) -> ExitCode {
             ),
         ) => match operator_of(&rt, rt.alloc(), operation, rt.stdin(), rt.stderr()) {
             Ok(operator) => match kept {
-                Some(StoredTrail { conn, files }) => match serve_trail(
+                Some(StoredTrail { conn, files, heads }) => match serve_trail(
                     &rt,
                     rt.alloc(),
                     conn,
                     files,
+                    heads,
                     market,
                     service,
                     operator,
                     &mut rt.stdout(),
                 ) {
-                    Ok(conn) => close_trail(conn),
+                    Ok((conn, has_heads)) => ended_with(close_trail(conn), has_heads),
                     Err(failure) => Err(failure),
                 },
                 None => serve_market(&rt, rt.alloc(), market, service, operator, &mut rt.stdout()),

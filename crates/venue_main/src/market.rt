@@ -1,11 +1,11 @@
 //! The market of the two files.
 
-ghost use Rattle.std.specs.Prelude.{IfOk, IfErr};
+ghost use Rattle.std.specs.Prelude.{◌≡◌, IfOk, IfErr, map};
 ghost use Rattle.venue_main.specs.Check.{AreRead, IsFaultOfFiles};
 
 use instruments::Instruments;
 use participants::Participants;
-use std::alloc::Global;
+use std::alloc::{AllocError, Global};
 
 /// The participants and the instruments.
 #[derive(Drop)]
@@ -49,4 +49,15 @@ impl Market {
             instruments,
         })
     }
+}
+
+/// The delays of the instruments, in milliseconds, in the file's order.
+pub(crate) fn delays_of(alloc: Global, instruments: &Instruments) -> Result<Vec<u64>, AllocError>
+    ensures { IfOk result (λ delays. delays.items ≡ map (λ i. i.delay) instruments.now) }
+{
+    let mut delays = Vec::with_capacity(alloc, instruments.len())?;
+    for place in 0..instruments.len() {
+        delays.push(instruments.delay(place as u32))?;
+    }
+    Ok(delays)
 }

@@ -1,6 +1,15 @@
-//! How an operator runs a served venue: what stops it, and where its counters are written.
+//! How an operator runs a served venue: where its rows and counters are written, and what stops it.
 
-/// The arguments of `serve` that say so.
+/// Where a venue's rows are kept.
+#[derive(Drop)]
+pub struct KeptPaths {
+    /// The trail.
+    pub trail: Option<String>,
+    /// The heads of the trail.
+    pub heads: Option<String>,
+}
+
+/// What stops a venue, and where its counters are written.
 #[derive(Drop)]
 pub struct Operation {
     /// The file whose existence stops the venue.

@@ -1,9 +1,10 @@
 //! A venue served over TCP, with its rows in a trail.
 
-ghost use Rattle.std.specs.Prelude.{◌≡◌, ◌≢◌, IfErr, IfOk, OnOk, map, true};
+ghost use Rattle.std.specs.Prelude.{◌≡◌, ◌≢◌, IfErr, IfOk, IfSome, OnOk, map, true};
 ghost use Rattle.std.specs.Io.KnownBytes.{Appends, Keeps};
 ghost use Rattle.sqlite.specs.Held.{state};
 ghost use Rattle.sqlite.specs.State.{HasCleanDisk};
+ghost use Rattle.trail_digest.specs.Chain.{start};
 ghost use Rattle.trail_journal.specs.Journal.{Began, ShowsAll, disk};
 ghost use Rattle.trail_journal.specs.Written.{LeadsTo};
 ghost use Rattle.venue_runtime.specs.Closing.{closing};
@@ -14,7 +15,8 @@ ghost use Rattle.venue_main.specs.declared.failure.Failure.TheVariants.{Served};
 ghost use Rattle.venue_main.specs.declared.serve.ServeFault.TheVariants.{Output};
 
 use crate::failure::Failure;
-use crate::market::Market;
+use crate::heads_file::HeadsOut;
+use crate::market::{Market, delays_of};
 use crate::metrics_file::MetricsSink;
 use crate::reporting::Operator;
 use crate::serve::{ServeFault, messages_in, write_counts};
@@ -22,9 +24,10 @@ use crate::service::Service;
 use crate::serving::{keeper_of, serve_over};
 use audit_trail::Files;
 use gateway::closing::Closed;
+use head_log::{Head, HeadKeeper, HeadReport, Newest};
 use sqlite::{Alter, Connection};
 use sqlite_trees::store::Store;
-use std::alloc::Global;
+use std::alloc::{AllocError, Global};
 use std::io::Write;
 use std::mem::drop;
 use std::net::{Net, TcpListener, TcpStream};
@@ -38,8 +41,8 @@ use venue_rules::TrailFault;
 
 /// As `serve`, with the rows in a trail: begins where the rows of the database's trail lead, a trail of these files, or
 /// makes an empty trail where the database lists nothing. Each row is committed before the venue acts on it. As the
-/// venue closes the rows are read back, and the closing line counts all of them. The connection comes back. That the
-/// market is that of the files is up to the caller.
+/// venue closes the rows are read back, and the closing line counts all of them. The connection comes back, and whether
+/// each head was written, where there is a place for heads. That the market is that of the files is up to the caller.
 pub fn serve_recorded<
     R: Net<Listener = TcpListener, Stream = TcpStream>
         + Threads
@@ -54,30 +57,42 @@ pub fn serve_recorded<
     E: StopSource + Drop,
     N: Write + Send + Drop + 'static,
     M: MetricsSink + Send + Drop + 'static,
+    H: Write + Drop,
     W: Write,
 >(
     rt: &R,
     alloc: Global,
     conn: Connection<S>,
     files: &Files,
+    heads: Option<HeadsOut<H>>,
     market: Market,
     service: Service,
     operator: Operator<E, N, M>,
     output: &mut W,
-) -> Result<Connection<S>, Failure>
-    ensures emitted { IfOk result (λ back. HasRecorded S.Store service.turns (record { participants = market.participants; instruments = market.instruments }) files.now (state S.Store conn) (state S.Store back) (W.contents output.old) (W.contents output.new)) }
+) -> Result<(Connection<S>, bool), Failure>
+    ensures emitted { IfOk result (λ r. HasRecorded S.Store service.turns (record { participants = market.participants; instruments = market.instruments }) files.now (state S.Store conn) (state S.Store r.0) (W.contents output.old) (W.contents output.new)) }
     ensures silent { IfErr result (λ failure. UnlessEmitting failure (Keeps (W.contents output.old) (W.contents output.new))) }
     ensures fault { IfErr result IsRecordingFailure }
 {
     let (journal, venue) = begin(alloc, conn, files, market)?;
-    let closed = match serve_journal(rt, alloc, *rt, journal, venue, service, operator) {
-        Ok(closed) => closed,
-        Err(fault) => return Err(Failure::Served(fault)),
+    let (keeper, heads) = match with_heads(alloc, journal, files, &venue, heads) {
+        Ok(kept) => kept,
+        Err(fault) => {
+            drop(venue);
+            return Err(Failure::Served(fault));
+        }
     };
+    let (closed, heads) =
+        match serve_journal(rt, alloc, *rt, keeper, venue, service, operator, heads) {
+            Ok(ended) => ended,
+            Err(fault) => return Err(Failure::Served(fault)),
+        };
     let sessions = closed.sessions.len();
-    let mut journal = keeper_of(closed);
+    let keeper = keeper_of(closed);
+    let has_heads = close_heads(heads, keeper.head());
+    let mut journal = keeper.into_journal();
     match emit_read(sessions, &mut journal, output) {
-        Ok(()) => Ok(journal.into_connection()),
+        Ok(()) => Ok((journal.into_connection(), has_heads)),
         Err(fault) => {
             drop(journal);
             Err(Failure::Served(fault))
@@ -123,6 +138,72 @@ fn refusal_of<S: Alter + Drop>(fault: TrailFault, conn: Connection<S>) -> Failur
     }
 }
 
+/// The journal with its heads, where they are wanted, and what writes them.
+fn with_heads<S: Alter + Drop, H: Write + Drop>(
+    alloc: Global,
+    journal: Journal<S>,
+    files: &Files,
+    venue: &Venue,
+    heads: Option<HeadsOut<H>>,
+) -> Result<(HeadKeeper<S>, Option<HeadReport<H>>), ServeFault>
+    requires leads { LeadsTo journal.rows venue.now }
+    ensures rows { IfOk result (λ r. r.0.journal.rows ≡ journal.rows) }
+    ensures start { IfSome heads (λ _. IfOk result (λ r. (r.0.is_wanted ≡ true) × (r.0.start ≡ start files.now.participants files.now.instruments (map (λ i. i.delay) venue.now.market.instruments)))) }
+    ensures fault { IfErr result (λ fault. fault ≢ Output) }
+{
+    match heads {
+        None => Ok((HeadKeeper::without(journal), None)),
+        Some(out) => begin_heads(alloc, journal, files, venue, out),
+    }
+}
+
+/// The journal with its heads, and what writes them.
+fn begin_heads<S: Alter + Drop, H: Write + Drop>(
+    alloc: Global,
+    journal: Journal<S>,
+    files: &Files,
+    venue: &Venue,
+    out: HeadsOut<H>,
+) -> Result<(HeadKeeper<S>, Option<HeadReport<H>>), ServeFault>
+    requires leads { LeadsTo journal.rows venue.now }
+    ensures rows { IfOk result (λ r. r.0.journal.rows ≡ journal.rows) }
+    ensures start { IfOk result (λ r. (r.0.is_wanted ≡ true) × (r.0.start ≡ start files.now.participants files.now.instruments (map (λ i. i.delay) venue.now.market.instruments))) }
+    ensures fault { IfErr result (λ fault. fault ≢ Output) }
+{
+    let Ok((newest, report)) = report_of(alloc, out) else {
+        drop(journal);
+        return Err(ServeFault::Memory);
+    };
+    let Ok(delays) = delays_of(alloc, venue.instruments()) else {
+        drop(journal);
+        return Err(ServeFault::Memory);
+    };
+    match HeadKeeper::begin(journal, files, &delays, newest) {
+        Ok(keeper) => Ok((keeper, Some(report))),
+        Err(TrailFault::NoMemory) => Err(ServeFault::Memory),
+        Err(_) => Err(ServeFault::Trail),
+    }
+}
+
+/// What writes the heads that come.
+fn report_of<H: Write + Drop>(
+    alloc: Global,
+    out: HeadsOut<H>,
+) -> Result<(Newest, HeadReport<H>), AllocError> {
+    let HeadsOut { file, is_torn } = out;
+    let newest = Newest::new(alloc)?;
+    let report = HeadReport::new(alloc, file, is_torn, newest.share()?)?;
+    Ok((newest, report))
+}
+
+/// Writes the last head, where heads are wanted. Whether each was written.
+fn close_heads<H: Write + Drop>(heads: Option<HeadReport<H>>, last: Option<Head>) -> bool {
+    match heads {
+        None => true,
+        Some(mut report) => report.close(last),
+    }
+}
+
 /// Serves a venue from where the rows of a journal lead.
 fn serve_journal<
     R: Net<Listener = TcpListener, Stream = TcpStream> + Threads + Wait + Sync,
@@ -131,20 +212,22 @@ fn serve_journal<
     E: StopSource + Drop,
     N: Write + Send + Drop + 'static,
     M: MetricsSink + Send + Drop + 'static,
+    H: Write + Drop,
 >(
     rt: &R,
     alloc: Global,
     clock: T,
-    journal: Journal<S>,
+    keeper: HeadKeeper<S>,
     venue: Venue,
     service: Service,
     operator: Operator<E, N, M>,
-) -> Result<Closed<ServedLine<T>, Journal<S>>, ServeFault>
-    requires leads { LeadsTo journal.rows venue }
-    ensures served { IfOk result (λ c. HasServed service.turns venue.market journal.rows (closing (map (λ s. s.state) c.sessions.items) (map (λ l. l.log) c.lines.items) c.left.items c.replies_left.items c.queues.items (standing c.venue.day) c.keeper.rows true)) }
+    heads: Option<HeadReport<H>>,
+) -> Result<(Closed<ServedLine<T>, HeadKeeper<S>>, Option<HeadReport<H>>), ServeFault>
+    requires leads { LeadsTo keeper.journal.rows venue }
+    ensures served { IfOk result (λ r. HasServed service.turns venue.market keeper.journal.rows (closing (map (λ s. s.state) r.0.sessions.items) (map (λ l. l.log) r.0.lines.items) r.0.left.items r.0.replies_left.items r.0.queues.items (standing r.0.venue.day) r.0.keeper.journal.rows true)) }
     ensures fault { IfErr result (λ fault. fault ≢ Output) }
 {
-    serve_over(rt, alloc, clock, venue, journal, service, operator)
+    serve_over(rt, alloc, clock, venue, keeper, service, operator, heads)
 }
 
 /// Reads the rows back, and writes how many sessions were served and how many of the rows are messages.

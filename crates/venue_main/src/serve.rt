@@ -17,7 +17,7 @@ use crate::serving::{keeper_of, serve_over};
 use gateway::closing::Closed;
 use gateway::threads::RunFault;
 use std::alloc::{AllocError, Global};
-use std::io::{self, Write};
+use std::io::{self, Sink, Write};
 use std::mem::drop;
 use std::net::{Net, TcpListener, TcpStream};
 use std::sync::Wait;
@@ -47,6 +47,9 @@ pub enum ServeFault {
     /// 5: no thread could be made.
     #[error("thread")]
     Thread,
+    /// 6: the file of heads cannot be opened, or a line was not written.
+    #[error("heads")]
+    Heads,
 }
 
 impl From<AllocError> for ServeFault {
@@ -128,7 +131,11 @@ fn serve_in_memory<
 {
     let venue = Venue::open(alloc, market.participants, market.instruments)?;
     let trail = ListTrail::new(alloc);
-    serve_over(rt, alloc, clock, venue, trail, service, operator)
+    let (closed, none) = serve_over::<_, _, _, _, _, _, Sink>(
+        rt, alloc, clock, venue, trail, service, operator, None,
+    )?;
+    drop(none);
+    Ok(closed)
 }
 
 /// Writes how many sessions were served, and how many messages were taken: `closed sessions 5 taken 2`.

@@ -6,11 +6,13 @@ ghost use Rattle.venue_main.specs.Check.{AreRead};
 use crate::failure::Failure;
 use crate::files::Texts;
 use crate::market::Market;
-use crate::operation::Operation;
+use crate::heads_file::{HeadsOut, open_heads};
+use crate::operation::{KeptPaths, Operation};
 use crate::service::Service;
 use crate::trail_file::open_trail;
 use audit_trail::{FileText, Files};
 use sqlite::{Connection, File, FileStore};
+use std::fs::File as SystemFile;
 
 /// A market to serve.
 #[derive(Drop)]
@@ -21,19 +23,21 @@ pub struct ServeRequest {
     pub operation: Operation,
 }
 
-/// The database for the rows of a venue, and the files that are stored with them.
+/// The database for the rows of a venue, the files that are stored with them, and where heads are written.
 #[derive(Drop)]
 pub struct StoredTrail {
     pub conn: Connection<FileStore<File>>,
     pub files: Files,
+    pub heads: Option<HeadsOut<SystemFile>>,
 }
 
-/// The market of two files, and, where its rows are to be stored at a path, the database there with these files.
+/// The market of two files, and, where its rows are to be stored at a path, the database there with these files, and
+/// the file of heads.
 pub fn asked_for(
     rt: &HostRuntime,
     texts: Texts,
     service: Service,
-    trail: Option<String>,
+    paths: KeptPaths,
     operation: Operation,
 ) -> Result<ServeRequest, Failure>
     ensures read { IfOk result (λ asked. AreRead texts.participants.items texts.instruments.items asked.market.participants asked.market.instruments) }
@@ -42,7 +46,7 @@ pub fn asked_for(
     ensures operation { IfOk result (λ asked. asked.operation ≡ operation) }
 {
     let market = Market::read(rt.alloc(), &texts.participants, &texts.instruments)?;
-    match kept_for(rt, texts, trail) {
+    match kept_for(rt, texts, paths) {
         Ok(kept) => Ok(ServeRequest {
             market,
             service,
@@ -59,17 +63,23 @@ pub fn asked_for(
 fn kept_for(
     rt: &HostRuntime,
     texts: Texts,
-    trail: Option<String>,
+    paths: KeptPaths,
 ) -> Result<Option<StoredTrail>, Failure>
     ensures { IfOk result (λ found. IfSome found (λ kept. kept.files ≡ record { participants = texts.participants.items; instruments = texts.instruments.items })) }
 {
+    let KeptPaths { trail, heads } = paths;
     match trail {
-        Some(path) => Ok(Some(kept_at(rt, &path, texts)?)),
+        Some(path) => Ok(Some(kept_at(rt, &path, heads, texts)?)),
         None => Ok(None),
     }
 }
 
-fn kept_at(rt: &HostRuntime, path: &str, texts: Texts) -> Result<StoredTrail, Failure>
+fn kept_at(
+    rt: &HostRuntime,
+    path: &str,
+    heads: Option<String>,
+    texts: Texts,
+) -> Result<StoredTrail, Failure>
     ensures { IfOk result (λ kept. kept.files ≡ record { participants = texts.participants.items; instruments = texts.instruments.items }) }
 {
     let conn = open_trail(rt, path)?;
@@ -77,5 +87,11 @@ fn kept_at(rt: &HostRuntime, path: &str, texts: Texts) -> Result<StoredTrail, Fa
         participants: FileText::from_vec(texts.participants),
         instruments: FileText::from_vec(texts.instruments),
     };
-    Ok(StoredTrail { conn, files })
+    match open_heads(rt, heads) {
+        Ok(heads) => Ok(StoredTrail { conn, files, heads }),
+        Err(failure) => {
+            drop(conn);
+            Err(failure)
+        }
+    }
 }

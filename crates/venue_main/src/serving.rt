@@ -16,13 +16,14 @@ use crate::service::Service;
 use event_log::append;
 use gateway::closing::Closed;
 use gateway::threads::RunFault;
+use head_log::{HeadClock, HeadReport, Trouble};
 use itoa::Buffer;
 use participants::{Participants, Who};
 use std::alloc::{AllocError, Global};
 use std::io::{ErrorKind, Write};
 use std::mem::drop;
 use std::net::{Net, TcpListener, TcpStream};
-use std::sync::Wait;
+use std::sync::{Arc, Wait};
 use std::thread::Threads;
 use std::time::Clock;
 use tcp_line::{
@@ -33,7 +34,8 @@ use venue_rules::Keep;
 use venue_runtime::run_venue;
 
 /// Opens a line for each participant, writes who listens where once all do, and runs the venue on these lines until it
-/// closes, with its events reported. What a counterparty has not read yet waits in its line.
+/// closes, with its events reported, and heads where they are wanted. What a counterparty has not read yet waits in its
+/// line.
 pub(crate) fn serve_over<
     R: Net<Listener = TcpListener, Stream = TcpStream> + Threads + Wait + Sync,
     T: Clock + Copy + Send + Drop + 'static,
@@ -41,6 +43,7 @@ pub(crate) fn serve_over<
     E: StopSource + Drop,
     N: Write + Send + Drop + 'static,
     M: MetricsSink + Send + Drop + 'static,
+    H: Write + Drop,
 >(
     rt: &R,
     alloc: Global,
@@ -49,11 +52,12 @@ pub(crate) fn serve_over<
     keeper: K,
     service: Service,
     operator: Operator<E, N, M>,
-) -> Result<Closed<ServedLine<T>, K>, ServeFault>
+    heads: Option<HeadReport<H>>,
+) -> Result<(Closed<ServedLine<T>, K>, Option<HeadReport<H>>), ServeFault>
     requires clean { K.is_clean keeper ≡ true }
     requires history { (before : List Input) × (K.rows keeper ≡ rows before) × (length before ≤ 10 ^ 15) × IsHistory venue (run venue.market before).history × AreRising before }
     requires items { venue.items ≤ length (K.rows keeper) }
-    ensures served { IfOk result (λ c. HasServed service.turns venue.market (K.rows keeper) (closing (map (λ s. s.state) c.sessions.items) (map (λ l. l.log) c.lines.items) c.left.items c.replies_left.items c.queues.items (standing c.venue.day) (K.rows c.keeper) (K.is_clean c.keeper))) }
+    ensures served { IfOk result (λ r. HasServed service.turns venue.market (K.rows keeper) (closing (map (λ s. s.state) r.0.sessions.items) (map (λ l. l.log) r.0.lines.items) r.0.left.items r.0.replies_left.items r.0.queues.items (standing r.0.venue.day) (K.rows r.0.keeper) (K.is_clean r.0.keeper))) }
     ensures fault { IfErr result (λ fault. fault ≢ Output) }
 {
     let count = count_of(venue.participants());
@@ -70,6 +74,7 @@ pub(crate) fn serve_over<
             drop(venue);
             drop(notes);
             drop(metrics);
+            drop(heads);
             return Err(fault_of(error.kind()));
         }
     };
@@ -80,19 +85,32 @@ pub(crate) fn serve_over<
     } = opened;
     let turns = service.turns();
     let announced = announce(alloc, venue.participants(), count, port, &mut notes);
-    let reporter = reporter_of(alloc, &venue, events, turns, clock, notes, metrics);
+    let trouble = trouble_of(&heads);
+    let reporter = reporter_of(alloc, &venue, events, turns, clock, notes, metrics, trouble);
     let Ok(reporting) = begin_reporting(rt, alloc, announced, reporter) else {
         drop(sessions);
         drop(worker);
         drop(venue);
         drop(keeper);
+        drop(heads);
         return Err(ServeFault::Memory);
     };
+    let worker = HeadClock::new(worker, heads);
     let ran = run_lines(rt, alloc, venue, keeper, sessions, worker, turns);
     end_reporting(rt, &clock, reporting);
     match ran {
-        Ok(closed) => Ok(closed),
+        Ok(ended) => Ok(ended),
         Err(fault) => Err(ServeFault::from(fault)),
+    }
+}
+
+/// Whether a head could not be written, where heads are wanted.
+fn trouble_of<H: Write + Drop>(
+    heads: &Option<HeadReport<H>>,
+) -> Result<Option<Arc<Trouble>>, AllocError> {
+    match heads {
+        Some(report) => Ok(Some(report.trouble()?)),
+        None => Ok(None),
     }
 }
 
@@ -105,9 +123,11 @@ fn reporter_of<T: Clock + Drop, N: Write + Drop, M: MetricsSink + Drop>(
     clock: T,
     notes: N,
     metrics: M,
+    trouble: Result<Option<Arc<Trouble>>, AllocError>,
 ) -> Result<Option<Reporter<T, N, M>>, AllocError> {
+    let trouble = trouble?;
     match log_of(alloc, venue.participants(), events, turns)? {
-        Some(log) => Ok(Some(Reporter::new(alloc, log, clock, notes, metrics))),
+        Some(log) => Ok(Some(Reporter::new(alloc, log, clock, notes, metrics, trouble))),
         None => Ok(None),
     }
 }
@@ -192,30 +212,30 @@ fn append_place(text: &mut Vec<u8>, name: &[u8], port: u16) -> Result<(), AllocE
     )
 }
 
-/// Runs a venue on lines over TCP.
+/// Runs a venue on lines over TCP, and gives the report of heads back.
 fn run_lines<
     R: Threads + Wait + Sync,
     T: Clock + Send + Drop,
     K: Keep + Drop,
     E: StopSource + Drop,
+    H: Write + Drop,
 >(
     rt: &R,
     alloc: Global,
     venue: Venue,
     keeper: K,
     lines: Vec<SessionIo<T>>,
-    clock: WorkerClock<T, E>,
+    clock: HeadClock<WorkerClock<T, E>, H>,
     turns: u64,
-) -> Result<Closed<ServedLine<T>, K>, RunFault>
+) -> Result<(Closed<ServedLine<T>, K>, Option<HeadReport<H>>), RunFault>
     requires lines { length lines.items ≡ length venue.market.participants.names }
     requires clean { K.is_clean keeper ≡ true }
     requires history { (before : List Input) × (K.rows keeper ≡ rows before) × (length before ≤ 10 ^ 15) × IsHistory venue (run venue.market before).history × AreRising before }
     requires items { venue.items ≤ length (K.rows keeper) }
-    ensures { IfOk result (λ c. HasServed turns venue.market (K.rows keeper) (closing (map (λ s. s.state) c.sessions.items) (map (λ l. l.log) c.lines.items) c.left.items c.replies_left.items c.queues.items (standing c.venue.day) (K.rows c.keeper) (K.is_clean c.keeper))) }
+    ensures { IfOk result (λ r. HasServed turns venue.market (K.rows keeper) (closing (map (λ s. s.state) r.0.sessions.items) (map (λ l. l.log) r.0.lines.items) r.0.left.items r.0.replies_left.items r.0.queues.items (standing r.0.venue.day) (K.rows r.0.keeper) (K.is_clean r.0.keeper))) }
 {
     let (closed, clock) = run_venue(rt, alloc, venue, keeper, lines, clock, turns)?;
-    drop(clock);
-    Ok(closed)
+    Ok((closed, clock.into_report()))
 }
 
 /// Flushes to each counterparty what still waits for it, and keeps of the closed venue its keeper of rows alone.
