@@ -1,8 +1,8 @@
 //! The lines of the newest heads.
 
-ghost use Rattle.std.specs.Prelude.{◌≡◌, ◌≢◌, ◌≤◌, ◌/◌, ◌⊎◌, false, IfOk, IfSome, IsTrue};
+ghost use Rattle.std.specs.Prelude.{◌≡◌, ◌≤◌, ◌/◌, false, IfOk, IfSome, IsTrue};
 ghost use Rattle.std.specs.Io.KnownBytes.{Appends};
-ghost use Rattle.head_log.specs.Line.{closing_text};
+ghost use Rattle.head_log.specs.Line.{closing_text, due_text};
 
 use crate::head::Head;
 use crate::head_file::HeadFile;
@@ -42,6 +42,8 @@ pub struct HeadReport<W: Drop> {
     newest: Newest,
     /// The second of the last line.
     pub(crate) second: u64,
+    /// A line could not be written.
+    has_failed: bool,
     trouble: Arc<Trouble>,
 }
 
@@ -54,13 +56,14 @@ impl<W: Write + Drop> HeadReport<W> {
         newest: Newest,
     ) -> Result<HeadReport<W>, AllocError>
         ensures out { IfOk result (λ r. r.file.out ≡ out) }
-        ensures new { IfOk result (λ r. (r.file.last ≡ 0) × (r.file.is_torn ≡ is_torn) × (r.file.has_failed ≡ false)) }
+        ensures new { IfOk result (λ r. (r.file.last ≡ 0) × (r.file.is_torn ≡ is_torn) × (r.has_failed ≡ false)) }
     {
         let trouble = Arc::new(alloc, Trouble::new())?;
         Ok(HeadReport {
             file: HeadFile::new(alloc, out, is_torn),
             newest,
             second: 0,
+            has_failed: false,
             trouble,
         })
     }
@@ -96,9 +99,13 @@ impl<W: Write + Drop> HeadReport<W> {
 
     /// Writes the line of a head, unless it is written.
     fn write(&mut self, head: &Head)
+        ensures written { self.new.has_failed ≡ false → Appends (W.contents self.old.file.out) (W.contents self.new.file.out) (due_text self.old.file.is_torn self.old.file.last head.now) }
+        ensures reached { self.new.has_failed ≡ false → head.now.n ≤ self.new.file.last }
+        ensures whole { self.new.has_failed ≡ false → self.old.has_failed ≡ false }
         ensures rises { self.old.file.last ≤ self.new.file.last }
     {
-        if self.file.lacks(head) && !self.file.append(head) {
+        if !self.file.catch_up(head) {
+            self.has_failed = true;
             self.trouble.note();
         }
     }
@@ -116,12 +123,12 @@ impl<W: Write + Drop> HeadReport<W> {
     pub fn close(&mut self, last: Option<Head>) -> bool
         ensures last { IsTrue result → IfSome last (λ head. head.n ≤ self.new.file.last) }
         ensures written { IsTrue result → Appends (W.contents self.old.file.out) (W.contents self.new.file.out) (closing_text self.old.file.is_torn self.old.file.last last) }
-        ensures whole { IsTrue result → self.old.file.has_failed ≡ false }
+        ensures whole { IsTrue result → self.old.has_failed ≡ false }
         ensures rises { self.old.file.last ≤ self.new.file.last }
     {
         if let Some(head) = last {
             self.write(&head);
         }
-        !self.file.has_failed
+        !self.has_failed
     }
 }

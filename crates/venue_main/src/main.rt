@@ -1,6 +1,8 @@
 //! The program of the venue.
 #![tactic(auto)]
 
+ghost use Rattle.std.specs.Prelude.{◌≡◌, true, OnOk};
+
 mod check;
 mod command_line;
 mod failure;
@@ -166,7 +168,9 @@ fn operator_of<
 }
 
 /// How a venue ended, whose trail was closed: a head that is missing is a failure.
-fn ended_with(closed: Result<(), Failure>, has_heads: bool) -> Result<(), Failure> {
+fn ended_with(closed: Result<(), Failure>, has_heads: bool) -> Result<(), Failure>
+    ensures { OnOk result (has_heads ≡ true) }
+{
     closed?;
     if has_heads {
         Ok(())

@@ -1,5 +1,8 @@
 //! Files on the command line that would be written to another one of the venue.
 
+ghost use Rattle.std.specs.Prelude.{◌≡◌, Err, is_some, true, false};
+ghost use Rattle.venue_main.specs.declared.failure.Failure.TheVariants.{HeadsWithoutTrail};
+
 use crate::failure::Failure;
 use crate::files::Paths;
 use crate::once::OnceFault;
@@ -16,7 +19,9 @@ pub fn refuse_shared(
     paths: &Paths,
     kept: &KeptPaths,
     operation: &Operation,
-) -> Result<(), Failure> {
+) -> Result<(), Failure>
+    ensures { is_some kept.now.heads ≡ true → is_some kept.now.trail ≡ false → result ≡ Err HeadsWithoutTrail }
+{
     if kept.heads.is_some() && kept.trail.is_none() {
         return Err(Failure::HeadsWithoutTrail);
     }
