@@ -1,2 +1,3 @@
 mod Going
+mod Counting
 mod Digesting

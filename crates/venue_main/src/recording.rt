@@ -82,11 +82,12 @@ pub fn serve_recorded<
             return Err(Failure::Served(fault));
         }
     };
-    let (closed, heads) =
-        match serve_journal(rt, alloc, *rt, keeper, venue, service, operator, heads) {
-            Ok(ended) => ended,
-            Err(fault) => return Err(Failure::Served(fault)),
-        };
+    let (closed, heads) = match serve_journal(
+        rt, alloc, *rt, keeper, venue, service, operator, heads,
+    ) {
+        Ok(ended) => ended,
+        Err(fault) => return Err(Failure::Served(fault)),
+    };
     let sessions = closed.sessions.len();
     let keeper = keeper_of(closed);
     let has_heads = close_heads(heads, keeper.head());

@@ -16,6 +16,7 @@ use crate::service::Service;
 use crate::serving::{keeper_of, serve_over};
 use gateway::closing::Closed;
 use gateway::threads::RunFault;
+use head_log::HeadReport;
 use std::alloc::{AllocError, Global};
 use std::io::{self, Sink, Write};
 use std::mem::drop;
@@ -131,10 +132,11 @@ fn serve_in_memory<
 {
     let venue = Venue::open(alloc, market.participants, market.instruments)?;
     let trail = ListTrail::new(alloc);
-    let (closed, none) = serve_over::<_, _, _, _, _, _, Sink>(
-        rt, alloc, clock, venue, trail, service, operator, None,
+    let unwanted: Option<HeadReport<Sink>> = None;
+    let (closed, unwanted) = serve_over(
+        rt, alloc, clock, venue, trail, service, operator, unwanted,
     )?;
-    drop(none);
+    drop(unwanted);
     Ok(closed)
 }
 

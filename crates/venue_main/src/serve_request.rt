@@ -5,8 +5,8 @@ ghost use Rattle.venue_main.specs.Check.{AreRead};
 
 use crate::failure::Failure;
 use crate::files::Texts;
-use crate::market::Market;
 use crate::heads_file::{HeadsOut, open_heads};
+use crate::market::Market;
 use crate::operation::{KeptPaths, Operation};
 use crate::service::Service;
 use crate::trail_file::open_trail;
