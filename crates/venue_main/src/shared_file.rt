@@ -47,7 +47,7 @@ fn shared_by(
     if is_one_of(rt, &operation.metrics, &others)? {
         return Ok(Some(Failure::SharedMetrics));
     }
-    let temporary = beside(rt.alloc(), &operation.metrics, ".tmp")?;
+    let temporary = with_suffix(rt.alloc(), &operation.metrics, ".tmp")?;
     if is_one_of(rt, &temporary, &others)? {
         return Ok(Some(Failure::SharedMetrics));
     }
@@ -78,14 +78,14 @@ fn add(
     path: &Option<String>,
     suffix: &str,
 ) -> Result<(), AllocError> {
-    if let Some(other) = beside(alloc, path, suffix)? {
+    if let Some(other) = with_suffix(alloc, path, suffix)? {
         others.push(other)?;
     }
     Ok(())
 }
 
 /// The path with a suffix, where one is given.
-fn beside(
+fn with_suffix(
     alloc: Global,
     path: &Option<String>,
     suffix: &str,
