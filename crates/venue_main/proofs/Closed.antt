@@ -25,3 +25,8 @@ emits_read turns m kept c count read before after served counts same written =
     let line : closing_line count read ≡ closing_line (length m.participants.names) c.rows =
     ap (λ (n : ℕ). counted n (count_by is_message read)) (sym counts ∙ each) ∙ ap (counted (length m.participants.names)) same in
     record { closed = c; served = served; sessions = each; written = subst (Appends before after) line written }
+
+-- what was served from rows and a market that are the same
+pub served_of : (turns : ℕ) (m m' : Market) (kept kept' : List TrailRow) (c : Closing) → m' ≡ m → kept' ≡ kept → HasServed turns m' kept' c → HasServed turns m kept c
+served_of turns m m' kept kept' c same_market same_rows served =
+    subst (λ (n : Market). HasServed turns n kept c) same_market (subst (λ (rows : List TrailRow). HasServed turns m' rows c) same_rows served)
