@@ -1,10 +1,10 @@
 //! Texts for people.
 
-ghost use Rattle.std.specs.Prelude.{◌≡◌, ◌++◌, ◌-◌, IfErr, IfOk, OnOk};
+ghost use Rattle.std.specs.Prelude.{◌≡◌, ◌++◌, ◌-◌, ◌<◌, IfErr, IfOk, OnOk};
 ghost use Rattle.std.specs.Io.KnownBytes.{Appends};
 ghost use Rattle.fix_fields.specs.Views.{joined};
 ghost use Rattle.participants.specs.Relations.{name_of};
-ghost use Rattle.trail_digest.specs.Printed.{concat, message_pieces, row_text, clock_pieces, visible, visible_byte};
+ghost use Rattle.trail_digest.specs.Printed.{concat, message_pieces, row_text, clock_pieces, hex_digit, readable, readable_byte};
 ghost use Rattle.trail_digest.specs.declared.fault.DigestFault.TheVariants.{Output};
 
 use crate::fault::DigestFault;
@@ -35,20 +35,36 @@ pub(crate) fn write_text<W: Write>(text: &[u8], writer: &mut W) -> Result<(), Di
     }
 }
 
-/// What stands in the place of a byte.
-fn visible_byte(byte: u8) -> u8
-    ensures { result ≡ visible_byte byte }
+fn hex_digit(n: u8) -> u8
+    requires { n < 16 }
+    ensures { result ≡ hex_digit n }
 {
-    if byte == 1 { b'|' } else { byte }
+    if n < 10 { n + 48 } else { n + 87 }
 }
 
-/// A text of FIX with | for the byte 1.
-fn visible(alloc: Global, text: &[u8]) -> Result<Vec<u8>, AllocError>
-    ensures { IfOk result (λ shown. shown.items ≡ visible text.now) }
+/// Appends what stands in the place of a byte.
+fn append_readable(out: &mut Vec<u8>, byte: u8) -> Result<(), AllocError>
+    ensures { OnOk result (out.new.items ≡ out.old.items ++ readable_byte byte) }
+{
+    if byte == 1 {
+        append(out, &[b"|"])
+    } else if byte < 32 || 126 < byte {
+        append(
+            out,
+            &[b"\\x", &[hex_digit(byte / 16), hex_digit(byte % 16)]],
+        )
+    } else {
+        append(out, &[&[byte]])
+    }
+}
+
+/// The text of a row with | for the byte 1, and \x and two hexadecimal digits for each other byte that is not printed.
+fn readable(alloc: Global, text: &[u8]) -> Result<Vec<u8>, AllocError>
+    ensures { IfOk result (λ shown. shown.items ≡ readable text.now) }
 {
     let mut shown = Vec::with_capacity(alloc, text.len())?;
     for byte in text {
-        shown.push(visible_byte(*byte))?;
+        append_readable(&mut shown, *byte)?;
     }
     Ok(shown)
 }
@@ -93,7 +109,7 @@ fn append_message(
     let mut number = Buffer::new();
     let mut era = Buffer::new();
     let moment = print_utc(row.moment);
-    let shown = visible(alloc, row.text.as_slice())?;
+    let shown = readable(alloc, row.text.as_slice())?;
     append(
         text,
         &[
