@@ -1,3 +1,6 @@
 pub mod Replies
 pub mod Differing
 pub mod SideBySide
+pub mod Alone
+pub mod Places
+pub mod BothRuns

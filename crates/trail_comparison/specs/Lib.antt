@@ -3,3 +3,6 @@ pub mod Lines
 pub mod Differences
 pub mod Comparison
 pub mod Laws
+pub mod Rules
+pub mod Trades
+pub mod Under

@@ -1,4 +1,4 @@
-//! Two trails compared, with the answers of the rows that they share.
+//! Two trails compared, with the answers of the rows that they share; and one trail under other rules.
 #![tactic(auto)]
 
 mod day;
@@ -7,9 +7,14 @@ mod laws;
 mod lines;
 mod printing;
 mod replaying;
+mod rules;
 mod sent;
+mod trades;
+mod under;
 
 pub use day::Day;
 pub use fault::ComparisonFault;
 pub use laws::same_is_sent_alike;
 pub use printing::print_comparison;
+pub use rules::{Rules, RulesFault, other_rules};
+pub use under::print_under;
