@@ -1,5 +1,5 @@
 -- A comparison, from its parts.
-use Rattle.std.proofs.Common.{◌≡◌, ℕ, List, [], ◌∷◌, length, Option, refl, sym, ap, ◌∙◌, subst}
+use Rattle.std.proofs.Common.{◌≡◌, ℕ, List, [], ◌∷◌, ◌++◌, length, Option, refl, sym, ap, ◌∙◌, subst}
 use Rattle.std.specs.Io.KnownBytes.{Appends}
 use Rattle.participants.specs.Relations.{name_of}
 use Rattle.participants.specs.ParticipantFile.{ParticipantFile}
@@ -18,8 +18,12 @@ use Rattle.desk_log.specs.Numbered.{texts_in}
 use Rattle.desk_log.specs.Owed.{IsOwed, owed_texts, owed_views, texts_of}
 use Rattle.desk_log.specs.Reading.{IsReading}
 use Rattle.desk_log.specs.Report.{report}
+use Rattle.desk_log.specs.Times.{times_text}
 use Rattle.desk_log.proofs.OwedRows.{texts_are_owed}
 use Rattle.desk_log.proofs.Saying.{says}
+
+abbrev pub printed : ParticipantFile → ℕ → List ℕ → Compared → List Owed → Reading → List TrailRow → List ℕ
+printed file who log c owed reading rs = report file.venue (name_of file who) log c owed reading ++ times_text file.venue (name_of file who) log c.comparison rs reading
 
 kept : (os : List Owed) → kept_texts os ≡ texts_of (owed_views os)
 kept [] = refl
@@ -28,7 +32,7 @@ kept (o ∷ os) = ap (λ (l : List (List ℕ)). o.text.items ∷ l) (kept os)
 pub compares : AreTheirs → (m : Market) (rs : List TrailRow) (who : ℕ) (log : List ℕ) (s : State) (owed : List Owed) (reading : Reading) (c : Compared) (text : List ℕ) (before after : Option (List ℕ))
     → IsReading m.participants.venue (name_of m.participants who) log reading → IsOwed m who rs s (owed_views owed) → c.count ≡ agreed log reading.once.items owed
     → c.comparison ≡ comparison_of reading.conflict (agreed log reading.once.items owed) (length reading.once.items) (length owed)
-    → text ≡ report m.participants.venue (name_of m.participants who) log c owed reading → Appends before after text → Compares c.comparison m rs who log before after
+    → text ≡ printed m.participants who log c owed reading rs → Appends before after text → Compares c.comparison m rs who log before after
 compares law m rs who log s owed reading c text before after read o count comparison is written =
     let texts = texts_in log reading.once.items in
     let all : kept_texts owed ≡ owed_texts m who o.items = kept owed ∙ ap texts_of o.owed ∙ texts_are_owed m who rs o.items o.emitted in
@@ -51,12 +55,12 @@ pub compares_lent : AreTheirs → (m : Market) (file : ParticipantFile) (rs : Li
     → file ≡ m.participants → one ≡ owed → two ≡ owed → lent ≡ text
     → IsReading m.participants.venue (name_of m.participants who) log reading → IsOwed m who rs s (owed_views owed) → c.count ≡ agreed log reading.once.items one
     → c.comparison ≡ comparison_of reading.conflict (agreed log reading.once.items one) (length reading.once.items) (length one)
-    → text ≡ report file.venue (name_of file who) log c two reading → Appends before after lent → Compares c.comparison m rs who log before after
+    → text ≡ printed file who log c two reading rs → Appends before after lent → Compares c.comparison m rs who log before after
 compares_lent law m file rs who log s owed one two reading c text lent before after own first second bytes read o count comparison is written =
     compares law m rs who log s owed reading c text before after read o
     (count ∙ ap (λ (os : List Owed). agreed log reading.once.items os) first)
     (comparison ∙ ap (λ (os : List Owed). comparison_of reading.conflict (agreed log reading.once.items os) (length reading.once.items) (length os)) first)
-    (is ∙ ap (λ (os : List Owed). report file.venue (name_of file who) log c os reading) second ∙ ap (λ (f : ParticipantFile). report f.venue (name_of f who) log c owed reading) own)
+    (is ∙ ap (λ (os : List Owed). printed file who log c os reading rs) second ∙ ap (λ (f : ParticipantFile). printed f who log c owed reading rs) own)
     (subst (Appends before after) bytes written)
 
 pub agrees : (c : Comparison) (m : Market) (rs : List TrailRow) (who : ℕ) (log : List ℕ) (before after : Option (List ℕ)) → Compares c m rs who log before after → c ≡ All → Agrees m rs who log

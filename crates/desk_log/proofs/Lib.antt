@@ -10,3 +10,4 @@ pub mod Saying
 pub mod Joining
 pub mod Gaps
 pub mod Missings
+pub mod OneLine

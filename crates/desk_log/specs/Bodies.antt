@@ -1,5 +1,5 @@
 -- What the body of a frame says.
-use Rattle.std.specs.Prelude.{ℕ, ◌+◌, ◌==◌, ◌&&◌, ◌||◌, not, Bool, true, List, [], ◌∷◌, ◌++◌, Option, Some, None, if◌then◌else◌, codes}
+use Rattle.std.specs.Prelude.{ℕ, ◌+◌, ◌==◌, ◌&&◌, ◌||◌, not, nat_le, Bool, true, List, [], ◌∷◌, ◌++◌, Option, Some, None, if◌then◌else◌, codes}
 use Rattle.fix_fields.specs.Forms.{integer_in}
 use Rattle.desk_log.specs.Frames.{number_of}
 use Rattle.desk_log.specs.Pieces.{begins, first_value, is_piece}
@@ -25,9 +25,10 @@ is_session body =
     is_kind (codes "0") body || (is_kind (codes "1") body || (is_kind (codes "2") body || (is_kind (codes "3") body
     || (is_kind (codes "4") body || (is_kind (codes "5") body || is_kind (codes "A") body)))))
 
--- a Logon numbered 1: both sides number from 1 again
-abbrev pub is_first : ℕ → List ℕ → Bool
-is_first number body = number == 1 && is_kind (codes "A") body
+-- A Logon that does not go on behind the greatest number so far, or that says so (141=Y): both sides number from 1 again,
+-- as a venue that was restarted does.
+abbrev pub begins_era : (greatest number : ℕ) → List ℕ → Bool
+begins_era greatest number body = is_kind (codes "A") body && (nat_le number greatest || is_piece (codes "141=") (codes "Y") body)
 
 -- NewSeqNo (36) of a SequenceReset
 abbrev pub next_or : ℕ → Option ℕ → ℕ

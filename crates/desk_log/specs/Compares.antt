@@ -1,5 +1,5 @@
 -- What is promised of a comparison.
-use Rattle.std.specs.Prelude.{◌≡◌, ℕ, List, [], Option}
+use Rattle.std.specs.Prelude.{◌≡◌, ℕ, List, [], ◌++◌, Option}
 use Rattle.std.specs.Io.KnownBytes.{Appends}
 use Rattle.participants.specs.Relations.{name_of}
 use Rattle.venue_rules.specs.declared.trail.TrailRow.{TrailRow}
@@ -18,6 +18,7 @@ use Rattle.desk_log.specs.Once.{IsOnce}
 use Rattle.desk_log.specs.Owed.{owed_of, owed_texts, owed_views}
 use Rattle.desk_log.specs.Reading.{IsReading, messages_in}
 use Rattle.desk_log.specs.Report.{report}
+use Rattle.desk_log.specs.Times.{times_text}
 
 -- What was written reports the comparison of a log with what a participant is owed (`owed`, the word of the headline)
 -- for the inputs of these rows, and no other byte was written.
@@ -30,7 +31,8 @@ pub record Compares (c : Comparison) (m : Market) (rs : List TrailRow) (who : �
   pub read : IsReading m.participants.venue (name_of m.participants who) log reading
   pub count : ℕ
   pub says : Says c reading.conflict count (texts_in log reading.once.items) (owed_texts m who items)
-  pub written : Appends before after (report m.participants.venue (name_of m.participants who) log (record { comparison = c; count = count }) owed reading)
+  pub written : Appends before after (report m.participants.venue (name_of m.participants who) log (record { comparison = c; count = count }) owed reading
+      ++ times_text m.participants.venue (name_of m.participants who) log c rs reading)
 
 -- The application messages of a log from the venue to the participant, each once by era and number, in order, have the
 -- texts of what it is owed.

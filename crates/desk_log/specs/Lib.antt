@@ -8,6 +8,8 @@ pub mod Missing
 pub mod Parts
 pub mod Naming
 pub mod Report
+pub mod Lines
 pub mod Reading
+pub mod Times
 pub mod Owed
 pub mod Compares

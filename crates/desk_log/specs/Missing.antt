@@ -1,5 +1,5 @@
 -- The numbers that no frame of a log has, from the one to the other, in an era.
-use Rattle.std.specs.Prelude.{◌≡◌, ◌≤◌, ◌<◌, ◌+◌, ◌==◌, ◌&&◌, not, ◌||◌, ℕ, zero, suc, Bool, true, false, nat_le, nat_lt, List, [], ◌∷◌, length, Option, Some, None, if◌then◌else◌}
+use Rattle.std.specs.Prelude.{◌≡◌, ◌≤◌, ◌<◌, ◌+◌, ◌==◌, ◌&&◌, not, ◌||◌, ℕ, zero, suc, Bool, true, false, nat_le, nat_lt, List, [], ◌∷◌, ◌++◌, All, length, Option, Some, None, if◌then◌else◌}
 use Rattle.std.specs.List.{list_any}
 use Rattle.desk_log.specs.declared.missing.Missing.{Missing}
 use Rattle.desk_log.specs.declared.numbered.Numbered.{Numbered}
@@ -64,18 +64,31 @@ abbrev pub if_before : Option Missing → Option Logged → Option Missing
 if_before None later = None
 if_before (Some m) later = if is_before m later then Some m else None
 
-abbrev pub or_else : Option Missing → Option Missing → Option Missing
-or_else None other = other
-or_else (Some m) other = Some m
+-- from a place on in its era, one after another: there are no more of them than frames
+abbrev pub with_rest : Option Missing → (Place → List Missing) → List Missing
+with_rest None rest = []
+with_rest (Some m) rest = m ∷ rest (record { era = m.era; number = m.next })
 
--- in the era of the later message, from 1 on
-abbrev pub missing_in : List Numbered → Option Logged → Option Missing
-missing_in fs None = None
-missing_in fs (Some l) = missing_from fs (record { era = l.0.era; number = 1 })
+abbrev pub gaps_in : List Numbered → (later : Option Logged) → (times : ℕ) → Place → List Missing
+gaps_in fs later zero p = []
+gaps_in fs later (suc k) p = with_rest (if_before (missing_from fs p) later) (gaps_in fs later k)
 
-abbrev pub missing_between : List Numbered → (earlier later : Option Logged) → Option Missing
-missing_between fs earlier later =
-    or_else (if_before (missing_from fs (place_from earlier)) later) (if_before (missing_in fs later) later)
+abbrev pub gaps_from : List Numbered → (later : Option Logged) → Place → List Missing
+gaps_from fs later p = gaps_in fs later (length fs + 1) p
+
+-- in the era of the earlier message, and from 1 on in that of the later one, if it is another
+abbrev pub is_era : ℕ → Option Logged → Bool
+is_era era None = true
+is_era era (Some l) = era == l.0.era
+
+abbrev pub first_of : Option Logged → Place
+first_of None = record { era = 0; number = 1 }
+first_of (Some l) = record { era = l.0.era; number = 1 }
+
+abbrev pub gaps_between : List Numbered → (earlier later : Option Logged) → List Missing
+gaps_between fs earlier later =
+    if is_era (place_from earlier).era later then gaps_from fs later (place_from earlier)
+    else (gaps_from fs later (place_from earlier) ++ gaps_from fs later (first_of later))
 
 -- Some frame of the era has this number.
 abbrev pub is_there : (era n : ℕ) → List Numbered → Bool
@@ -91,3 +104,7 @@ pub record AreMissing (fs : List Numbered) (from : Place) (m : Missing) : Type 0
 
 abbrev pub MissingAreMissing : Type 0
 MissingAreMissing = (fs : List Numbered) (from : Place) (m : Missing) → missing_from fs from ≡ Some m → AreMissing fs from m
+
+-- So of each of the numbers that are said to be missing between two messages.
+abbrev pub GapsAreMissing : Type 0
+GapsAreMissing = (fs : List Numbered) (earlier later : Option Logged) → All (λ m. (from : Place) × AreMissing fs from m) (gaps_between fs earlier later)

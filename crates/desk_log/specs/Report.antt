@@ -22,7 +22,7 @@
 --       in the log: 811 frames, 431 of them from SEF to BETA; 412 application messages,
 --         409 without the repeats; 12034 bytes in no frame
 --       line 17 of the log begins as a frame and is none: CheckSum (10) is wrong
-use Rattle.std.specs.Prelude.{ℕ, ◌-◌, ◌==◌, Bool, true, false, List, [], ◌∷◌, ◌++◌, length, drop, slice_get, Option, Some, None, if◌then◌else◌, decimal, codes}
+use Rattle.std.specs.Prelude.{ℕ, ◌-◌, ◌==◌, ◌&&◌, Bool, true, false, List, [], ◌∷◌, ◌++◌, length, drop, slice_get, Option, Some, None, if◌then◌else◌, decimal, codes}
 use Rattle.desk_log.specs.declared.comparing.Compared.{Compared}
 use Rattle.desk_log.specs.declared.comparing.Comparison.{Comparison}
 use Rattle.desk_log.specs.declared.comparing.Comparison.TheVariants.{All, FirstPart, Differs}
@@ -38,10 +38,11 @@ use Rattle.desk_log.specs.declared.owed.Owed.{Owed}
 use Rattle.desk_log.specs.declared.reading.Reading.{Reading}
 use Rattle.desk_log.specs.Frames.{first_broken, line_of, outside}
 use Rattle.desk_log.specs.Comparing.{is_owed}
-use Rattle.desk_log.specs.Missing.{missing_between}
+use Rattle.desk_log.specs.Missing.{gaps_between, is_era, place_from}
 use Rattle.desk_log.specs.Naming.{field, kind_words, named_of}
 use Rattle.desk_log.specs.Numbered.{Logged, text_at}
-use Rattle.desk_log.specs.Parts.{joined, visible}
+use Rattle.desk_log.specs.Parts.{joined}
+use Rattle.message_words.specs.Visible.{readable}
 
 -- what was owed and received, or only the first part of it
 
@@ -84,25 +85,40 @@ differs_head count n desk =
     (if count == 0 then joined (codes "the log differs at the first of the " ∷ decimal n ∷ codes " messages that " ∷ desk ∷ codes " was owed\n" ∷ []) else
     first_received count n desk ++ codes "then the log differs\n")
 
--- Numbers that no frame of the log has, between the messages that agree and what comes then. Where the log goes on with
--- the message that is owed just as many further, these numbers are those of the messages that are owed in between.
+-- Numbers that no frame of the log has, between the messages that agree and what comes then, gap by gap. Where the log
+-- goes on in the same era with the message that is owed just as many further as all of them are, these numbers are those
+-- of the messages that are owed in between, in their order.
 
 abbrev pub before_at : List Logged → ℕ → Option Logged
 before_at once count = if count == 0 then None else slice_get once (count - 1)
 
-abbrev pub missing_at : List Numbered → List Logged → ℕ → Option Missing
-missing_at frames once count = missing_between frames (before_at once count) (slice_get once count)
+abbrev pub gaps_at : List Numbered → List Logged → ℕ → List Missing
+gaps_at frames once count = gaps_between frames (before_at once count) (slice_get once count)
+
+abbrev pub many_in : Missing → ℕ
+many_in m = m.next - m.first
+
+-- what is owed behind as many messages as are missing
+abbrev pub owed_behind : List Missing → List Owed → List Owed
+owed_behind [] rest = rest
+owed_behind (m ∷ ms) rest = owed_behind ms (drop (many_in m) rest)
 
 abbrev pub goes_on : List ℕ → Option Logged → Option Owed → Bool
 goes_on log None o = false
 goes_on log (Some l) None = false
 goes_on log (Some l) (Some o) = is_owed log l.1 o
 
-abbrev pub in_words : List ℕ → List ℕ
-in_words text = joined (kind_words (field (codes "35=") text) ∷ named_of (field (codes "35=") text) text ∷ codes ")" ∷ [])
+abbrev pub are_owed : List ℕ → (earlier later : Option Logged) → List Missing → List Owed → Bool
+are_owed log earlier later gaps rest = is_era (place_from earlier).era later && goes_on log later (slice_get (owed_behind gaps rest) 0)
 
-abbrev pub described : (goes several : Bool) → Option Owed → List ℕ
-described false several owed = []
+abbrev pub words_with : (words named : List ℕ) → List ℕ
+words_with words named = joined (words ∷ named ∷ codes ")" ∷ [])
+
+abbrev pub in_words : List ℕ → List ℕ
+in_words text = words_with (kind_words (field (codes "35=") text)) (readable (named_of (field (codes "35=") text) text))
+
+abbrev pub described : (owed several : Bool) → Option Owed → List ℕ
+described false several o = []
 described true several None = []
 described true several (Some o) = (if several then codes " (the first: " else codes " (") ++ in_words o.text.items
 
@@ -113,32 +129,31 @@ abbrev pub missing_many : Missing → (last : ℕ) → List ℕ → List ℕ
 missing_many m last what =
     joined (codes "    messages " ∷ decimal m.first ∷ codes " to " ∷ decimal last ∷ what ∷ codes " are missing; the log goes on with message " ∷ decimal m.next ∷ codes "\n" ∷ [])
 
--- by how many there are, with the owed messages from the first that was not received on
-abbrev pub missing_said : List ℕ → (many : ℕ) → Missing → Option Logged → List Owed → List ℕ
-missing_said log many m later rest =
-    if many == 1 then missing_one m (described (goes_on log later (slice_get rest many)) false (slice_get rest 0)) else
-    missing_many m (m.next - 1) (described (goes_on log later (slice_get rest many)) true (slice_get rest 0))
+-- by how many there are, with the first message that is owed in their place
+abbrev pub missing_line : (owed : Bool) → Missing → Option Owed → List ℕ
+missing_line owed m o =
+    if many_in m == 1 then missing_one m (described owed false o) else missing_many m (m.next - 1) (described owed true o)
 
-abbrev pub missing_line : List ℕ → Option Missing → Option Logged → List Owed → List ℕ
-missing_line log None later rest = []
-missing_line log (Some m) later rest = missing_said log (m.next - m.first) m later rest
+abbrev pub missing_lines : (owed : Bool) → List Missing → List Owed → List ℕ
+missing_lines owed [] rest = []
+missing_lines owed (m ∷ ms) rest = missing_line owed m (slice_get rest 0) ++ missing_lines owed ms (drop (many_in m) rest)
 
 abbrev pub owed_row : Owed → List ℕ
-owed_row o = joined (codes "    owed at row " ∷ decimal o.row ∷ codes ": " ∷ visible o.text.items ∷ codes "\n" ∷ [])
+owed_row o = joined (codes "    owed at row " ∷ decimal o.row ∷ codes ": " ∷ readable o.text.items ∷ codes "\n" ∷ [])
 
 abbrev pub owed_line : Option Owed → List ℕ
 owed_line None = codes "    owed: nothing more\n"
 owed_line (Some o) = owed_row o
 
 abbrev pub logged_line : List ℕ → Logged → List ℕ
-logged_line log l = joined (codes "    in the log, number " ∷ decimal l.0.number ∷ codes " of era " ∷ decimal l.0.era ∷ codes ", line " ∷ decimal (line_of l.1.start log) ∷ codes ": " ∷ visible (text_at log l.1) ∷ codes "\n" ∷ [])
+logged_line log l = joined (codes "    in the log, number " ∷ decimal l.0.number ∷ codes " of era " ∷ decimal l.0.era ∷ codes ", line " ∷ decimal (line_of l.1.start log) ∷ codes ": " ∷ readable (text_at log l.1) ∷ codes "\n" ∷ [])
 
 abbrev pub logged_if_line : List ℕ → Option Logged → List ℕ
 logged_if_line log None = []
 logged_if_line log (Some l) = logged_line log l
 
 abbrev pub text_line : List ℕ → Span → List ℕ
-text_line log s = joined (codes "    line " ∷ decimal (line_of s.start log) ∷ codes ": " ∷ visible (text_at log s) ∷ codes "\n" ∷ [])
+text_line log s = joined (codes "    line " ∷ decimal (line_of s.start log) ∷ codes ": " ∷ readable (text_at log s) ∷ codes "\n" ∷ [])
 
 abbrev pub conflict_head : Place → List ℕ
 conflict_head p = joined (codes "the log has two texts of number " ∷ decimal p.number ∷ codes " of era " ∷ decimal p.era ∷ codes "\n" ∷ [])
@@ -146,18 +161,21 @@ conflict_head p = joined (codes "the log has two texts of number " ∷ decimal p
 abbrev pub conflict_lines : List ℕ → Conflict → List ℕ
 conflict_lines log c = conflict_head c.place ++ (text_line log c.first ++ text_line log c.second)
 
-abbrev pub gap_line : (count : ℕ) → (log : List ℕ) → List Owed → List Numbered → List Logged → List ℕ
-gap_line count log owed frames once = missing_line log (missing_at frames once count) (slice_get once count) (drop count owed)
+abbrev pub gaps_said : (earlier later : Option Logged) → List ℕ → List Missing → List Owed → List ℕ
+gaps_said earlier later log gaps rest = missing_lines (are_owed log earlier later gaps rest) gaps rest
+
+abbrev pub gap_lines : (count : ℕ) → (log : List ℕ) → List Owed → List Numbered → List Logged → List ℕ
+gap_lines count log owed frames once = gaps_said (before_at once count) (slice_get once count) log (gaps_at frames once count) (drop count owed)
 
 abbrev pub differs_lines : (count : ℕ) → (log desk : List ℕ) → List Owed → List Numbered → List Logged → List ℕ
 differs_lines count log desk owed frames once =
-    differs_head count (length owed) desk ++ (gap_line count log owed frames once ++ (owed_line (slice_get owed count) ++ logged_if_line log (slice_get once count)))
+    differs_head count (length owed) desk ++ (gap_lines count log owed frames once ++ (owed_line (slice_get owed count) ++ logged_if_line log (slice_get once count)))
 
 abbrev pub part_rows : (count : ℕ) → List Owed → List ℕ
 part_rows count owed = rows_said (row_of (slice_get owed count)) (row_of (slice_get owed (length owed - 1)))
 
 abbrev pub part_lines : (count : ℕ) → (log desk : List ℕ) → List Owed → List Numbered → List Logged → List ℕ
-part_lines count log desk owed frames once = part_head count (length owed) desk ++ (part_rows count owed ++ gap_line count log owed frames once)
+part_lines count log desk owed frames once = part_head count (length owed) desk ++ (part_rows count owed ++ gap_lines count log owed frames once)
 
 -- what the comparison says
 abbrev pub said : Comparison → Option Conflict → (count : ℕ) → (log desk : List ℕ) → List Owed → List Numbered → List Logged → List ℕ

@@ -58,11 +58,11 @@ pub(crate) fn is_session(body: &[u8]) -> bool
         || is_kind(b"A", body)
 }
 
-/// Whether the message is a Logon numbered 1.
-pub(crate) fn is_first(number: u64, body: &[u8]) -> bool
-    ensures { result ≡ bodies.is_first number body.now }
+/// Whether the message is a Logon that does not go on behind the greatest number so far, or that has 141=Y.
+pub(crate) fn begins_era(greatest: u64, number: u64, body: &[u8]) -> bool
+    ensures { result ≡ bodies.begins_era greatest number body.now }
 {
-    number == 1 && is_kind(b"A", body)
+    is_kind(b"A", body) && (number <= greatest || is_piece(b"141=", b"Y", body))
 }
 
 /// The number that is next behind a message.

@@ -5,12 +5,13 @@ ghost use Rattle.desk_log.specs.Report as specs;
 
 use crate::comparing::is_owed;
 use crate::frames::Span;
-use crate::missing::{Missing, missing_between};
+use crate::missing::{Missing, gaps_between, in_one_era};
 use crate::naming::{kind_of, kind_words, named_of};
 use crate::numbered::{Numbered, Place};
 use crate::owed::Owed;
 use crate::parts::{Part, append_parts};
 use crate::reading::Reading;
+use message_words::readable_text;
 use std::alloc::{AllocError, Global};
 
 pub(crate) fn message_at(once: &[(Place, Span)], at: usize) -> Option<(Place, Span)>
@@ -29,62 +30,118 @@ fn before_at(once: &[(Place, Span)], count: usize) -> Option<(Place, Span)>
 }
 
 /// The numbers that are missing between the first messages, of this count, and the next.
-fn missing_at(frames: &[Numbered], once: &[(Place, Span)], count: usize) -> Option<Missing>
-    ensures { result ≡ specs.missing_at frames.now once.now count }
+fn gaps_at(
+    alloc: Global,
+    frames: &[Numbered],
+    once: &[(Place, Span)],
+    count: usize,
+) -> Result<Vec<Missing>, AllocError>
+    ensures { IfOk result (λ gaps. gaps.items ≡ specs.gaps_at frames.now once.now count) }
 {
-    missing_between(frames, before_at(once, count), message_at(once, count))
+    gaps_between(
+        alloc,
+        frames,
+        before_at(once, count),
+        message_at(once, count),
+    )
 }
 
-/// Whether a message of the log is the one that is owed at a place.
+/// Whether a message of the log is the first of those that are owed.
 fn goes_on(
     alloc: Global,
     log: &[u8],
     later: Option<(Place, Span)>,
     owed: &[Owed],
-    at: usize,
 ) -> Result<bool, AllocError>
-    ensures { IfOk result (λ same. same ≡ specs.goes_on log.now later (slice_get owed.now at)) }
+    ensures { IfOk result (λ same. same ≡ specs.goes_on log.now later (slice_get owed.now 0)) }
 {
     let Some(message) = later else {
         return Ok(false);
     };
-    match owed.get(at) {
+    match owed.get(0) {
         Some(owed) => is_owed(alloc, log, message.1, owed),
         None => Ok(false),
     }
 }
 
-fn append_words(out: &mut Vec<u8>, text: &[u8]) -> Result<(), AllocError>
-    ensures { OnOk result (out.new.items ≡ out.old.items ++ specs.in_words text.now) }
+fn many_in(missing: Missing) -> usize
+    ensures { result ≡ specs.many_in missing }
 {
-    let kind = kind_of(text);
+    missing.next.saturating_sub(missing.first) as usize
+}
+
+/// What is owed behind as many messages as are missing.
+fn owed_behind<'a>(gaps: &[Missing], rest: &'a [Owed]) -> &'a [Owed]
+    ensures { result.now ≡ specs.owed_behind gaps.now rest.now }
+{
+    let mut behind = rest;
+    for gap in gaps {
+        behind = rest_of(behind, many_in(*gap));
+    }
+    behind
+}
+
+/// Whether the numbers that are missing are known to be those of the first messages that are owed.
+fn are_owed(
+    alloc: Global,
+    log: &[u8],
+    earlier: Option<(Place, Span)>,
+    later: Option<(Place, Span)>,
+    gaps: &[Missing],
+    rest: &[Owed],
+) -> Result<bool, AllocError>
+    ensures { IfOk result (λ owed. owed ≡ specs.are_owed log.now earlier later gaps.now rest.now) }
+{
+    if !in_one_era(earlier, later) {
+        return Ok(false);
+    }
+    goes_on(alloc, log, later, owed_behind(gaps, rest))
+}
+
+fn append_named<'a>(out: &mut Vec<u8>, words: &'a [u8], named: &'a [u8]) -> Result<(), AllocError>
+    ensures { OnOk result (out.new.items ≡ out.old.items ++ specs.words_with words.now named.now) }
+{
     append_parts(
         out,
-        &[
-            Part::Bytes(kind_words(kind)),
-            Part::Bytes(named_of(kind, text)),
-            Part::Bytes(b")"),
-        ],
+        &[Part::Bytes(words), Part::Bytes(named), Part::Bytes(b")")],
     )
 }
 
-fn append_described(out: &mut Vec<u8>, several: bool, text: &[u8]) -> Result<(), AllocError>
+fn append_words(alloc: Global, out: &mut Vec<u8>, text: &[u8]) -> Result<(), AllocError>
+    ensures { OnOk result (out.new.items ≡ out.old.items ++ specs.in_words text.now) }
+{
+    let kind = kind_of(text);
+    let named = readable_text(alloc, named_of(kind, text))?;
+    append_named(out, kind_words(kind), named.as_slice())
+}
+
+fn append_described(
+    alloc: Global,
+    out: &mut Vec<u8>,
+    several: bool,
+    text: &[u8],
+) -> Result<(), AllocError>
     ensures { OnOk result (out.new.items ≡ out.old.items ++ ((if several then codes " (the first: " else codes " (") ++ specs.in_words text.now)) }
 {
     let opening: &[u8] = if several { b" (the first: " } else { b" (" };
     out.extend_from_slice(opening)?;
-    append_words(out, text)
+    append_words(alloc, out, text)
 }
 
-/// The first message that is owed and was not received, in words, where the missing numbers are known to be its and
-/// those of the messages behind it.
-fn described(alloc: Global, goes: bool, several: bool, owed: &[Owed]) -> Result<Vec<u8>, AllocError>
-    ensures { IfOk result (λ text. text.items ≡ specs.described goes several (slice_get owed.now 0)) }
+/// The first message that is owed, in words, where the missing numbers are known to be its and those of the messages
+/// behind it.
+fn described(
+    alloc: Global,
+    known: bool,
+    several: bool,
+    owed: &[Owed],
+) -> Result<Vec<u8>, AllocError>
+    ensures { IfOk result (λ text. text.items ≡ specs.described known several (slice_get owed.now 0)) }
 {
     let mut text = Vec::new(alloc);
-    if goes {
+    if known {
         if let Some(owed) = owed.get(0) {
-            append_described(&mut text, several, owed.text.as_slice())?;
+            append_described(alloc, &mut text, several, owed.text.as_slice())?;
         }
     }
     Ok(text)
@@ -129,20 +186,18 @@ fn append_many(
     )
 }
 
-/// Appends the numbers that are missing, with the messages that are owed from the first that was not received on.
+/// Appends the numbers of one gap, with what is owed from the first of them on.
 fn append_missing(
     alloc: Global,
     out: &mut Vec<u8>,
-    log: &[u8],
+    known: bool,
     missing: Missing,
-    later: Option<(Place, Span)>,
     rest: &[Owed],
 ) -> Result<(), AllocError>
-    ensures { OnOk result (out.new.items ≡ out.old.items ++ specs.missing_line log.now (Some missing) later rest.now) }
+    ensures { OnOk result (out.new.items ≡ out.old.items ++ specs.missing_line known missing (slice_get rest.now 0)) }
 {
-    let many = missing.next.saturating_sub(missing.first) as usize;
-    let goes = goes_on(alloc, log, later, rest, many)?;
-    let what = described(alloc, goes, many != 1, rest)?;
+    let many = many_in(missing);
+    let what = described(alloc, known, many != 1, rest)?;
     if many == 1 {
         append_one(out, missing, what.as_slice())
     } else {
@@ -164,24 +219,26 @@ fn rest_of(owed: &[Owed], count: usize) -> &[Owed]
     }
 }
 
-fn append_missing_if(
+/// Appends the numbers of each gap, one after another.
+fn append_each(
     alloc: Global,
     out: &mut Vec<u8>,
-    log: &[u8],
-    missing: Option<Missing>,
-    later: Option<(Place, Span)>,
-    rest: &[Owed],
+    known: bool,
+    gaps: &[Missing],
+    owed: &[Owed],
 ) -> Result<(), AllocError>
-    ensures { OnOk result (out.new.items ≡ out.old.items ++ specs.missing_line log.now missing later rest.now) }
+    ensures { OnOk result (out.new.items ≡ out.old.items ++ specs.missing_lines known gaps.now owed.now) }
 {
-    match missing {
-        None => Ok(()),
-        Some(missing) => append_missing(alloc, out, log, missing, later, rest),
+    let mut rest = owed;
+    for gap in gaps {
+        append_missing(alloc, out, known, *gap, rest)?;
+        rest = rest_of(rest, many_in(*gap));
     }
+    Ok(())
 }
 
 /// Appends which numbers are missing behind the first messages, which agree.
-pub(crate) fn append_gap(
+pub(crate) fn append_gaps(
     alloc: Global,
     out: &mut Vec<u8>,
     count: usize,
@@ -189,9 +246,12 @@ pub(crate) fn append_gap(
     owed: &[Owed],
     reading: &Reading,
 ) -> Result<(), AllocError>
-    ensures { OnOk result (out.new.items ≡ out.old.items ++ specs.gap_line count log.now owed.now reading.now.frames.items reading.now.once.items) }
+    ensures { OnOk result (out.new.items ≡ out.old.items ++ specs.gap_lines count log.now owed.now reading.now.frames.items reading.now.once.items) }
 {
-    let missing = missing_at(&reading.frames, &reading.once, count);
+    let gaps = gaps_at(alloc, &reading.frames, &reading.once, count)?;
+    let earlier = before_at(&reading.once, count);
     let later = message_at(&reading.once, count);
-    append_missing_if(alloc, out, log, missing, later, rest_of(owed, count))
+    let rest = rest_of(owed, count);
+    let known = are_owed(alloc, log, earlier, later, &gaps, rest)?;
+    append_each(alloc, out, known, &gaps, rest)
 }

@@ -1,9 +1,16 @@
 //! What every reading of a log keeps.
 
-ghost use Rattle.desk_log.specs.Missing.{MissingAreMissing};
+ghost use Rattle.desk_log.specs.Lines.{TextsAreLines};
+ghost use Rattle.desk_log.specs.Missing.{GapsAreMissing, MissingAreMissing};
 
 /// Numbers that are said to be missing are in no frame of their era; those before them are, from where the search
-/// began; and the next is a frame's own.
+/// began; and the next is a frame's own. So each of the gaps that are printed.
 pub fn missing_are_missing()
-    ensures { MissingAreMissing }
+    ensures first { MissingAreMissing }
+    ensures each { GapsAreMissing }
+{}
+
+/// What is printed of the bytes of a log, and of a message that is owed, is one line, whatever these bytes are.
+pub fn texts_are_lines()
+    ensures { TextsAreLines }
 {}

@@ -17,9 +17,10 @@ mod pieces;
 mod printing;
 mod reading;
 mod report;
+mod times;
 
 pub use comparing::Comparison;
 pub use fault::{LogFault, NoLog};
 pub use frames::FrameFault;
-pub use laws::missing_are_missing;
+pub use laws::{missing_are_missing, texts_are_lines};
 pub use printing::print_comparison;

@@ -1,10 +1,11 @@
 //! The numbers that no frame of a log has.
 
-ghost use Rattle.std.specs.Prelude.{◌≡◌, None};
+ghost use Rattle.std.specs.Prelude.{◌≡◌, ◌++◌, IfOk, None, OnOk};
 ghost use Rattle.desk_log.specs.Missing as specs;
 
 use crate::frames::Span;
 use crate::numbered::{Numbered, Place};
+use std::alloc::{AllocError, Global};
 
 /// Numbers of an era that no frame has.
 #[derive(Clone, Copy)]
@@ -145,32 +146,80 @@ fn if_before(missing: Option<Missing>, later: Option<(Place, Span)>) -> Option<M
     }
 }
 
-fn missing_in(frames: &[Numbered], later: Option<(Place, Span)>) -> Option<Missing>
-    ensures { result ≡ specs.missing_in frames.now later }
+/// The first numbers that no frame has, from a place on, before a message.
+fn next_gap(frames: &[Numbered], later: Option<(Place, Span)>, from: Place) -> Option<Missing>
+    ensures { result ≡ specs.if_before (specs.missing_from frames.now from) later }
+{
+    if_before(missing_from(frames, from), later)
+}
+
+/// Appends the numbers that no frame has, from a place on in its era, before a message.
+#[tactic(auto, using(crate::proofs::Gaps::gap_more, crate::proofs::Gaps::no_gap, crate::proofs::Gaps::times_over))]
+fn append_gaps_from(
+    found: &mut Vec<Missing>,
+    frames: &[Numbered],
+    later: Option<(Place, Span)>,
+    from: Place,
+) -> Result<(), AllocError>
+    ensures { OnOk result (found.new.items ≡ found.old.items ++ specs.gaps_from frames.now later from) }
+{
+    let mut place = from;
+    let mut left = frames.len() + 1;
+    'gaps: while left > 0 {
+        let Some(gap) = next_gap(frames, later, place) else {
+            return Ok(());
+        };
+        found.push(gap)?;
+        left -= 1;
+        place = Place {
+            era: gap.era,
+            number: gap.next,
+        };
+    }
+    Ok(())
+}
+
+fn is_era(era: usize, later: Option<(Place, Span)>) -> bool
+    ensures { result ≡ specs.is_era era later }
 {
     match later {
-        None => None,
-        Some(message) => missing_from(
-            frames,
-            Place {
-                era: message.0.era,
-                number: 1,
-            },
-        ),
+        None => true,
+        Some(message) => era == message.0.era,
     }
 }
 
+fn first_of(later: Option<(Place, Span)>) -> Place
+    ensures { result ≡ specs.first_of later }
+{
+    match later {
+        None => Place { era: 0, number: 1 },
+        Some(message) => Place {
+            era: message.0.era,
+            number: 1,
+        },
+    }
+}
+
+/// Whether two messages of a log are of one era; those before the first and behind the last may be.
+pub(crate) fn in_one_era(earlier: Option<(Place, Span)>, later: Option<(Place, Span)>) -> bool
+    ensures { result ≡ specs.is_era (specs.place_from earlier).era later }
+{
+    is_era(place_from(earlier).era, later)
+}
+
 /// The numbers that no frame has between two messages of a log, that may not be there.
-pub(crate) fn missing_between(
+pub(crate) fn gaps_between(
+    alloc: Global,
     frames: &[Numbered],
     earlier: Option<(Place, Span)>,
     later: Option<(Place, Span)>,
-) -> Option<Missing>
-    ensures { result ≡ specs.missing_between frames.now earlier later }
+) -> Result<Vec<Missing>, AllocError>
+    ensures { IfOk result (λ gaps. gaps.items ≡ specs.gaps_between frames.now earlier later) }
 {
-    let behind = missing_from(frames, place_from(earlier));
-    if let Some(found) = if_before(behind, later) {
-        return Some(found);
+    let mut gaps = Vec::new(alloc);
+    append_gaps_from(&mut gaps, frames, later, place_from(earlier))?;
+    if !in_one_era(earlier, later) {
+        append_gaps_from(&mut gaps, frames, later, first_of(later))?;
     }
-    if_before(missing_in(frames, later), later)
+    Ok(gaps)
 }

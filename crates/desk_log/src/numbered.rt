@@ -3,7 +3,7 @@
 ghost use Rattle.std.specs.Prelude.{◌≡◌, ◌+◌, ◌≤◌, ◌<◌, ◌^◌, ◌++◌, IfOk, IfSome, OnOk};
 ghost use Rattle.desk_log.specs.Numbered as numbered;
 
-use crate::bodies::{is_between, is_first, is_session, next_in, number_in, text_of};
+use crate::bodies::{begins_era, is_between, is_session, next_in, number_in, text_of};
 use crate::frames::Span;
 use std::alloc::{AllocError, Global};
 
@@ -62,15 +62,28 @@ fn number_between(ends: &Ends, body: &[u8]) -> Option<u64>
     }
 }
 
-fn era_at(era: usize, number: u64, body: &[u8]) -> usize
-    requires { era + 1 < 2 ^ 64 }
-    ensures era { result ≡ numbered.era_at era number body.now }
-    ensures bound { result ≤ era + 1 }
+fn begins(latest: Place, number: u64, body: &[u8]) -> bool
+    ensures { result ≡ numbered.begins latest number body.now }
 {
-    if era == 0 || is_first(number, body) {
-        era + 1
+    latest.era == 0 || begins_era(latest.number, number, body)
+}
+
+/// The latest era and the greatest number in it, with one more frame.
+fn latest_with(latest: Place, number: u64, body: &[u8]) -> Place
+    requires { latest.era + 1 < 2 ^ 64 }
+    ensures latest { result ≡ numbered.latest_with latest number body.now }
+    ensures bound { result.era ≤ latest.era + 1 }
+{
+    if begins(latest, number, body) {
+        Place {
+            era: latest.era + 1,
+            number,
+        }
     } else {
-        era
+        Place {
+            era: latest.era,
+            number: latest.number.max(number),
+        }
     }
 }
 
@@ -94,27 +107,27 @@ fn numbered_as(era: usize, number: u64, body: &[u8], span: Span) -> Numbered
     }
 }
 
-/// Appends the frame with this body, if it is from the one to the other. Returns its era, or the one before.
+/// Appends the frame with this body, if it is from the one to the other. Returns the latest era and its greatest number.
 fn append_numbered(
     ends: &Ends,
     log: &[u8],
-    era: usize,
+    latest: Place,
     span: Span,
     found: &mut Vec<Numbered>,
-) -> Result<usize, AllocError>
-    requires { era + 1 < 2 ^ 64 }
-    ensures found { OnOk result (found.new.items ≡ found.old.items ++ numbered.numbered_if era (numbered.number_between ends.now.from.now ends.now.to.now (numbered.body_at log.now span)) (numbered.body_at log.now span) span) }
-    ensures era { IfOk result (λ later. later ≡ numbered.era_behind era (numbered.number_between ends.now.from.now ends.now.to.now (numbered.body_at log.now span)) (numbered.body_at log.now span)) }
-    ensures bound { IfOk result (λ later. later ≤ era + 1) }
+) -> Result<Place, AllocError>
+    requires { latest.era + 1 < 2 ^ 64 }
+    ensures found { OnOk result (found.new.items ≡ found.old.items ++ numbered.numbered_if latest (numbered.number_between ends.now.from.now ends.now.to.now (numbered.body_at log.now span)) (numbered.body_at log.now span) span) }
+    ensures latest { IfOk result (λ later. later ≡ numbered.latest_behind latest (numbered.number_between ends.now.from.now ends.now.to.now (numbered.body_at log.now span)) (numbered.body_at log.now span)) }
+    ensures bound { IfOk result (λ later. later.era ≤ latest.era + 1) }
 {
     let body = body_at(log, span);
     match number_between(ends, body) {
         Some(number) => {
-            let later = era_at(era, number, body);
-            found.push(numbered_as(later, number, body, span))?;
+            let later = latest_with(latest, number, body);
+            found.push(numbered_as(later.era, number, body, span))?;
             Ok(later)
         }
-        None => Ok(era),
+        None => Ok(latest),
     }
 }
 
@@ -129,9 +142,9 @@ pub(crate) fn numbered_in(
     ensures { IfOk result (λ found. found.items ≡ numbered.numbered_in ends.now.from.now ends.now.to.now log.now bodies.now) }
 {
     let mut found = Vec::new(alloc);
-    let mut era = 0;
+    let mut latest = Place { era: 0, number: 0 };
     for span in bodies {
-        era = append_numbered(ends, log, era, *span, &mut found)?;
+        latest = append_numbered(ends, log, latest, *span, &mut found)?;
     }
     Ok(found)
 }

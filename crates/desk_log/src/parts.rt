@@ -10,8 +10,6 @@ use std::alloc::AllocError;
 pub(crate) enum Part<'a> {
     Bytes(&'a [u8]),
     Number(u64),
-    /// A text of FIX, with | for SOH.
-    Fix(&'a [u8]),
 }
 
 fn append_number(out: &mut Vec<u8>, number: u64) -> Result<(), AllocError>
@@ -21,28 +19,12 @@ fn append_number(out: &mut Vec<u8>, number: u64) -> Result<(), AllocError>
     out.extend_from_slice(digits.format(number).as_bytes())
 }
 
-fn visible_byte(byte: u8) -> u8
-    ensures { result ≡ specs.visible_byte byte }
-{
-    if byte == 1 { b'|' } else { byte }
-}
-
-fn append_fix(out: &mut Vec<u8>, text: &[u8]) -> Result<(), AllocError>
-    ensures { OnOk result (out.new.items ≡ out.old.items ++ specs.visible text.now) }
-{
-    for byte in text {
-        out.push(visible_byte(*byte))?;
-    }
-    Ok(())
-}
-
 fn append_part(out: &mut Vec<u8>, part: &Part) -> Result<(), AllocError>
     ensures { OnOk result (out.new.items ≡ out.old.items ++ specs.shown part.now) }
 {
     match part {
         Part::Bytes(bytes) => out.extend_from_slice(bytes),
         Part::Number(number) => append_number(out, *number),
-        Part::Fix(text) => append_fix(out, text),
     }
 }
 

@@ -1,6 +1,6 @@
 //! A desk's log against what it is owed.
 
-ghost use Rattle.std.specs.Prelude.{◌≡◌, ◌≢◌, ◌≤◌, ℕ, [], All, IfErr, IfOk, OnOk, length};
+ghost use Rattle.std.specs.Prelude.{◌≡◌, ◌≢◌, ◌≤◌, ◌++◌, ℕ, [], All, IfErr, IfOk, OnOk, length};
 ghost use Rattle.std.specs.Io.KnownBytes.{Appends, Keeps};
 ghost use Rattle.participants.specs.Relations.{name_of};
 ghost use Rattle.venue_rules.specs.Facts.{no_history};
@@ -14,6 +14,7 @@ ghost use Rattle.desk_log.specs.Compares.{Agrees, Compares, HasNone, IsRefused};
 ghost use Rattle.desk_log.specs.Frames.{first_broken as first_broken_of, separated};
 ghost use Rattle.desk_log.specs.Reading.{IsReading};
 ghost use Rattle.desk_log.specs.Report as specs;
+ghost use Rattle.desk_log.specs.Times.{times_text};
 
 use crate::comparing::{Compared, Comparison, agreed, comparison_of};
 use crate::fault::{LogFault, NoLog};
@@ -22,6 +23,7 @@ use crate::numbered::Ends;
 use crate::owed::{Owed, owed_of};
 use crate::reading::{Reading, read};
 use crate::report::report;
+use crate::times::append_times;
 use instruments::Instruments;
 use participants::{Participants, Who};
 use row_replay::rows_have_their_inputs;
@@ -101,11 +103,15 @@ fn text_of(
     compared: &Compared,
     owed: &[Owed],
     reading: &Reading,
+    rows: &[TrailRow],
 ) -> Result<Vec<u8>, AllocError>
-    ensures { IfOk result (λ text. text.items ≡ specs.report participants.now.venue (name_of participants.now who) log.now compared.now owed.now reading.now) }
+    ensures { IfOk result (λ text. text.items ≡ specs.report participants.now.venue (name_of participants.now who) log.now compared.now owed.now reading.now
+        ++ times_text participants.now.venue (name_of participants.now who) log.now compared.now.comparison rows.now reading.now) }
 {
     let ends = ends_of(participants, who);
-    report(alloc, &ends, log, compared, owed, reading)
+    let mut text = report(alloc, &ends, log, compared, owed, reading)?;
+    append_times(&mut text, &ends, log, compared.comparison, rows, reading)?;
+    Ok(text)
 }
 
 fn write_text<W: Write>(text: &[u8], writer: &mut W) -> Result<(), LogFault>
@@ -150,6 +156,7 @@ fn compare_on<W: Write>(
         &compared,
         owed.as_slice(),
         &reading,
+        rows,
     )?;
     write_text(text.as_slice(), writer)?;
     Ok(compared.comparison)

@@ -1,16 +1,19 @@
 //! What is printed of a comparison.
 
 ghost use Rattle.std.specs.Prelude.{◌≡◌, ◌++◌, OnOk, IfOk, option_map, slice_get};
+ghost use Rattle.message_words.specs.Visible.{readable};
+ghost use Rattle.desk_log.specs.Numbered.{text_at};
 ghost use Rattle.desk_log.specs.Report as specs;
 
 use crate::comparing::{Compared, Comparison};
 use crate::frames::{BrokenFrame, FrameFault, Span, first_broken, line_of, outside};
-use crate::gap::{append_gap, message_at};
+use crate::gap::{append_gaps, message_at};
 use crate::numbered::{Ends, Place, text_at};
 use crate::once::Conflict;
 use crate::owed::Owed;
 use crate::parts::{Part, append_parts};
 use crate::reading::Reading;
+use message_words::readable_text;
 use std::alloc::{AllocError, Global};
 
 fn append_all(out: &mut Vec<u8>, owed: usize, desk: &[u8]) -> Result<(), AllocError>
@@ -199,28 +202,37 @@ fn append_differs_head(
     out.extend_from_slice(b"then the log differs\n")
 }
 
-fn append_owed_row(out: &mut Vec<u8>, owed: &Owed) -> Result<(), AllocError>
+fn append_owed_row(alloc: Global, out: &mut Vec<u8>, owed: &Owed) -> Result<(), AllocError>
     ensures { OnOk result (out.new.items ≡ out.old.items ++ specs.owed_row owed.now) }
 {
+    let text = readable_text(alloc, owed.text.as_slice())?;
     append_parts(
         out,
         &[
             Part::Bytes(b"    owed at row "),
             Part::Number(owed.row),
             Part::Bytes(b": "),
-            Part::Fix(owed.text.as_slice()),
+            Part::Bytes(text.as_slice()),
             Part::Bytes(b"\n"),
         ],
     )
 }
 
-fn append_owed(out: &mut Vec<u8>, owed: &[Owed], at: usize) -> Result<(), AllocError>
+fn append_owed(alloc: Global, out: &mut Vec<u8>, owed: &[Owed], at: usize) -> Result<(), AllocError>
     ensures { OnOk result (out.new.items ≡ out.old.items ++ specs.owed_line (slice_get owed.now at)) }
 {
     match owed.get(at) {
-        Some(owed) => append_owed_row(out, owed),
+        Some(owed) => append_owed_row(alloc, out, owed),
         None => out.extend_from_slice(b"    owed: nothing more\n"),
     }
+}
+
+/// The text of a message of the log, with no byte that is not printed.
+fn readable_at(alloc: Global, log: &[u8], span: Span) -> Result<Vec<u8>, AllocError>
+    ensures { IfOk result (λ text. text.items ≡ readable (text_at log.now span)) }
+{
+    let text = text_at(alloc, log, span)?;
+    readable_text(alloc, text.as_slice())
 }
 
 fn append_logged(
@@ -231,7 +243,7 @@ fn append_logged(
 ) -> Result<(), AllocError>
     ensures { OnOk result (out.new.items ≡ out.old.items ++ specs.logged_line log.now logged.now) }
 {
-    let text = text_at(alloc, log, logged.1)?;
+    let text = readable_at(alloc, log, logged.1)?;
     append_parts(
         out,
         &[
@@ -242,7 +254,7 @@ fn append_logged(
             Part::Bytes(b", line "),
             Part::Number(line_of(logged.1.start, log) as u64),
             Part::Bytes(b": "),
-            Part::Fix(text.as_slice()),
+            Part::Bytes(text.as_slice()),
             Part::Bytes(b"\n"),
         ],
     )
@@ -251,14 +263,14 @@ fn append_logged(
 fn append_text(alloc: Global, out: &mut Vec<u8>, log: &[u8], span: Span) -> Result<(), AllocError>
     ensures { OnOk result (out.new.items ≡ out.old.items ++ specs.text_line log.now span) }
 {
-    let text = text_at(alloc, log, span)?;
+    let text = readable_at(alloc, log, span)?;
     append_parts(
         out,
         &[
             Part::Bytes(b"    line "),
             Part::Number(line_of(span.start, log) as u64),
             Part::Bytes(b": "),
-            Part::Fix(text.as_slice()),
+            Part::Bytes(text.as_slice()),
             Part::Bytes(b"\n"),
         ],
     )
@@ -330,8 +342,8 @@ fn append_difference(
     ensures { OnOk result (out.new.items ≡ out.old.items ++ specs.differs_lines count log.now desk.now owed.now reading.now.frames.items reading.now.once.items) }
 {
     append_differs_head(out, count, owed.len(), desk)?;
-    append_gap(alloc, out, count, log, owed, reading)?;
-    append_owed(out, owed, count)?;
+    append_gaps(alloc, out, count, log, owed, reading)?;
+    append_owed(alloc, out, owed, count)?;
     append_logged_at(alloc, out, log, reading, count)
 }
 
@@ -355,7 +367,7 @@ fn append_part(
 {
     append_part_head(out, count, owed.len(), desk)?;
     append_part_rows(out, count, owed)?;
-    append_gap(alloc, out, count, log, owed, reading)
+    append_gaps(alloc, out, count, log, owed, reading)
 }
 
 /// Appends what a comparison says.
