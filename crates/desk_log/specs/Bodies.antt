@@ -25,8 +25,8 @@ is_session body =
     is_kind (codes "0") body || (is_kind (codes "1") body || (is_kind (codes "2") body || (is_kind (codes "3") body
     || (is_kind (codes "4") body || (is_kind (codes "5") body || is_kind (codes "A") body)))))
 
--- A Logon that does not go on behind the greatest number so far, or that says so (141=Y): both sides number from 1 again,
--- as a venue that was restarted does.
+-- A Logon that does not go on behind the greatest number so far, or that says so (141=Y): both sides number from 1
+-- again, as a venue that was restarted does.
 abbrev pub begins_era : (greatest number : ℕ) → List ℕ → Bool
 begins_era greatest number body = is_kind (codes "A") body && (nat_le number greatest || is_piece (codes "141=") (codes "Y") body)
 

@@ -1,5 +1,5 @@
--- What is printed of the bytes of a log, and of a message that is owed, is one line: whoever writes a log writes no line
--- of the output.
+-- What is printed of the bytes of a log, and of a message that is owed, is one line: whoever writes a log writes no
+-- line of the output.
 use Rattle.std.specs.Prelude.{◌≡◌, ℕ, ◌==◌, ◌&&◌, ◌||◌, Bool, true, false, nat_le, List, [], ◌∷◌, Option}
 use Rattle.desk_log.specs.declared.frames.Span.{Span}
 use Rattle.desk_log.specs.declared.missing.Missing.{Missing}

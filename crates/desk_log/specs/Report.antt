@@ -86,8 +86,8 @@ differs_head count n desk =
     first_received count n desk ++ codes "then the log differs\n")
 
 -- Numbers that no frame of the log has, between the messages that agree and what comes then, gap by gap. Where the log
--- goes on in the same era with the message that is owed just as many further as all of them are, these numbers are those
--- of the messages that are owed in between, in their order.
+-- goes on in the same era with the message that is owed just as many further as all of them are, these numbers are
+-- those of the messages that are owed in between, in their order.
 
 abbrev pub before_at : List Logged → ℕ → Option Logged
 before_at once count = if count == 0 then None else slice_get once (count - 1)

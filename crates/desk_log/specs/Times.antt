@@ -1,8 +1,8 @@
--- When the frames of a log were sent, by themselves, and when the rows of the trail were taken: a log of another day, or
--- of a part of one, is told.
+-- When the frames of a log were sent, as they say, and when the rows of the trail were taken: it shows a log of another
+-- day, or of a part of one.
 --
---       the frames from SEF to BETA were sent from 20250303-14:29:50.000 to 20250303-14:30:41.000; the trail's rows are of
---         20250303-14:30:00.000 to 20250303-14:30:41.000
+--       the frames from SEF to BETA were sent from 20250303-14:29:50.000 to 20250303-14:30:41.000;
+--         the trail's rows are of 20250303-14:30:00.000 to 20250303-14:30:41.000
 --       12 of these application messages were sent before the first row: the log begins before the trail
 --       the log begins after the first row: what was owed before may stand in an earlier log
 --       the log ends before the last row: what was owed after may stand in a later log

@@ -107,7 +107,8 @@ fn numbered_as(era: usize, number: u64, body: &[u8], span: Span) -> Numbered
     }
 }
 
-/// Appends the frame with this body, if it is from the one to the other. Returns the latest era and its greatest number.
+/// Appends the frame with this body, if it is from the one to the other. Returns the latest era and its greatest
+/// number.
 fn append_numbered(
     ends: &Ends,
     log: &[u8],

@@ -75,10 +75,10 @@ fn write_head<W: Write>(writer: &mut W) -> Result<(), ComparisonFault>
     )
 }
 
-/// Prints how the answers to the rows of a trail differ where they are answered by other rules (B) than its own (A): each
-/// row with other answers, with both; how many these are; the trades of A that B has not, those that B has and A has not,
-/// and how many. Returns whether all answers are the same. Where an allocation fails the output is nothing, or a first
-/// part.
+/// Prints how the answers to the rows of a trail differ where they are answered by other rules (B) than its own (A):
+/// each row with other answers, with both; how many these are; the trades of A that B has not, those that B has and A
+/// has not, and how many. Returns whether all answers are the same. Where an allocation fails the output is nothing, or
+/// a first part.
 #[tactic(auto, using(crate::proofs::BothRuns::behind_head, crate::proofs::BothRuns::begun_behind))]
 pub fn print_under<W: Write>(
     alloc: Global,
