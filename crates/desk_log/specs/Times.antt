@@ -6,7 +6,7 @@
 --       12 of these application messages were sent before the first row: the log begins before the trail
 --       the log begins after the first row: what was owed before may stand in an earlier log
 --       the log ends before the last row: what was owed after may stand in a later log
-use Rattle.std.specs.Prelude.{ℕ, ◌-◌, ◌==◌, Bool, true, false, nat_lt, List, [], ◌∷◌, ◌++◌, length, slice_get, Option, Some, None, Result, Ok, Err, if◌then◌else◌, decimal, codes}
+use Rattle.std.specs.Prelude.{ℕ, ◌-◌, ◌==◌, Bool, false, nat_lt, List, [], ◌∷◌, ◌++◌, length, slice_get, Option, Some, None, Result, Ok, Err, if◌then◌else◌, decimal, codes}
 use Rattle.std.specs.List.{count_by}
 use Rattle.sef_moment.specs.Utc.{utc_text}
 use Rattle.fix_fields.specs.Forms.{moment_in}

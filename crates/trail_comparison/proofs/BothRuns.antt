@@ -1,7 +1,7 @@
 -- The runs of the same rows in two markets.
-use Rattle.std.proofs.Common.{◌≡◌, ◌⊎◌, inl, inr, ℕ, ◌==◌, Bool, List, ◌++◌, length, Option, sym, ap, ◌∙◌, subst, append_assoc}
+use Rattle.std.proofs.Common.{◌≡◌, inr, ℕ, ◌==◌, Bool, List, ◌++◌, length, Option, sym, ap, ◌∙◌, subst, append_assoc}
 use Rattle.std.proofs.KnownBytes.{Appends-trans}
-use Rattle.std.specs.Io.KnownBytes.{Appends, Keeps}
+use Rattle.std.specs.Io.KnownBytes.{Appends}
 use Rattle.venue_rules.specs.declared.trail.TrailRow.{TrailRow}
 use Rattle.venue_rules.specs.Facts.{History}
 use Rattle.venue_rules.specs.Market.{Market}
@@ -10,9 +10,9 @@ use Rattle.venue_rules.specs.Run.{run}
 use Rattle.venue_core.specs.State.{State}
 use Rattle.venue_core.specs.VenueFacts.{IsHistory}
 use Rattle.row_replay.specs.Laws.{AreTheirs}
-use Rattle.trail_comparison.specs.Differences.{AreReplayed, BeginsRows, answers_text, count_line, differences, differences_text}
+use Rattle.trail_comparison.specs.Differences.{AreReplayed, BeginsRows, count_line, differences, differences_text}
 use Rattle.trail_comparison.specs.Trades.{trades_text}
-use Rattle.trail_comparison.specs.Under.{BeginsUnder, EmitsRuns, EmitsUnder, IsBegun, head, run_trades}
+use Rattle.trail_comparison.specs.Under.{EmitsRuns, EmitsUnder, IsBegun, head, run_trades}
 
 -- what the last lines are, whatever the histories of the venues
 abbrev pub AreLast : State → State → ℕ → ℕ → List ℕ → Type 0

@@ -4,7 +4,7 @@ use Rattle.std.specs.Io.KnownBytes.{Appends}
 use Rattle.venue_rules.specs.Market.{Market}
 use Rattle.venue_rules.specs.declared.trail.TrailRow.{TrailRow}
 use Rattle.trail_digest.specs.Comparison.{AreShared, Side, comparison_text, same_rules}
-use Rattle.trail_digest.specs.Trail.{Trail, trail_of}
+use Rattle.trail_digest.specs.Trail.{trail_of}
 use Rattle.trail_comparison.specs.declared.day.Day as lent
 use Rattle.trail_comparison.specs.Differences.{AreAnswers, BeginsRows}
 

@@ -1,4 +1,4 @@
-use Rattle.std.proofs.Common.{◌≡◌, ◌++◌, ℕ, List, length, ap, ◌∙◌, arith}
+use Rattle.std.proofs.Common.{◌≡◌, ◌++◌, ℕ, length, ap, ◌∙◌, arith}
 use Rattle.trail_comparison.specs.Trades.{alone_at, trade_lines}
 use Rattle.trail_comparison.proofs.Alone.{one_more_count, one_more_text}
 use Rattle.trail_comparison.proofs.trades.append_alone.Goals as goal
