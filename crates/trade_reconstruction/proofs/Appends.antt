@@ -1,5 +1,5 @@
 -- Texts appended one after another.
-use Rattle.std.proofs.Common.{◌≡◌, ◌++◌, ◌∙◌, ◌∷◌, ◌+◌, ◌<◌, [], ℕ, List, ap, get_or, length, sym, take, append-nil, append_assoc}
+use Rattle.std.proofs.Common.{◌≡◌, ◌++◌, ◌∙◌, ◌∷◌, ◌+◌, ◌<◌, [], ℕ, zero, suc, refl, arith, List, ap, get_or, length, sym, take, append-nil, append_assoc}
 use Rattle.std.specs.List.{flat_map}
 use Rattle.std.proofs.lemmas.List.{take_more}
 
@@ -62,3 +62,9 @@ pub one_more : {A B : Type 0} (f : A → List B) (old : List B) (xs : List A) (k
 one_more f old xs k x low at =
     append_assoc old (flat_map f (take k xs)) (f x)
     ∙ ap (λ l. old ++ l) (sym (flat_more f (take k xs) x) ∙ ap (flat_map f) (ap (λ y. take k xs ++ y ∷ []) at ∙ sym (take_more xs k x low)))
+
+-- within a list the default of a look-up does not matter
+pub any_default : {A : Type 0} (xs : List A) (k : ℕ) (a b : A) → k < length xs → get_or xs k a ≡ get_or xs k b
+any_default [] k a b low = absurd (omega (arith, low))
+any_default (x ∷ xs) zero a b low = refl
+any_default (x ∷ xs) (suc k) a b low = any_default xs k a b (omega (arith, low))

@@ -25,7 +25,7 @@ use Rattle.trade_reconstruction.specs.declared.unrelated.Three.{Three}
 use Rattle.trade_reconstruction.specs.Found.{HasRequest}
 use Rattle.trade_reconstruction.specs.Unrelated.{three_of}
 use Rattle.trade_reconstruction.proofs.Threes.{recipients_are, three_found}
-use Rattle.trade_reconstruction.specs.Lines.{evidence, is_asked, is_asked_said, is_sought, last_lines, lines_in, request_line, room_found_said, room_of as lines_of_room, room_word, three_if, three_line, three_text, trade_row, recipients_of}
+use Rattle.trade_reconstruction.specs.Lines.{evidence, is_asked, is_asked_said, is_sought, last_lines, lines_in, request_line, room_found_said, room_of as lines_of_room, three_if, three_line, three_text, trade_row, recipients_of, words_lines}
 use Rattle.venue_core.specs.Replay.{AreEmitted}
 use Rattle.trade_reconstruction.specs.Emitted.{trade_numbered, words_emitted}
 use Rattle.trade_reconstruction.proofs.Members.{Contains-from_In, In, In-append_cases, In-append_left, In-filter_map, In-from_Contains, In-map, Places, Places-above, Places-from, Places-unmap, found_first, found_past, found_picked, kept_all, kept_none, none_is_some, picked_from, picked_passes, same_some}
@@ -172,14 +172,14 @@ one_of [] many = absurd (omega (arith, many))
 one_of (to ∷ others) many = (to, others, refl)
 
 -- the evidence for a room trade is that of the room of this request
-room_evidence : (m : Market) (rs : List TrailRow) (words : List EvidenceEvent) (noted : List ℕ) (t : TradeFact) (room : ℕ) (w : EvidenceEvent) (a : Asked) → t.room ≡ Some room → find (is_sought (Request room)) words ≡ Some w → w.said ≡ said.Asked a
-    → evidence m rs words noted t ≡ (request_line rs m.participants w a ++ (three_line m.participants words w a ++ flat_map (room_word rs m.participants words a) words)) ++ (noted ++ last_lines m t (trade_row words t))
+room_evidence : (m : Market) (rs : List TrailRow) (words stood : List EvidenceEvent) (noted : List ℕ) (t : TradeFact) (room : ℕ) (w : EvidenceEvent) (a : Asked) → t.room ≡ Some room → find (is_sought (Request room)) words ≡ Some w → w.said ≡ said.Asked a
+    → evidence m rs words stood noted t ≡ (request_line rs m.participants w a ++ (three_line m.participants words w a ++ words_lines rs m.participants words a)) ++ (noted ++ last_lines m rs t (trade_row words t))
 unfolding evidence
-room_evidence m rs words noted t room w a placed found says =
+room_evidence m rs words stood noted t room w a placed found says =
     let file = m.participants in
     let row = trade_row words t in
-    ap (λ (o : Option ℕ). lines_in rs file words t.number o row ++ (noted ++ last_lines m t row)) placed
-    ∙ ap (λ (l : List ℕ). l ++ (noted ++ last_lines m t row)) (ap (lines_of_room rs file words) found ∙ ap (room_found_said rs file words w) says)
+    ap (λ (o : Option ℕ). lines_in rs file words stood t.number o row ++ (noted ++ last_lines m rs t row)) placed
+    ∙ ap (λ (l : List ℕ). l ++ (noted ++ last_lines m rs t row)) (ap (lines_of_room rs file words) found ∙ ap (room_found_said rs file words w) says)
 
 -- the line of three recipients names these three
 named_three : (m : Market) (words : List EvidenceEvent) (w : EvidenceEvent) (a : Asked) (requester room : ℕ) (rs : List ℕ) (x : Three) → a.requester ≡ requester → a.room ≡ room → recipients_of room words ≡ rs → three_of m.participants requester rs ≡ Some x
@@ -189,14 +189,14 @@ named_three m words w a requester room rs x asked_by in_room recipients is =
     ∙ ap (λ (l : List ℕ). three_if m.participants requester (three_of m.participants requester l) w.row) recipients
     ∙ ap (λ (o : Option Three). three_if m.participants requester o w.row) is
 
-has_request : (m : Market) (rs : List TrailRow) (is : List Input) (number : ℕ) (t : TradeFact) → AreEmitted rs is → (p : Opened) → In p (added room_in_fact m no_history rs is) → Places number_of 0 (added room_in_fact m no_history rs is)
-    → 0 < length p.2.recipients → three_unrelated m.participants p.2.requester p.2.recipients ≡ true → t.room ≡ Some (number_of p) → HasRequest m rs is (words_emitted m number rs is) t (number_of p)
-has_request m rs is number t emitted p i places many there_are placed =
-    let words = words_emitted m number rs is in
+has_request : (m : Market) (rs : List TrailRow) (is : List Input) (t : TradeFact) → AreEmitted rs is → (p : Opened) → In p (added room_in_fact m no_history rs is) → Places number_of 0 (added room_in_fact m no_history rs is)
+    → 0 < length p.2.recipients → three_unrelated m.participants p.2.requester p.2.recipients ≡ true → t.room ≡ Some (number_of p) → HasRequest m rs is (words_emitted m rs is) t (number_of p)
+has_request m rs is t emitted p i places many there_are placed =
+    let words = words_emitted m rs is in
     let all = added room_in_fact m no_history rs is in
     let room = number_of p in
     let test : HeardAsked → Bool = λ y. y.room == room in
-    let listed = day_asked m number no_history rs is emitted in
+    let listed = day_asked m no_history rs is emitted in
     let one = one_of p.2.recipients many in
     let w = found_picked asking_in test (is_sought (Request room)) (λ x. asked_test room x x.said) words (emitted_asked m p.0.n p.0.moment p.2 one.0) (ap (find test) listed ∙ first_asked m 0 all places p i one.0 one.1 one.2) in
     let a = asked_in w.0 w.0.said (emitted_asked m p.0.n p.0.moment p.2 one.0) w.2 in
@@ -213,7 +213,7 @@ has_request m rs is number t emitted p i places many there_are placed =
       found = w.1;
       says = a.1;
       here = ap (λ (y : HeardAsked). y.room) a.2;
-      lines = λ noted. room_evidence m rs words noted t room w.0 a.0 placed w.1 a.1;
+      lines = λ stood noted. room_evidence m rs words stood noted t room w.0 a.0 placed w.1 a.1;
       opened = p.2;
       row = p.0;
       input = p.1;
@@ -243,7 +243,7 @@ abbrev pub RoomTradesLaw : Type 0
 RoomTradesLaw = (m : Market) (is : List Input) → RoomTradesAreLawful m is
 
 pub room_trades_have_requests : RoomTradesLaw → PlacesLaw → (m : Market) (rs : List TrailRow) (is : List Input) (number room : ℕ) (t : TradeFact) → AreEmitted rs is
-    → trade_numbered (run m is).history number ≡ Some t → t.room ≡ Some room → HasRequest m rs is (words_emitted m number rs is) t room
+    → trade_numbered (run m is).history number ≡ Some t → t.room ≡ Some room → HasRequest m rs is (words_emitted m rs is) t room
 room_trades_have_requests law numbers m rs is number room t emitted numbered placed =
     let facts = (run m is).history.facts in
     let x = numbered_trade (trades facts) 1 (number - 1) t (numbered_at (trade_facts facts) number t numbered) in
@@ -262,7 +262,7 @@ room_trades_have_requests law numbers m rs is number room t emitted numbered pla
     let there_are : three_unrelated m.participants p.0.2.requester p.0.2.recipients ≡ true =
     subst (λ (r : Room). three_unrelated m.participants r.requester r.recipients ≡ true) (sym p.2) (test-from_ThreeUnrelated m.participants lawful.asked.requester lawful.asked.recipients lawful.three_unrelated) in
     let same_room : number_of p.0 ≡ room = ap (λ (r : Room). r.number) p.2 ∙ lawful.number in
-    subst (HasRequest m rs is (words_emitted m number rs is) t) same_room (has_request m rs is number t emitted p.0 p.1 places some there_are (placed ∙ ap (λ (n : ℕ). Some n) (sym same_room)))
+    subst (HasRequest m rs is (words_emitted m rs is) t) same_room (has_request m rs is t emitted p.0 p.1 places some there_are (placed ∙ ap (λ (n : ℕ). Some n) (sym same_room)))
   where
     from_zero : (k : ℕ) → k + 1 ≡ 0 + k + 1
     from_zero k = omega arith

@@ -16,13 +16,11 @@ use Rattle.venue_rules.specs.Facts.{History, entries, entry_in as entry_in_fact,
 use Rattle.venue_rules.specs.Market.{Market}
 use Rattle.venue_rules.specs.Run.{Input, after, answer_input, run_from}
 use Rattle.trade_reconstruction.specs.declared.evidence_event.EvidenceEvent.{EvidenceEvent}
-use Rattle.trade_reconstruction.specs.EventKinds.{words_of}
-use Rattle.trade_reconstruction.specs.Standing.{stood_at}
 use Rattle.venue_core.specs.Replay.{AreEmitted, Emits}
 use Rattle.trade_reconstruction.specs.Found.{original_emitted}
 use Rattle.trade_reconstruction.specs.Emitted.{came_of, words_at, words_from}
 use Rattle.trade_reconstruction.proofs.Members.{In, In-append_cases, In-map}
-use Rattle.trade_reconstruction.proofs.Says.{HeardAsked, HeardEntry, HeardFill, HeardHit, HeardHold, IsDeaf, asking-deaf, asking_in, askings_say, entries_say, entry-deaf, entry_in, fill-deaf, fill_in, fills_say, hits_say, hold-deaf, hold_in, holds_say, stood_silent, traded-deaf, traded_in}
+use Rattle.trade_reconstruction.proofs.Says.{HeardAsked, HeardEntry, HeardFill, HeardHit, HeardHold, asking_in, askings_say, entries_say, entry_in, fill_in, fills_say, hits_say, hold_in, holds_say, traded_in}
 use Rattle.trade_reconstruction.proofs.Replies.{asked_emitted, at_row, fills_emitted, here, hits_of, hits_emitted, input-Says, is_tick_input, pair_emitted, emitted_entry, emitted_hold}
 
 -- the facts of a kind that the answers of a day added, each with its row and input
@@ -80,45 +78,37 @@ is_added {X} pick m h (r ∷ rs) (j ∷ js) emitted p i =
 
 -- The events of a day, by those of each row.
 
-pub day_says : {Y : Type 0} (pick : EvidenceEvent → Option Y) (out : History → List TrailRow → List Input → List Y) (m : Market) (number : ℕ) → ((h : History) → out h [] [] ≡ [])
-    → ((h : History) (words : List EvidenceEvent) (r : TrailRow) (i : Input) (rs : List TrailRow) (is : List Input) → Emits r i → filter_map pick (words_at m h number words r i) ++ out (after h (answer_input m h i)) rs is ≡ out h (r ∷ rs) (i ∷ is))
-    → (h : History) (words : List EvidenceEvent) (rs : List TrailRow) (is : List Input) → AreEmitted rs is → filter_map pick (words_from m h number words rs is) ≡ filter_map pick words ++ out h rs is
-day_says pick out m number end step h words [] [] emitted = sym (append-nil (filter_map pick words)) ∙ ap (λ l. filter_map pick words ++ l) (sym (end h))
-day_says pick out m number end step h words [] (i ∷ is) emitted = absurd emitted
-day_says pick out m number end step h words (r ∷ rs) [] emitted = absurd emitted
-day_says pick out m number end step h words (r ∷ rs) (i ∷ is) emitted =
+pub day_says : {Y : Type 0} (pick : EvidenceEvent → Option Y) (out : History → List TrailRow → List Input → List Y) (m : Market) → ((h : History) → out h [] [] ≡ [])
+    → ((h : History) (words : List EvidenceEvent) (r : TrailRow) (i : Input) (rs : List TrailRow) (is : List Input) → Emits r i → filter_map pick (words_at m h words r i) ++ out (after h (answer_input m h i)) rs is ≡ out h (r ∷ rs) (i ∷ is))
+    → (h : History) (words : List EvidenceEvent) (rs : List TrailRow) (is : List Input) → AreEmitted rs is → filter_map pick (words_from m h words rs is) ≡ filter_map pick words ++ out h rs is
+day_says pick out m end step h words [] [] emitted = sym (append-nil (filter_map pick words)) ∙ ap (λ l. filter_map pick words ++ l) (sym (end h))
+day_says pick out m end step h words [] (i ∷ is) emitted = absurd emitted
+day_says pick out m end step h words (r ∷ rs) [] emitted = absurd emitted
+day_says pick out m end step h words (r ∷ rs) (i ∷ is) emitted =
     let next = after h (answer_input m h i) in
-    let new = words_at m h number words r i in
-    day_says pick out m number end step next (words ++ new) rs is emitted.1
+    let new = words_at m h words r i in
+    day_says pick out m end step next (words ++ new) rs is emitted.1
     ∙ (ap (λ l. l ++ out next rs is) (filter_map-append pick words new)
     ∙ (append_assoc (filter_map pick words) (filter_map pick new) (out next rs is)
     ∙ ap (λ l. filter_map pick words ++ l) (step h words r i rs is emitted.0)))
-
--- what rested comes first at a row, and nothing is picked of it
-row_says : {Y : Type 0} (pick : EvidenceEvent → Option Y) → IsDeaf pick → (m : Market) (h : History) (number : ℕ) (words : List EvidenceEvent) (r : TrailRow) (i : Input)
-    → filter_map pick (words_at m h number words r i) ≡ filter_map pick (words_of r.n r.moment (came_of m words r.n i) (answer_input m h i).replies)
-row_says pick deaf m h number words r i =
-    let replies = (answer_input m h i).replies in
-    let said = words_of r.n r.moment (came_of m words r.n i) replies in
-    filter_map-append pick (stood_at m h number r.n r.moment replies) said ∙ ap (λ l. l ++ filter_map pick said) (stood_silent pick deaf m h number r.n r.moment replies)
 
 -- entries
 
 abbrev pub entry_at : Market → TrailRow × Input × Entry → HeardEntry
 entry_at m p = emitted_entry m p.0.n p.0.moment (is_tick_input p.1) (original_emitted p.1) p.2
 
-entries_step : (m : Market) (number : ℕ) (h : History) (words : List EvidenceEvent) (r : TrailRow) (i : Input) (rs : List TrailRow) (is : List Input) → Emits r i
-    → filter_map entry_in (words_at m h number words r i) ++ map (entry_at m) (added entry_in_fact m (after h (answer_input m h i)) rs is) ≡ map (entry_at m) (added entry_in_fact m h (r ∷ rs) (i ∷ is))
-entries_step m number h words r i rs is emits =
+entries_step : (m : Market) (h : History) (words : List EvidenceEvent) (r : TrailRow) (i : Input) (rs : List TrailRow) (is : List Input) → Emits r i
+    → filter_map entry_in (words_at m h words r i) ++ map (entry_at m) (added entry_in_fact m (after h (answer_input m h i)) rs is) ≡ map (entry_at m) (added entry_in_fact m h (r ∷ rs) (i ∷ is))
+entries_step m h words r i rs is emits =
     let a = answer_input m h i in
     let rest = added entry_in_fact m (after h a) rs is in
     let new = entries a.facts in
     ap (λ l. l ++ map (entry_at m) rest)
-    (row_says entry_in entry-deaf m h number words r i ∙ (entries_say r.n r.moment (came_of m words r.n i) a.replies ∙ ((input-Says m h words r i emits).0 ∙ sym (map_map (λ (x : Entry). (r, i, x)) (entry_at m) new))))
+    ((entries_say r.n r.moment (came_of m words r.n i) a.replies ∙ ((input-Says m h words r i emits).0 ∙ sym (map_map (λ (x : Entry). (r, i, x)) (entry_at m) new))))
     ∙ sym (map-append (entry_at m) (map (λ (x : Entry). (r, i, x)) new) rest)
 
-pub day_entries : (m : Market) (number : ℕ) (h : History) (rs : List TrailRow) (is : List Input) → AreEmitted rs is → filter_map entry_in (words_from m h number [] rs is) ≡ map (entry_at m) (added entry_in_fact m h rs is)
-day_entries m number h rs is emitted = day_says entry_in (λ k xs ys. map (entry_at m) (added entry_in_fact m k xs ys)) m number (λ k. refl) (entries_step m number) h [] rs is emitted
+pub day_entries : (m : Market) (h : History) (rs : List TrailRow) (is : List Input) → AreEmitted rs is → filter_map entry_in (words_from m h [] rs is) ≡ map (entry_at m) (added entry_in_fact m h rs is)
+day_entries m h rs is emitted = day_says entry_in (λ k xs ys. map (entry_at m) (added entry_in_fact m k xs ys)) m (λ k. refl) (entries_step m) h [] rs is emitted
 
 -- trades
 
@@ -147,21 +137,21 @@ next_trades h fs = ap (λ (ts : List Trade). length ts + 1) (filter_map-append t
     past : (a b : ℕ) → a + b + 1 ≡ a + 1 + b
     past a b = omega arith
 
-fills_step : (m : Market) (number : ℕ) (h : History) (words : List EvidenceEvent) (r : TrailRow) (i : Input) (rs : List TrailRow) (is : List Input) → Emits r i
-    → filter_map fill_in (words_at m h number words r i) ++ fills_emitted (next_trade (after h (answer_input m h i)).facts) (map trade_at (added trade_in_fact m (after h (answer_input m h i)) rs is))
+fills_step : (m : Market) (h : History) (words : List EvidenceEvent) (r : TrailRow) (i : Input) (rs : List TrailRow) (is : List Input) → Emits r i
+    → filter_map fill_in (words_at m h words r i) ++ fills_emitted (next_trade (after h (answer_input m h i)).facts) (map trade_at (added trade_in_fact m (after h (answer_input m h i)) rs is))
     ≡ fills_emitted (next_trade h.facts) (map trade_at (added trade_in_fact m h (r ∷ rs) (i ∷ is)))
-fills_step m number h words r i rs is emits =
+fills_step m h words r i rs is emits =
     let a = answer_input m h i in
     let rest = map trade_at (added trade_in_fact m (after h a) rs is) in
     let new = trades a.facts in
     let at = at_row r.n new in
-    ap (λ l. l ++ fills_emitted (next_trade (after h a).facts) rest) (row_says fill_in fill-deaf m h number words r i ∙ (fills_say r.n r.moment (came_of m words r.n i) a.replies ∙ (input-Says m h words r i emits).1.0))
+    ap (λ l. l ++ fills_emitted (next_trade (after h a).facts) rest) ((fills_say r.n r.moment (came_of m words r.n i) a.replies ∙ (input-Says m h words r i emits).1.0))
     ∙ (ap (λ k. fills_emitted (next_trade h.facts) at ++ fills_emitted k rest) (next_trades h a.facts ∙ ap (λ k. next_trade h.facts + k) (sym (length-map new (λ (x : Trade). (r.n, x)))))
     ∙ (fills_more (next_trade h.facts) at rest
     ∙ ap (fills_emitted (next_trade h.facts)) (ap (λ l. l ++ rest) (sym (map_map (λ (x : Trade). (r, i, x)) trade_at new)) ∙ sym (map-append trade_at (map (λ (x : Trade). (r, i, x)) new) (added trade_in_fact m (after h a) rs is)))))
 
-pub day_fills : (m : Market) (number : ℕ) (h : History) (rs : List TrailRow) (is : List Input) → AreEmitted rs is → filter_map fill_in (words_from m h number [] rs is) ≡ fills_emitted (next_trade h.facts) (map trade_at (added trade_in_fact m h rs is))
-day_fills m number h rs is emitted = day_says fill_in (λ k xs ys. fills_emitted (next_trade k.facts) (map trade_at (added trade_in_fact m k xs ys))) m number (λ k. refl) (fills_step m number) h [] rs is emitted
+pub day_fills : (m : Market) (h : History) (rs : List TrailRow) (is : List Input) → AreEmitted rs is → filter_map fill_in (words_from m h [] rs is) ≡ fills_emitted (next_trade h.facts) (map trade_at (added trade_in_fact m h rs is))
+day_fills m h rs is emitted = day_says fill_in (λ k xs ys. fills_emitted (next_trade k.facts) (map trade_at (added trade_in_fact m k xs ys))) m (λ k. refl) (fills_step m) h [] rs is emitted
 
 -- and hits
 
@@ -181,39 +171,39 @@ hits_more trade (x ∷ xs) ys =
     next : (k l : ℕ) → k + suc l ≡ k + 1 + l
     next k l = omega arith
 
-hits_step : (m : Market) (number : ℕ) (h : History) (words : List EvidenceEvent) (r : TrailRow) (i : Input) (rs : List TrailRow) (is : List Input) → Emits r i
-    → filter_map traded_in (words_at m h number words r i) ++ hits_emitted (next_trade (after h (answer_input m h i)).facts) (map trade_at (added trade_in_fact m (after h (answer_input m h i)) rs is))
+hits_step : (m : Market) (h : History) (words : List EvidenceEvent) (r : TrailRow) (i : Input) (rs : List TrailRow) (is : List Input) → Emits r i
+    → filter_map traded_in (words_at m h words r i) ++ hits_emitted (next_trade (after h (answer_input m h i)).facts) (map trade_at (added trade_in_fact m (after h (answer_input m h i)) rs is))
     ≡ hits_emitted (next_trade h.facts) (map trade_at (added trade_in_fact m h (r ∷ rs) (i ∷ is)))
-hits_step m number h words r i rs is emits =
+hits_step m h words r i rs is emits =
     let a = answer_input m h i in
     let rest = map trade_at (added trade_in_fact m (after h a) rs is) in
     let new = trades a.facts in
     let at = at_row r.n new in
-    ap (λ l. l ++ hits_emitted (next_trade (after h a).facts) rest) (row_says traded_in traded-deaf m h number words r i ∙ (hits_say r.n r.moment (came_of m words r.n i) a.replies ∙ (input-Says m h words r i emits).1.1.1.1.1.0))
+    ap (λ l. l ++ hits_emitted (next_trade (after h a).facts) rest) ((hits_say r.n r.moment (came_of m words r.n i) a.replies ∙ (input-Says m h words r i emits).1.1.1.1.1.0))
     ∙ (ap (λ k. hits_emitted (next_trade h.facts) at ++ hits_emitted k rest) (next_trades h a.facts ∙ ap (λ k. next_trade h.facts + k) (sym (length-map new (λ (x : Trade). (r.n, x)))))
     ∙ (hits_more (next_trade h.facts) at rest
     ∙ ap (hits_emitted (next_trade h.facts)) (ap (λ l. l ++ rest) (sym (map_map (λ (x : Trade). (r, i, x)) trade_at new)) ∙ sym (map-append trade_at (map (λ (x : Trade). (r, i, x)) new) (added trade_in_fact m (after h a) rs is)))))
 
-pub day_hits : (m : Market) (number : ℕ) (h : History) (rs : List TrailRow) (is : List Input) → AreEmitted rs is → filter_map traded_in (words_from m h number [] rs is) ≡ hits_emitted (next_trade h.facts) (map trade_at (added trade_in_fact m h rs is))
-day_hits m number h rs is emitted = day_says traded_in (λ k xs ys. hits_emitted (next_trade k.facts) (map trade_at (added trade_in_fact m k xs ys))) m number (λ k. refl) (hits_step m number) h [] rs is emitted
+pub day_hits : (m : Market) (h : History) (rs : List TrailRow) (is : List Input) → AreEmitted rs is → filter_map traded_in (words_from m h [] rs is) ≡ hits_emitted (next_trade h.facts) (map trade_at (added trade_in_fact m h rs is))
+day_hits m h rs is emitted = day_says traded_in (λ k xs ys. hits_emitted (next_trade k.facts) (map trade_at (added trade_in_fact m k xs ys))) m (λ k. refl) (hits_step m) h [] rs is emitted
 
 -- held sides
 
 abbrev pub hold_at : TrailRow × Input × HeldSide → HeardHold
 hold_at p = emitted_hold p.2
 
-holds_step : (m : Market) (number : ℕ) (h : History) (words : List EvidenceEvent) (r : TrailRow) (i : Input) (rs : List TrailRow) (is : List Input) → Emits r i
-    → filter_map hold_in (words_at m h number words r i) ++ map hold_at (added held_in_fact m (after h (answer_input m h i)) rs is) ≡ map hold_at (added held_in_fact m h (r ∷ rs) (i ∷ is))
-holds_step m number h words r i rs is emits =
+holds_step : (m : Market) (h : History) (words : List EvidenceEvent) (r : TrailRow) (i : Input) (rs : List TrailRow) (is : List Input) → Emits r i
+    → filter_map hold_in (words_at m h words r i) ++ map hold_at (added held_in_fact m (after h (answer_input m h i)) rs is) ≡ map hold_at (added held_in_fact m h (r ∷ rs) (i ∷ is))
+holds_step m h words r i rs is emits =
     let a = answer_input m h i in
     let rest = added held_in_fact m (after h a) rs is in
     let new = held_sides a.facts in
     ap (λ l. l ++ map hold_at rest)
-    (row_says hold_in hold-deaf m h number words r i ∙ (holds_say r.n r.moment (came_of m words r.n i) a.replies ∙ ((input-Says m h words r i emits).1.1.0 ∙ sym (map_map (λ (x : HeldSide). (r, i, x)) hold_at new))))
+    ((holds_say r.n r.moment (came_of m words r.n i) a.replies ∙ ((input-Says m h words r i emits).1.1.0 ∙ sym (map_map (λ (x : HeldSide). (r, i, x)) hold_at new))))
     ∙ sym (map-append hold_at (map (λ (x : HeldSide). (r, i, x)) new) rest)
 
-pub day_holds : (m : Market) (number : ℕ) (h : History) (rs : List TrailRow) (is : List Input) → AreEmitted rs is → filter_map hold_in (words_from m h number [] rs is) ≡ map hold_at (added held_in_fact m h rs is)
-day_holds m number h rs is emitted = day_says hold_in (λ k xs ys. map hold_at (added held_in_fact m k xs ys)) m number (λ k. refl) (holds_step m number) h [] rs is emitted
+pub day_holds : (m : Market) (h : History) (rs : List TrailRow) (is : List Input) → AreEmitted rs is → filter_map hold_in (words_from m h [] rs is) ≡ map hold_at (added held_in_fact m h rs is)
+day_holds m h rs is emitted = day_says hold_in (λ k xs ys. map hold_at (added held_in_fact m k xs ys)) m (λ k. refl) (holds_step m) h [] rs is emitted
 
 -- recipients
 
@@ -228,15 +218,15 @@ flat_map_map : {X Y Z : Type 0} (f : X → Y) (g : Y → List Z) (xs : List X) �
 flat_map_map f g [] = refl
 flat_map_map f g (x ∷ xs) = ap (λ l. g (f x) ++ l) (flat_map_map f g xs)
 
-asked_step : (m : Market) (number : ℕ) (h : History) (words : List EvidenceEvent) (r : TrailRow) (i : Input) (rs : List TrailRow) (is : List Input) → Emits r i
-    → filter_map asking_in (words_at m h number words r i) ++ flat_map (asked_at m) (added room_in_fact m (after h (answer_input m h i)) rs is) ≡ flat_map (asked_at m) (added room_in_fact m h (r ∷ rs) (i ∷ is))
-asked_step m number h words r i rs is emits =
+asked_step : (m : Market) (h : History) (words : List EvidenceEvent) (r : TrailRow) (i : Input) (rs : List TrailRow) (is : List Input) → Emits r i
+    → filter_map asking_in (words_at m h words r i) ++ flat_map (asked_at m) (added room_in_fact m (after h (answer_input m h i)) rs is) ≡ flat_map (asked_at m) (added room_in_fact m h (r ∷ rs) (i ∷ is))
+asked_step m h words r i rs is emits =
     let a = answer_input m h i in
     let rest = added room_in_fact m (after h a) rs is in
     let new = rooms a.facts in
     ap (λ l. l ++ flat_map (asked_at m) rest)
-    (row_says asking_in asking-deaf m h number words r i ∙ (askings_say r.n r.moment (came_of m words r.n i) a.replies ∙ ((input-Says m h words r i emits).1.1.1.1.1.1.1 ∙ sym (flat_map_map (λ (x : Room). (r, i, x)) (asked_at m) new))))
+    ((askings_say r.n r.moment (came_of m words r.n i) a.replies ∙ ((input-Says m h words r i emits).1.1.1.1.1.1.1 ∙ sym (flat_map_map (λ (x : Room). (r, i, x)) (asked_at m) new))))
     ∙ sym (flat_map_more (asked_at m) (map (λ (x : Room). (r, i, x)) new) rest)
 
-pub day_asked : (m : Market) (number : ℕ) (h : History) (rs : List TrailRow) (is : List Input) → AreEmitted rs is → filter_map asking_in (words_from m h number [] rs is) ≡ flat_map (asked_at m) (added room_in_fact m h rs is)
-day_asked m number h rs is emitted = day_says asking_in (λ k xs ys. flat_map (asked_at m) (added room_in_fact m k xs ys)) m number (λ k. refl) (asked_step m number) h [] rs is emitted
+pub day_asked : (m : Market) (h : History) (rs : List TrailRow) (is : List Input) → AreEmitted rs is → filter_map asking_in (words_from m h [] rs is) ≡ flat_map (asked_at m) (added room_in_fact m h rs is)
+day_asked m h rs is emitted = day_says asking_in (λ k xs ys. flat_map (asked_at m) (added room_in_fact m k xs ys)) m (λ k. refl) (asked_step m) h [] rs is emitted

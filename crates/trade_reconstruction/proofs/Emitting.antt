@@ -1,5 +1,7 @@
 -- The evidence for a trade.
-use Rattle.std.proofs.Common.{◌≡◌, ℕ, List, Option, Some, None, Result, Ok, Err, refl, sym, subst, ◌∙◌}
+use Rattle.std.proofs.Common.{◌≡◌, ℕ, zero, suc, ◌+◌, ◌-◌, ◌==◌, true, false, if◌then◌else◌, List, [], ◌∷◌, ◌++◌, codes, map, length, slice_get, Option, Some, None, Result, Ok, Err, refl, sym, ap, subst, ◌∙◌, eq-eqb, ne_eqb, arith}
+use Rattle.std.proofs.lemmas.List.{length-map}
+use Rattle.std.specs.List.{flat_map}
 use Rattle.std.specs.Bool.{⊤}
 use Rattle.std.specs.Result.{IfErr, IsErrAnd}
 use Rattle.std.specs.Io.KnownBytes.{Appends, Keeps}
@@ -7,6 +9,7 @@ use Rattle.venue_rules.specs.declared.trail.TradeFact.{TradeFact}
 use Rattle.venue_rules.specs.declared.trail.TrailRow.{TrailRow}
 use Rattle.venue_rules.specs.Facts.{History}
 use Rattle.venue_rules.specs.Market.{Market}
+use Rattle.venue_rules.specs.Readings.{trade_facts}
 use Rattle.venue_rules.specs.Run.{Input, rows, run}
 use Rattle.venue_core.specs.Replay.{AreFitting, AreEmitted}
 use Rattle.venue_core.specs.VenueFacts.{IsHistory}
@@ -15,10 +18,13 @@ use Rattle.trade_reconstruction.specs.declared.evidence.EvidenceFault.{EvidenceF
 use Rattle.trade_reconstruction.specs.declared.evidence.EvidenceFault.TheVariants.{Memory, NoTrade, Output}
 use Rattle.trade_reconstruction.specs.declared.evidence_event.EvidenceEvent.{EvidenceEvent}
 use Rattle.trade_reconstruction.specs.Laws.{BookTradesHaveOrders, RoomTradesHaveRequests, TradesHaveRows}
-use Rattle.trade_reconstruction.specs.declared.quote_note.QuoteNote.{QuoteNote}
+use Rattle.trade_reconstruction.specs.declared.quote_note.Ended.{Ended}
+use Rattle.trade_reconstruction.specs.declared.trade_notes.TradeNotes.{TradeNotes}
 use Rattle.trade_reconstruction.specs.Lines.{evidence}
-use Rattle.trade_reconstruction.specs.NoteLines.{note_lines}
-use Rattle.trade_reconstruction.specs.Emitted.{AreOf, HasNoTrade, IsEvidence, IsHeard, EmitsTrade, UnlessWriting, trade_numbered}
+use Rattle.trade_reconstruction.specs.NoteLines.{fate_lines}
+use Rattle.trade_reconstruction.specs.Standing.{is_watched}
+use Rattle.trade_reconstruction.specs.Emitted.{AreJoined, AreOf, EmitsTrade, EmitsTrades, HasNoTrade, IsEvidence, IsEvidenceIn, IsHeard, UnlessWriting, behind, evidence_by, fates_for, joined, numbered_in, stood_for, trade_numbered, words_emitted}
+use Rattle.trade_reconstruction.proofs.Members.{none_is_some, same_some}
 
 -- rows of inputs record these inputs
 abbrev pub EmitTheirInputs : Type 0
@@ -27,25 +33,96 @@ EmitTheirInputs = (rs : List TrailRow) (is emitted : List Input) → rs ≡ rows
 are_of : EmitTheirInputs → (rs : List TrailRow) (items : List Input) → AreEmitted rs items → AreOf rs items
 are_of law rs items emitted = record { emitted = emitted; of_run = λ is same fits. law rs is items same fits emitted }
 
-pub trade_emitted : EmitTheirInputs → RoomTradesHaveRequests → BookTradesHaveOrders → TradesHaveRows → (m : Market) (rs : List TrailRow) (s : State) (words : List EvidenceEvent) (notes : List QuoteNote) (number : ℕ) (trade : TradeFact) (text : List ℕ) → IsHeard m number rs s words notes
-    → ((h : History) → IsHistory s h → Some trade ≡ trade_numbered h number) → text ≡ evidence s.market rs words (note_lines words notes trade) trade → IsEvidence m rs number text
-trade_emitted law requests orders rows_made m rs s words notes number trade text heard numbered is = let found = sym (numbered (run m heard.items).history heard.stands.history) in record {
-  items = heard.items;
-  emitted = are_of law rs heard.items heard.emitted;
+abbrev pub Laws : Type 0
+Laws = RoomTradesHaveRequests × BookTradesHaveOrders × TradesHaveRows
+
+-- the evidence for a trade out of the notes on it
+evidence_in : Laws → (m : Market) (rs : List TrailRow) (watch : Option ℕ) (s : State) (words : List EvidenceEvent) (ended : List Ended) (notes : List TradeNotes) (number : ℕ) (trade : TradeFact) (text : List ℕ) → (heard : IsHeard m watch rs s words ended notes)
+    → is_watched watch number ≡ true → trade_numbered (run m heard.items).history number ≡ Some trade → trade.number ≡ number → text ≡ evidence_by s.market rs words notes trade → IsEvidenceIn m rs heard.items number text
+evidence_in laws m rs watch s words ended notes number trade text heard watched found same is = record {
   trade = trade;
   numbered = found;
-  is = is ∙ (λ k. evidence (heard.stands.market k) rs (heard.said k) (note_lines (heard.said k) (heard.noted k) trade) trade);
-  made = rows_made m rs heard.items number trade heard.emitted found;
-  requested = λ room placed. requests m rs heard.items number room trade heard.emitted found placed;
-  ordered = λ placed. orders m rs heard.items number trade heard.emitted found placed;
+  is = is
+      ∙ (λ k. evidence (heard.stands.market k) rs (heard.said k) (stood_for (same k) notes) (fate_lines (fates_for (same k) notes)) trade)
+      ∙ (λ k. evidence m rs (words_emitted m rs heard.items) (heard.stood number watched k) (fate_lines (heard.fates number watched k)) trade);
+  made = laws.2 m rs heard.items number trade heard.emitted found;
+  requested = λ room placed. laws.0 m rs heard.items number room trade heard.emitted found placed;
+  ordered = λ placed. laws.1 m rs heard.items number trade heard.emitted found placed;
 }
 
-pub no_trade : EmitTheirInputs → (m : Market) (rs : List TrailRow) (s : State) (words : List EvidenceEvent) (notes : List QuoteNote) (number : ℕ) → IsHeard m number rs s words notes
+-- a trade has the number by which it is found
+own_number : (laws : Laws) (m : Market) (rs : List TrailRow) (items : List Input) (number : ℕ) (trade : TradeFact) → AreEmitted rs items → trade_numbered (run m items).history number ≡ Some trade → trade.number ≡ number
+own_number laws m rs items number trade emitted found = ap (λ (t : TradeFact). t.number) (laws.2 m rs items number trade emitted found).read_back
+
+pub trade_emitted : EmitTheirInputs → RoomTradesHaveRequests → BookTradesHaveOrders → TradesHaveRows → (m : Market) (rs : List TrailRow) (s : State) (words : List EvidenceEvent) (ended : List Ended) (notes : List TradeNotes) (number : ℕ) (trade : TradeFact) (text : List ℕ)
+    → IsHeard m (Some number) rs s words ended notes → ((h : History) → IsHistory s h → Some trade ≡ trade_numbered h number) → text ≡ evidence_by s.market rs words notes trade → IsEvidence m rs number text
+trade_emitted law requests orders rows_made m rs s words ended notes number trade text heard numbered is =
+    let laws : Laws = (requests, orders, rows_made) in
+    let found = sym (numbered (run m heard.items).history heard.stands.history) in
+    record {
+      items = heard.items;
+      emitted = are_of law rs heard.items heard.emitted;
+      of_trade = evidence_in laws m rs (Some number) s words ended notes number trade text heard (eq-eqb number number refl) found (own_number laws m rs heard.items number trade heard.emitted found) is;
+    }
+
+slice_of_map : {X Y : Type 0} (f : X → Y) (xs : List X) (k : ℕ) (y : Y) → slice_get (map f xs) k ≡ Some y → (x : X) × (slice_get xs k ≡ Some x) × (f x ≡ y)
+slice_of_map f [] k y e = absurd (none_is_some y e)
+slice_of_map f (x ∷ xs) zero y e = (x, refl, same_some (f x) y e)
+slice_of_map f (x ∷ xs) (suc k) y e = slice_of_map f xs k y e
+
+numbered_next : (ts : List TradeFact) (k : ℕ) → numbered_in ts (k + 1) ≡ slice_get ts k
+numbered_next ts k = (λ j. if above k j then None else slice_get ts (before k j))
+  where
+    apart : (k : ℕ) → k + 1 ≡ 0 → ⊥
+    apart k e = omega (arith, e)
+
+    above : (k : ℕ) → (k + 1 == 0) ≡ false
+    above k = ne_eqb (k + 1) 0 (apart k)
+
+    before : (k : ℕ) → k + 1 - 1 ≡ k
+    before k = omega arith
+
+-- texts behind a line each
+pub behind_map : (f : TradeFact → List ℕ) (ts : List TradeFact) → flat_map (λ t. codes "\n" ++ f t) ts ≡ behind (map f ts)
+behind_map f [] = refl
+behind_map f (t ∷ ts) = ap (λ l. (codes "\n" ++ f t) ++ l) (behind_map f ts)
+
+-- of every trade
+pub all_emitted : EmitTheirInputs → RoomTradesHaveRequests → BookTradesHaveOrders → TradesHaveRows → (m : Market) (rs : List TrailRow) (s : State) (words : List EvidenceEvent) (ended : List Ended) (notes : List TradeNotes) (trades : List TradeFact) (text : List ℕ)
+    → IsHeard m None rs s words ended notes → ((h : History) → IsHistory s h → trades ≡ trade_facts h.facts) → text ≡ joined (map (λ t. evidence_by s.market rs words notes t) trades) → AreJoined m rs text
+all_emitted law requests orders rows_made m rs s words ended notes trades text heard listed is =
+    let laws : Laws = (requests, orders, rows_made) in
+    let of_trade : TradeFact → List ℕ = λ t. evidence_by s.market rs words notes t in
+    let h = (run m heard.items).history in
+    let are : trades ≡ trade_facts h.facts = listed h heard.stands.history in
+    record {
+      texts = map of_trade trades;
+      evidences = record {
+        items = heard.items;
+        emitted = are_of law rs heard.items heard.emitted;
+        all = length-map trades of_trade ∙ ap (λ (ts : List TradeFact). length ts) are;
+        each = λ k one there.
+            let t = slice_of_map of_trade trades k one there in
+            let found : trade_numbered h (k + 1) ≡ Some t.0 = numbered_next (trade_facts h.facts) k ∙ (ap (λ (ts : List TradeFact). slice_get ts k) (sym are) ∙ t.1) in
+            evidence_in laws m rs None s words ended notes (k + 1) t.0 one heard refl found (own_number laws m rs heard.items (k + 1) t.0 heard.emitted found) (sym t.2);
+      };
+      is = is;
+    }
+
+pub no_trade : EmitTheirInputs → (m : Market) (rs : List TrailRow) (s : State) (words : List EvidenceEvent) (ended : List Ended) (notes : List TradeNotes) (number : ℕ) → IsHeard m (Some number) rs s words ended notes
     → ((h : History) → IsHistory s h → None ≡ trade_numbered h number) → HasNoTrade m rs number
-no_trade law m rs s words notes number heard numbered = record {
+no_trade law m rs s words ended notes number heard numbered = record {
   items = heard.items;
   emitted = are_of law rs heard.items heard.emitted;
   none = sym (numbered (run m heard.items).history heard.stands.history);
+}
+
+-- all texts were written
+pub all_written : (m m' : Market) (rs : List TrailRow) (items text : List ℕ) (before after : Option (List ℕ)) → m ≡ m' → text ≡ items → AreJoined m rs items → Appends before after text → EmitsTrades m' rs before after
+all_written m m' rs items text before after same is found written = record {
+  text = text;
+  all = subst (λ (n : Market). AreJoined n rs text) same (subst (AreJoined m rs) (sym is) found);
+  written = written;
 }
 
 -- the text was written

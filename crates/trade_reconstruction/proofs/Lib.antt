@@ -1,4 +1,9 @@
 pub mod Appends
+pub mod Numbers
+pub mod Index
+pub mod Keys
+pub mod Aligned
+pub mod Newest
 pub mod Hearing
 pub mod Shown
 pub mod Emitting

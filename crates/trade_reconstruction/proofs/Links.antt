@@ -65,12 +65,11 @@ use Rattle.trade_reconstruction.specs.declared.evidence_event.EventKind.{EventKi
 use Rattle.trade_reconstruction.specs.declared.evidence_event.EventKind.TheVariants as said
 use Rattle.trade_reconstruction.specs.declared.evidence_event.EvidenceEvent.{EvidenceEvent}
 use Rattle.trade_reconstruction.specs.EventKinds.{asked_in, trigger_in, entered_of, filled_of, held_by, hit_in, link_at, link_in, link_known, pictured_in, prices_words, said_by, words_in, words_of}
-use Rattle.trade_reconstruction.specs.Standing.{stood_at}
 use Rattle.venue_core.specs.Replay.{AreEmitted}
 use Rattle.trade_reconstruction.specs.Lines.{enters_said, is_entry_said, is_sought, link_id, link_of, link_said}
 use Rattle.trade_reconstruction.specs.Emitted.{came_of, words_at, words_from, words_emitted}
 use Rattle.trade_reconstruction.proofs.Members.{In, In-append_cases, In-filter, In-map, found_first, found_longer, found_map, found_passes, found_past, found_picked, none_is_some, picked_from, picked_passes, same_some}
-use Rattle.trade_reconstruction.proofs.Says.{IsDeaf, replies_say, shown_silent, stood_silent, what_words}
+use Rattle.trade_reconstruction.proofs.Says.{IsDeaf, replies_say, shown_silent, what_words}
 use Rattle.trade_reconstruction.proofs.Replies.{HoldsAnew, NoneHolds, Picks, entered_once, entry_picked, input-Says, named_own, named_rests, no_held_facts, or_left, or_right, other_bytes}
 use Rattle.trade_reconstruction.proofs.Holds.{any_In, and_parts, and_true, due_in_held, unused_apart}
 
@@ -89,7 +88,7 @@ abbrev pub linking_in : EvidenceEvent → Option HeardLink
 linking_in w = linking_of_said w w.said
 
 linking-deaf : IsDeaf linking_in
-linking-deaf = record { shown = λ n t to s. refl; stood = λ n t to s. refl; counted = λ n t to s. refl }
+linking-deaf = λ n t to s. refl
 
 abbrev linking_from : Trigger → ℕ → OrderReport → Option ℕ → Option HeardLink
 linking_from c to r None = None
@@ -601,31 +600,27 @@ known_from words h kept listed who id r e =
     let w = found_picked linking_in test (is_sought (EntrySought who id)) (λ x. name_test who id x x.said) words (emitted_link r.entry) (ap (find test) listed ∙ found_map emitted_link test (entries h.facts) r.entry named_first) in
     ap (λ (o : Option EvidenceEvent). link_id (link_of o)) w.1 ∙ linked_in w.0 w.0.said (emitted_link r.entry) w.2
 
-row_links : (m : Market) (h : History) (number : ℕ) (words : List EvidenceEvent) (r : TrailRow) (i : Input) → Turns (came_of m words r.n i) h (answer_input m h i) → filter_map linking_in (words_at m h number words r i) ≡ map emitted_link (entries (answer_input m h i).facts)
-row_links m h number words r i turns =
-    let replies = (answer_input m h i).replies in
-    let emitted = words_of r.n r.moment (came_of m words r.n i) replies in
-    filter_map-append linking_in (stood_at m h number r.n r.moment replies) emitted
-    ∙ (ap (λ l. l ++ filter_map linking_in emitted) (stood_silent linking_in linking-deaf m h number r.n r.moment replies) ∙ (linkings_say r.n r.moment (came_of m words r.n i) replies ∙ turns.0))
+row_links : (m : Market) (h : History) (words : List EvidenceEvent) (r : TrailRow) (i : Input) → Turns (came_of m words r.n i) h (answer_input m h i) → filter_map linking_in (words_at m h words r i) ≡ map emitted_link (entries (answer_input m h i).facts)
+row_links m h words r i turns = linkings_say r.n r.moment (came_of m words r.n i) (answer_input m h i).replies ∙ turns.0
 
-day_linked : (m : Market) (number : ℕ) (h : History) (words : List EvidenceEvent) (rs : List TrailRow) (is : List Input) → AreEmitted rs is → Kept h.facts → filter_map linking_in words ≡ map emitted_link (entries h.facts)
-    → filter_map linking_in (words_from m h number words rs is) ≡ map emitted_link (entries (run_from m h is).history.facts)
-day_linked m number h words [] [] emitted kept listed = listed
-day_linked m number h words [] (i ∷ is) emitted kept listed = absurd emitted
-day_linked m number h words (r ∷ rs) [] emitted kept listed = absurd emitted
-day_linked m number h words (r ∷ rs) (i ∷ is) emitted kept listed =
+day_linked : (m : Market) (h : History) (words : List EvidenceEvent) (rs : List TrailRow) (is : List Input) → AreEmitted rs is → Kept h.facts → filter_map linking_in words ≡ map emitted_link (entries h.facts)
+    → filter_map linking_in (words_from m h words rs is) ≡ map emitted_link (entries (run_from m h is).history.facts)
+day_linked m h words [] [] emitted kept listed = listed
+day_linked m h words [] (i ∷ is) emitted kept listed = absurd emitted
+day_linked m h words (r ∷ rs) [] emitted kept listed = absurd emitted
+day_linked m h words (r ∷ rs) (i ∷ is) emitted kept listed =
     let a = answer_input m h i in
     let turns = input_turns m h words r.n i (known_from words h kept listed) kept.bare in
-    day_linked m number (after h a) (words ++ words_at m h number words r i) rs is emitted.1 (kept_after h.facts a.facts kept turns.1.0 turns.1.1 (input-Says m h [] r i emitted.0).1.1.1.1.0)
-    (filter_map-append linking_in words (words_at m h number words r i)
-    ∙ ((λ j. listed j ++ row_links m h number words r i turns j) ∙ (sym (map-append emitted_link (entries h.facts) (entries a.facts)) ∙ ap (map emitted_link) (sym (filter_map-append entry_in_fact h.facts a.facts)))))
+    day_linked m (after h a) (words ++ words_at m h words r i) rs is emitted.1 (kept_after h.facts a.facts kept turns.1.0 turns.1.1 (input-Says m h [] r i emitted.0).1.1.1.1.0)
+    (filter_map-append linking_in words (words_at m h words r i)
+    ∙ ((λ j. listed j ++ row_links m h words r i turns j) ∙ (sym (map-append emitted_link (entries h.facts) (entries a.facts)) ∙ ap (map emitted_link) (sym (filter_map-append entry_in_fact h.facts a.facts)))))
 
 -- the link of an order that is found
-pub link_found : (m : Market) (number : ℕ) (rs : List TrailRow) (is : List Input) → AreEmitted rs is → (e : Entry) → find (λ (y : Entry). y.number == e.number) (entries (run m is).history.facts) ≡ Some e → (w : EvidenceEvent) (x : Entered)
-    → find (is_sought (Order e.number)) (words_emitted m number rs is) ≡ Some w → w.said ≡ said.Entered x → link_id x.link ≡ e.order.link
-link_found m number rs is emitted e first w x found says =
-    let words = words_emitted m number rs is in
+pub link_found : (m : Market) (rs : List TrailRow) (is : List Input) → AreEmitted rs is → (e : Entry) → find (λ (y : Entry). y.number == e.number) (entries (run m is).history.facts) ≡ Some e → (w : EvidenceEvent) (x : Entered)
+    → find (is_sought (Order e.number)) (words_emitted m rs is) ≡ Some w → w.said ≡ said.Entered x → link_id x.link ≡ e.order.link
+link_found m rs is emitted e first w x found says =
+    let words = words_emitted m rs is in
     let test : HeardLink → Bool = λ y. y.order == e.number in
-    let other = found_picked linking_in test (is_sought (Order e.number)) (λ v. order_test e.number v v.said) words (emitted_link e) (ap (find test) (day_linked m number no_history [] rs is emitted kept_nothing refl) ∙ found_map emitted_link test (entries (run m is).history.facts) e first) in
+    let other = found_picked linking_in test (is_sought (Order e.number)) (λ v. order_test e.number v v.said) words (emitted_link e) (ap (find test) (day_linked m no_history [] rs is emitted kept_nothing refl) ∙ found_map emitted_link test (entries (run m is).history.facts) e first) in
     let same : other.0 ≡ w = same_some other.0 w (sym other.1 ∙ found) in
     sym (ap (λ (s : EventKind). link_id (link_said s)) says) ∙ linked_in w w.said (emitted_link e) (subst (λ (v : EvidenceEvent). linking_in v ≡ Some (emitted_link e)) same other.2)

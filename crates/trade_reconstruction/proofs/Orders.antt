@@ -1,7 +1,7 @@
 -- The events of a day have both orders of each trade in the book, and its lines are theirs.
 use Rattle.std.proofs.Common.{◌≡◌, refl, sym, ap, subst, ◌∙◌, ℕ, ℤ, zero, suc, ◌+◌, ◌-◌, min, ◌==◌, ◌⊎◌, inl, inr, Bool, true, false, not, ◌&&◌, nat_lt, if◌then◌else◌, List, [], ◌∷◌, ◌++◌, map, filter_map, find, slice_get, Option, Some, None, eq-eqb, ne_eqb, arith}
 use Rattle.std.specs.Prelude.{bytes_eq}
-use Rattle.std.specs.List.{enumerate_from, flat_map}
+use Rattle.std.specs.List.{enumerate_from}
 use Rattle.std.proofs.lemmas.Bool.{true≢false}
 use Rattle.sef_moment.specs.Utc.{greatest}
 use Rattle.fix_dictionary.specs.declared.values.Side.{Side}
@@ -32,16 +32,16 @@ use Rattle.trade_reconstruction.specs.declared.evidence_event.EventKind.{EventKi
 use Rattle.trade_reconstruction.specs.declared.evidence_event.EventKind.TheVariants as said
 use Rattle.trade_reconstruction.specs.declared.evidence_event.EvidenceEvent.{EvidenceEvent}
 use Rattle.trade_reconstruction.specs.Found.{HasOrders, HasRow, HeldAs, EmitsOrder, met_emitted, moment_emitted, price_emitted}
-use Rattle.trade_reconstruction.specs.Lines.{are_linked, both_lines, enters_said, entry_moment, entry_of, entry_said, evidence, filled_of, fills_other_said, fills_said, held_until, held_until_said, hits_said, holds_said, is_sought, lines_in, moment_of, order_of, order_said, orders_lines, other_of, row_in, row_of, standing_line, last_lines, trade_row, two_orders}
+use Rattle.trade_reconstruction.specs.Lines.{are_linked, both_lines, enters_said, entry_moment, entry_of, entry_said, evidence, filled_of, fills_other_said, fills_said, held_until, held_until_said, hits_said, holds_said, is_sought, lines_in, moment_of, order_of, order_said, orders_lines, other_of, row_in, row_of, last_lines, trade_row, two_orders}
 use Rattle.venue_core.specs.Replay.{AreEmitted}
 use Rattle.trade_reconstruction.specs.Standing.{prices_of, stood_words}
-use Rattle.trade_reconstruction.specs.Emitted.{numbered_in, trade_numbered, words_emitted}
+use Rattle.trade_reconstruction.specs.Emitted.{stood_emitted, numbered_in, trade_numbered, words_emitted}
 use Rattle.trade_reconstruction.proofs.Members.{Contains-from_In, In, In-append_cases, In-append_left, In-append_right, In-filter_map, In-from_Contains, In-map, Places, Places-found, Places-from, Places-same, Places-unmap, found_first, found_later, found_map, found_picked, map_In, none_is_some, picked_from, picked_passes, same_some, slice_In, slice_map, slice_unmap}
 use Rattle.trade_reconstruction.proofs.Says.{HeardEntry, HeardFill, HeardHit, HeardHold, entry_in, entry_of_said, fill_in, fill_of_said, hold_in, hold_of_said, trade_of_said, traded_in}
 use Rattle.trade_reconstruction.proofs.Replies.{AreOf, IsOf, fills_emitted, hit_emitted, hits_of, hits_emitted, input-Says, is_tick_input, moment_at, pair_emitted, price_at, emitted_hold}
 use Rattle.trade_reconstruction.proofs.Days.{IsAdded, added, added_are, day_entries, day_fills, day_hits, day_holds, entry_at, is_added, it, map_map, trade_at}
 use Rattle.trade_reconstruction.proofs.Links.{link_found}
-use Rattle.trade_reconstruction.proofs.Stood.{standing_emitted}
+use Rattle.trade_reconstruction.proofs.Stood.{stood_once}
 use Rattle.trade_reconstruction.proofs.Holds.{day_apart, held_fact, holds_stay, tick_entry}
 
 -- A trade as it is read back is a fact of the day.
@@ -213,13 +213,13 @@ hold_test who id w (said.RestedCount x) = refl
 
 -- A held side's event is found by its identifier.
 
-hold_found : (m : Market) (number : ℕ) (rs : List TrailRow) (is : List Input) → AreEmitted rs is → (k : HeldSide) → In k (held_sides (run m is).history.facts)
-    → (w : EvidenceEvent) × (find (is_sought (SideHeld k.order.who k.order.id)) (words_emitted m number rs is) ≡ Some w) × (held_until w ≡ min k.due greatest) × (x : HeldEvent) × (w.said ≡ said.Held x) × (x.cross ≡ k.cross)
-hold_found m number rs is emitted k i =
-    let words = words_emitted m number rs is in
+hold_found : (m : Market) (rs : List TrailRow) (is : List Input) → AreEmitted rs is → (k : HeldSide) → In k (held_sides (run m is).history.facts)
+    → (w : EvidenceEvent) × (find (is_sought (SideHeld k.order.who k.order.id)) (words_emitted m rs is) ≡ Some w) × (held_until w ≡ min k.due greatest) × (x : HeldEvent) × (w.said ≡ said.Held x) × (x.cross ≡ k.cross)
+hold_found m rs is emitted k i =
+    let words = words_emitted m rs is in
     let test : HeardHold → Bool = λ y. y.who == k.order.who && bytes_eq y.id k.order.id in
     let held = held_sides (run m is).history.facts in
-    let listed : filter_map hold_in words ≡ map emitted_hold held = day_holds m number no_history rs is emitted ∙ (sym (map_map it emitted_hold (added held_in_fact m no_history rs is)) ∙ ap (map emitted_hold) (sym (added_are held_in_fact m no_history rs is emitted))) in
+    let listed : filter_map hold_in words ≡ map emitted_hold held = day_holds m no_history rs is emitted ∙ (sym (map_map it emitted_hold (added held_in_fact m no_history rs is)) ∙ ap (map emitted_hold) (sym (added_are held_in_fact m no_history rs is emitted))) in
     let first : find test (filter_map hold_in words) ≡ Some (emitted_hold k) = ap (find test) listed ∙ found_map emitted_hold test held k (day_apart m no_history rs is emitted (λ x j. absurd j) k i) in
     let w = found_picked hold_in test (is_sought (SideHeld k.order.who k.order.id)) (λ x. hold_test k.order.who k.order.id x x.said) words (emitted_hold k) first in
     let x = held_in w.0 w.0.said (emitted_hold k) w.2 in
@@ -232,31 +232,31 @@ at_its_price (Message taken t) e = refl
 at_its_price (Tick t) e = refl
 
 -- the events of the day state when it entered
-entered_when : (m : Market) (number : ℕ) (rs : List TrailRow) (is : List Input) → AreEmitted rs is → (r : TrailRow) (i : Input) (e : Entry) → IsAdded entry_in_fact m no_history rs is (r, i, e) → (w : EvidenceEvent) (x : Entered)
-    → w.to ≡ e.order.who → x.id ≡ e.order.id → w.moment ≡ moment_at (is_tick_input i) r.moment e.moment → x.at_tick ≡ is_tick_input i → entry_moment (words_emitted m number rs is) w x ≡ moment_emitted i e
-entered_when m number rs is emitted r (Message taken t) e at w x whose id moment tick =
-    let words = words_emitted m number rs is in
+entered_when : (m : Market) (rs : List TrailRow) (is : List Input) → AreEmitted rs is → (r : TrailRow) (i : Input) (e : Entry) → IsAdded entry_in_fact m no_history rs is (r, i, e) → (w : EvidenceEvent) (x : Entered)
+    → w.to ≡ e.order.who → x.id ≡ e.order.id → w.moment ≡ moment_at (is_tick_input i) r.moment e.moment → x.at_tick ≡ is_tick_input i → entry_moment (words_emitted m rs is) w x ≡ moment_emitted i e
+entered_when m rs is emitted r (Message taken t) e at w x whose id moment tick =
+    let words = words_emitted m rs is in
     ap (λ (b : Bool). if b then moment_of w.moment (find (is_sought (SideHeld w.to x.id)) words) else w.moment) tick ∙ moment
-entered_when m number rs is emitted r (Tick t) e at w x whose id moment tick =
-    let words = words_emitted m number rs is in
+entered_when m rs is emitted r (Tick t) e at w x whose id moment tick =
+    let words = words_emitted m rs is in
     let of = tick_entry m (run m at.earlier).history t e at.made in
     let known : In of.side (held_sides (run m is).history.facts) = subst (λ (l : List Input). In of.side (held_sides (run m l).history.facts)) (sym at.taken) (holds_stay m no_history at.earlier (Tick t ∷ at.later) of.side of.held) in
-    let hold = hold_found m number rs is emitted of.side known in
+    let hold = hold_found m rs is emitted of.side known in
     let named : find (is_sought (SideHeld w.to x.id)) words ≡ Some hold.0 =
     (λ j. find (is_sought (SideHeld (whose j) (id j))) words) ∙ ((λ j. find (is_sought (SideHeld (of.order j).who (of.order j).id)) words) ∙ hold.1) in
     ap (λ (b : Bool). if b then moment_of w.moment (find (is_sought (SideHeld w.to x.id)) words) else w.moment) tick
     ∙ (ap (moment_of w.moment) named ∙ (hold.2 ∙ ap (λ (t : ℕ). min t greatest) (sym of.moment)))
 
 -- and as which side of which cross
-held_as : (m : Market) (number : ℕ) (rs : List TrailRow) (is : List Input) → AreEmitted rs is → (r : TrailRow) (i : Input) (e : Entry) → IsAdded entry_in_fact m no_history rs is (r, i, e) → (x : OrderEntry) → x.to ≡ e.order.who → x.entered.id ≡ e.order.id
-    → x.entered.at_tick ≡ is_tick_input i → HeldAs m is (words_emitted m number rs is) i e x
-held_as m number rs is emitted r (Message taken t) e at x whose id tick = tick
-held_as m number rs is emitted r (Tick t) e at x whose id tick =
-    let words = words_emitted m number rs is in
+held_as : (m : Market) (rs : List TrailRow) (is : List Input) → AreEmitted rs is → (r : TrailRow) (i : Input) (e : Entry) → IsAdded entry_in_fact m no_history rs is (r, i, e) → (x : OrderEntry) → x.to ≡ e.order.who → x.entered.id ≡ e.order.id
+    → x.entered.at_tick ≡ is_tick_input i → HeldAs m is (words_emitted m rs is) i e x
+held_as m rs is emitted r (Message taken t) e at x whose id tick = tick
+held_as m rs is emitted r (Tick t) e at x whose id tick =
+    let words = words_emitted m rs is in
     let facts = (run m is).history.facts in
     let of = tick_entry m (run m at.earlier).history t e at.made in
     let known : In of.side (held_sides facts) = subst (λ (l : List Input). In of.side (held_sides (run m l).history.facts)) (sym at.taken) (holds_stay m no_history at.earlier (Tick t ∷ at.later) of.side of.held) in
-    let hold = hold_found m number rs is emitted of.side known in
+    let hold = hold_found m rs is emitted of.side known in
     let there = picked_from held_in_fact facts of.side known in
     record {
       side = of.side;
@@ -279,14 +279,14 @@ pub record EntryFound (m : Market) (rs : List TrailRow) (is : List Input) (words
 found_map_back : (all : List (TrailRow × Input × Entry)) (p : TrailRow × Input × Entry) → find (λ (q : TrailRow × Input × Entry). q.2.number == p.2.number) all ≡ Some p → find (λ (y : Entry). y.number == p.2.number) (map it all) ≡ Some p.2
 found_map_back all p e = found_map it (λ (y : Entry). y.number == p.2.number) all p e
 
-entry_found : (m : Market) (number : ℕ) (rs : List TrailRow) (is : List Input) → AreEmitted rs is → Places (λ (p : TrailRow × Input × Entry). p.2.number) 0 (added entry_in_fact m no_history rs is) → (p : TrailRow × Input × Entry)
-    → In p (added entry_in_fact m no_history rs is) → EntryFound m rs is (words_emitted m number rs is) p
-entry_found m number rs is emitted places p i =
-    let words = words_emitted m number rs is in
+entry_found : (m : Market) (rs : List TrailRow) (is : List Input) → AreEmitted rs is → Places (λ (p : TrailRow × Input × Entry). p.2.number) 0 (added entry_in_fact m no_history rs is) → (p : TrailRow × Input × Entry)
+    → In p (added entry_in_fact m no_history rs is) → EntryFound m rs is (words_emitted m rs is) p
+entry_found m rs is emitted places p i =
+    let words = words_emitted m rs is in
     let all = added entry_in_fact m no_history rs is in
     let n = p.2.number in
     let test : HeardEntry → Bool = λ y. y.order == n in
-    let first : find test (filter_map entry_in words) ≡ Some (entry_at m p) = ap (find test) (day_entries m number no_history rs is emitted) ∙ found_map (entry_at m) test all p (Places-found (λ (q : TrailRow × Input × Entry). q.2.number) 0 all places p i) in
+    let first : find test (filter_map entry_in words) ≡ Some (entry_at m p) = ap (find test) (day_entries m no_history rs is emitted) ∙ found_map (entry_at m) test all p (Places-found (λ (q : TrailRow × Input × Entry). q.2.number) 0 all places p i) in
     let w = found_picked entry_in test (is_sought (Order n)) (λ x. order_test n x x.said) words (entry_at m p) first in
     let x = entered_in w.0 w.0.said (entry_at m p) w.2 in
     let at = is_added entry_in_fact m no_history rs is emitted p i in
@@ -308,7 +308,7 @@ entry_found m number rs is emitted places p i =
           made = Contains-from_In (answer_input m (run m at.earlier).history p.1).facts (fact.Entered p.2) (subst (λ (f : Fact). In f (answer_input m (run m at.earlier).history p.1).facts) (entered_fact trigger.0 p.2 trigger.2) trigger.1);
         };
         at_row = ap (λ (y : HeardEntry). y.row) x.2;
-        moment = entered_when m number rs is emitted p.0 p.1 p.2 at w.0 x.0 (ap (λ (y : HeardEntry). y.to) x.2) (ap (λ (y : HeardEntry). y.id) x.2) (ap (λ (y : HeardEntry). y.moment) x.2) (ap (λ (y : HeardEntry). y.at_tick) x.2);
+        moment = entered_when m rs is emitted p.0 p.1 p.2 at w.0 x.0 (ap (λ (y : HeardEntry). y.to) x.2) (ap (λ (y : HeardEntry). y.id) x.2) (ap (λ (y : HeardEntry). y.moment) x.2) (ap (λ (y : HeardEntry). y.at_tick) x.2);
         whose = ap (λ (y : HeardEntry). y.to) x.2;
         number = ap (λ (y : HeardEntry). y.order) x.2;
         id = ap (λ (y : HeardEntry). y.id) x.2;
@@ -317,8 +317,8 @@ entry_found m number rs is emitted places p i =
         quantity = ap (λ (y : HeardEntry). y.quantity) x.2;
         price = ap (λ (y : HeardEntry). y.price) x.2 ∙ at_its_price p.1 p.2;
         original = ap (λ (y : HeardEntry). y.original) x.2;
-        held = held_as m number rs is emitted p.0 p.1 p.2 at entry (ap (λ (y : HeardEntry). y.to) x.2) (ap (λ (y : HeardEntry). y.id) x.2) (ap (λ (y : HeardEntry). y.at_tick) x.2);
-        link = link_found m number rs is emitted p.2 (ap (find (λ (y : Entry). y.number == n)) same ∙ found_map_back all p (Places-found (λ (q : TrailRow × Input × Entry). q.2.number) 0 all places p i)) w.0 x.0 w.1 x.1;
+        held = held_as m rs is emitted p.0 p.1 p.2 at entry (ap (λ (y : HeardEntry). y.to) x.2) (ap (λ (y : HeardEntry). y.id) x.2) (ap (λ (y : HeardEntry). y.at_tick) x.2);
+        link = link_found m rs is emitted p.2 (ap (find (λ (y : Entry). y.number == n)) same ∙ found_map_back all p (Places-found (λ (q : TrailRow × Input × Entry). q.2.number) 0 all places p i)) w.0 x.0 w.1 x.1;
       };
     }
 
@@ -480,25 +480,25 @@ BestOrdersLaw = (m : Market) (is : List Input) → BestOrderTrades (run m is).hi
 abbrev pub PlacesLaw : Type 0
 PlacesLaw = (m : Market) (is : List Input) → NumbersArePlaces (run m is).history.facts
 
-lines_of : (m : Market) (rs : List TrailRow) (words : List EvidenceEvent) (noted : List ℕ) (t : TradeFact) (number old new : ℕ) (resting entering : OrderEntry) → t.number ≡ number → t.room ≡ None → row_of (find (is_sought (Fill number)) words) ≡ entering.row
+lines_of : (m : Market) (rs : List TrailRow) (words stood : List EvidenceEvent) (noted : List ℕ) (t : TradeFact) (number old new : ℕ) (resting entering : OrderEntry) → t.number ≡ number → t.room ≡ None → row_of (find (is_sought (Fill number)) words) ≡ entering.row
     → order_of (find (is_sought (Fill number)) words) ≡ Some new → order_of (find (is_sought (OtherFill number new)) words) ≡ Some old → entry_of words (find (is_sought (Order old)) words) ≡ Some resting
     → entry_of words (find (is_sought (Order new)) words) ≡ Some entering
-    → evidence m rs words noted t ≡ both_lines rs m.participants words (record { resting = resting; entering = entering; row = entering.row }) ++ (noted ++ last_lines m t entering.row)
+    → evidence m rs words stood noted t ≡ both_lines rs m.participants words stood (record { resting = resting; entering = entering; row = entering.row }) ++ (noted ++ last_lines m rs t entering.row)
 unfolding evidence orders_lines
-lines_of m rs words noted t number old new resting entering numbered placed at first second found_old found_new =
+lines_of m rs words stood noted t number old new resting entering numbered placed at first second found_old found_new =
     let file = m.participants in
     let row : trade_row words t ≡ entering.row = (λ j. row_in words (numbered j) (placed j)) ∙ at in
-    (λ j. lines_in rs file words (numbered j) (placed j) (row j) ++ (noted ++ last_lines m t (row j)))
-    ∙ ap (λ (l : List ℕ). l ++ (noted ++ last_lines m t entering.row))
-    (ap (λ (o : Option ℕ). filled_of rs file words number o entering.row) first
-    ∙ (ap (λ (o : Option ℕ). other_of rs file words new o entering.row) second
-    ∙ (λ j. two_orders rs file words (found_old j) (found_new j) entering.row)))
+    (λ j. lines_in rs file words stood (numbered j) (placed j) (row j) ++ (noted ++ last_lines m rs t (row j)))
+    ∙ ap (λ (l : List ℕ). l ++ (noted ++ last_lines m rs t entering.row))
+    (ap (λ (o : Option ℕ). filled_of rs file words stood number o entering.row) first
+    ∙ (ap (λ (o : Option ℕ). other_of rs file words stood new o entering.row) second
+    ∙ (λ j. two_orders rs file words stood (found_old j) (found_new j) entering.row)))
 
 pub book_trades_have_orders : BestOrdersLaw → PlacesLaw → (m : Market) (rs : List TrailRow) (is : List Input) (number : ℕ) (t : TradeFact) → AreEmitted rs is
-    → trade_numbered (run m is).history number ≡ Some t → t.room ≡ None → HasOrders m rs is (words_emitted m number rs is) number t
+    → trade_numbered (run m is).history number ≡ Some t → t.room ≡ None → HasOrders m rs is (words_emitted m rs is) (stood_emitted m number rs is) number t
 book_trades_have_orders best numbers m rs is number t emitted numbered placed =
     let facts = (run m is).history.facts in
-    let words = words_emitted m number rs is in
+    let words = words_emitted m rs is in
     let x = numbered_trade (trades facts) 1 (number - 1) t (numbered_at (trade_facts facts) number t numbered) in
     let from = from_one (trade_facts facts) number t numbered in
     let read : trade_fact number x.trade ≡ t = ap (λ (n : ℕ). trade_fact n x.trade) (from ∙ sym x.is_number) ∙ x.read_back in
@@ -513,14 +513,14 @@ book_trades_have_orders best numbers m rs is number t emitted numbered placed =
     let both = are_entries facts (best m is) in_places there.before x.trade old new there.follows place.2 in
     let rested = In-map it all both.rested (subst (In both.rested) same both.rested_in) in
     let entered = In-map it all both.entered (subst (In both.entered) same both.entered_in) in
-    let found_old = entry_found m number rs is emitted places rested.0 rested.1 in
-    let found_new = entry_found m number rs is emitted places entered.0 entered.1 in
+    let found_old = entry_found m rs is emitted places rested.0 rested.1 in
+    let found_new = entry_found m rs is emitted places entered.0 entered.1 in
     let old_is : rested.0.2.number ≡ old = ap (λ (e : Entry). e.number) rested.2 ∙ both.old_is in
     let new_is : entered.0.2.number ≡ new = ap (λ (e : Entry). e.number) entered.2 ∙ both.new_is in
     let made = added trade_in_fact m no_history rs is in
     let q = slice_unmap it made (number - 1) x.trade (ap (λ (ts : List Trade). slice_get ts (number - 1)) (sym (added_are trade_in_fact m no_history rs is emitted)) ∙ x.at) in
     let at : q.0.2.place ≡ InBook old new = ap (λ (y : Trade). y.place) q.2 ∙ place.2 in
-    let listed = day_fills m number no_history rs is emitted in
+    let listed = day_fills m no_history rs is emitted in
     let sliced = slice_map trade_at made (number - 1) q.0 q.1 in
     let fill_test_is : HeardFill → Bool = λ y. y.trade == number in
     let other_test_is : HeardFill → Bool = λ y. y.trade == number && not (y.order == new) in
@@ -531,10 +531,10 @@ book_trades_have_orders best numbers m rs is number t emitted numbered placed =
     let by_first = filled_in first.0 first.0.said _ first.2 in
     let by_second = filled_in second.0 second.0.said _ second.2 in
     let own = with_entry m no_history rs is emitted q.0 old new (slice_In made (number - 1) q.0 q.1) at in
-    let stood = standing_emitted m number rs is emitted old new q.0 q.1 at from in
-    let answered = (answer_input m (run m stood.0.earlier).history q.0.1).facts in
-    let trigger = picked_from trade_in_fact answered q.0.2 stood.0.made in
-    let met_one : stood.0.of ≡ both.rested = Places-same (λ (e : Entry). e.number) 0 (entries facts) in_places stood.0.of both.rested stood.0.of_in both.rested_in (stood.0.number_is ∙ sym both.old_is) in
+    let stood = stood_once m number no_history rs is emitted (number - 1) old new q.0 q.1 at from in
+    let answered = (answer_input m (run m stood.earlier).history q.0.1).facts in
+    let trigger = picked_from trade_in_fact answered q.0.2 stood.made in
+    let met_one : stood.of ≡ both.rested = Places-same (λ (e : Entry). e.number) 0 (entries facts) in_places stood.of both.rested stood.of_in both.rested_in (stood.number_is ∙ sym both.old_is) in
     let together : paired_with q.0 own.0 ≡ entered.0 = Places-same (λ (p : TrailRow × Input × Entry). p.2.number) 0 all places (paired_with q.0 own.0) entered.0 own.1 entered.1 (own.2 ∙ sym new_is) in
     record {
       trade = x.trade;
@@ -548,19 +548,19 @@ book_trades_have_orders best numbers m rs is number t emitted numbered placed =
       emits_entered = found_new.emits;
       linked = λ j. are_linked m.participants (found_old.emits.whose j) (found_old.emits.link j) (found_new.emits.whose j) (found_new.emits.link j);
       read_back = sym read;
-      stood = record {
+      standing = record {
         row = q.0.0;
         input = q.0.1;
         made = record {
-          earlier = stood.0.earlier;
-          later = stood.0.later;
-          taken = stood.0.taken;
-          emitted = stood.0.emitted;
+          earlier = stood.earlier;
+          later = stood.later;
+          taken = stood.taken;
+          emitted = stood.emitted;
           made = Contains-from_In answered (fact.Traded x.trade) (subst (λ (f : Fact). In f answered) (traded_fact trigger.0 q.0.2 trigger.2 ∙ ap (λ (y : Trade). fact.Traded y) q.2) trigger.1);
         };
-        lines = stood.1 ∙ ap (λ (e : Entry). flat_map (standing_line words) (stood_words q.0.0.n q.0.0.moment (met_emitted m e) (prices_of m (run m stood.0.earlier).history (symbol_of m.instruments e.order.instrument)))) (met_one ∙ sym rested.2);
+        said = stood.said ∙ ap (λ (e : Entry). stood_words q.0.0.n q.0.0.moment (met_emitted m e) (prices_of m (run m stood.earlier).history (symbol_of m.instruments e.order.instrument))) (met_one ∙ sym rested.2);
       };
-      lines = λ noted. lines_of m rs words noted t number old new found_old.entry found_new.entry (ap (λ (y : TradeFact). y.number) (sym read)) placed
+      lines = λ noted. lines_of m rs words (stood_emitted m number rs is) noted t number old new found_old.entry found_new.entry (ap (λ (y : TradeFact). y.number) (sym read)) placed
           (ap row_of first.1 ∙ (by_first.1 ∙ (ap (λ (p : TrailRow × Input × Entry). p.0.n) together ∙ sym found_new.at_row))) (ap order_of first.1 ∙ by_first.0) (ap order_of second.1 ∙ by_second.0)
           (ap (λ (n : ℕ). entry_of words (find (is_sought (Order n)) words)) (sym old_is) ∙ found_old.found) (ap (λ (n : ℕ). entry_of words (find (is_sought (Order n)) words)) (sym new_is) ∙ found_new.found);
     }
@@ -646,14 +646,14 @@ hit_in w (said.RestedBefore x) y h = absurd (none_is_some y h)
 hit_in w (said.RestedCount x) y h = absurd (none_is_some y h)
 
 hit_of : (m : Market) (number : ℕ) (rs : List TrailRow) (is : List Input) → AreEmitted rs is → number ≡ 1 + (number - 1) → (q : TrailRow × Input × Trade) → slice_get (added trade_in_fact m no_history rs is) (number - 1) ≡ Some q
-    → (room quote : ℕ) → q.2.place ≡ InRoom room quote → HitFound (words_emitted m number rs is) number quote q
+    → (room quote : ℕ) → q.2.place ≡ InRoom room quote → HitFound (words_emitted m rs is) number quote q
 hit_of m number rs is emitted from q e room quote at =
-    let words = words_emitted m number rs is in
+    let words = words_emitted m rs is in
     let made = added trade_in_fact m no_history rs is in
     let test : HeardHit → Bool = λ y. y.trade == number in
     let y = hit_emitted q.0.n number q.2.price room quote in
     let first = found_picked traded_in test (is_sought (Hit number)) (λ w. hit_test number w w.said) words y
-    (ap (find test) (day_hits m number no_history rs is emitted) ∙ hit_found number room quote 1 (number - 1) (map trade_at made) (trade_at q) (slice_map trade_at made (number - 1) q e) at from) in
+    (ap (find test) (day_hits m no_history rs is emitted) ∙ hit_found number room quote 1 (number - 1) (map trade_at made) (trade_at q) (slice_map trade_at made (number - 1) q e) at from) in
     let x = hit_in first.0 first.0.said y first.2 in
     record {
       event = first.0;
@@ -667,20 +667,20 @@ hit_of m number rs is emitted from q e room quote at =
 
 -- the row of the first event of a trade, by where it was made
 row_found : (m : Market) (number : ℕ) (rs : List TrailRow) (is : List Input) → AreEmitted rs is → number ≡ 1 + (number - 1) → (q : TrailRow × Input × Trade) → slice_get (added trade_in_fact m no_history rs is) (number - 1) ≡ Some q
-    → (place : TradeSource) → q.2.place ≡ place → row_in (words_emitted m number rs is) number (room_of place) ≡ q.0.n
+    → (place : TradeSource) → q.2.place ≡ place → row_in (words_emitted m rs is) number (room_of place) ≡ q.0.n
 row_found m number rs is emitted from q e (InBook old new) at =
-    let words = words_emitted m number rs is in
+    let words = words_emitted m rs is in
     let made = added trade_in_fact m no_history rs is in
     let test : HeardFill → Bool = λ y. y.trade == number in
     let first = found_picked fill_in test (is_sought (Fill number)) (λ w. fill_test number w w.said) words (record { row = q.0.n; order = new; trade = number })
-    (ap (find test) (day_fills m number no_history rs is emitted) ∙ fill_found test number old new new (finds_entering number old new) 1 (number - 1) (map trade_at made) (trade_at q) (slice_map trade_at made (number - 1) q e) at from) in
+    (ap (find test) (day_fills m no_history rs is emitted) ∙ fill_found test number old new new (finds_entering number old new) 1 (number - 1) (map trade_at made) (trade_at q) (slice_map trade_at made (number - 1) q e) at from) in
     ap row_of first.1 ∙ (filled_in first.0 first.0.said _ first.2).1
 row_found m number rs is emitted from q e (InRoom room quote) at = let hit = hit_of m number rs is emitted from q e room quote at in ap row_of hit.found ∙ hit.at_row
 
-pub trades_have_rows : (m : Market) (rs : List TrailRow) (is : List Input) (number : ℕ) (t : TradeFact) → AreEmitted rs is → trade_numbered (run m is).history number ≡ Some t → HasRow m rs is (words_emitted m number rs is) number t
+pub trades_have_rows : (m : Market) (rs : List TrailRow) (is : List Input) (number : ℕ) (t : TradeFact) → AreEmitted rs is → trade_numbered (run m is).history number ≡ Some t → HasRow m rs is (words_emitted m rs is) number t
 trades_have_rows m rs is number t emitted numbered =
     let facts = (run m is).history.facts in
-    let words = words_emitted m number rs is in
+    let words = words_emitted m rs is in
     let x = numbered_trade (trades facts) 1 (number - 1) t (numbered_at (trade_facts facts) number t numbered) in
     let from = from_one (trade_facts facts) number t numbered in
     let read : trade_fact number x.trade ≡ t = ap (λ (n : ℕ). trade_fact n x.trade) (from ∙ sym x.is_number) ∙ x.read_back in

@@ -29,7 +29,6 @@ use Rattle.trade_reconstruction.specs.declared.trigger.Trigger.TheVariants as tr
 use Rattle.trade_reconstruction.specs.EventKinds.{trigger_in, words_in, words_of}
 use Rattle.trade_reconstruction.specs.Emitted.{came_of, words_at, words_emitted, words_from}
 use Rattle.trade_reconstruction.specs.Laws.{IsShown, RestingOrdersAreShown, shown_words}
-use Rattle.trade_reconstruction.specs.Standing.{stood_at}
 use Rattle.trade_reconstruction.proofs.Holds.{run_grows}
 use Rattle.trade_reconstruction.proofs.Members.{Contains-from_In, In, In-append_cases, In-filter_map, In-from_Contains, found_longer, found_passes, none_is_some, picked_from, same_some}
 use Rattle.trade_reconstruction.proofs.Quoting.{AllQuiet, Quiet, app_quiet, input_quiet, room_fact_in}
@@ -106,12 +105,12 @@ shown_part : (row moment : ℕ) (m : Market) (h : History) (r : Room) (id : List
 unfolding words_in
 shown_part row moment m h r id = refl
 
-words_more_than : (m : Market) (h : History) (number : ℕ) (words : List EvidenceEvent) (rs : List TrailRow) (is : List Input) → (more : List EvidenceEvent) × (words_from m h number words rs is ≡ words ++ more)
-words_more_than m h number words [] is = ([], sym (append-nil words))
-words_more_than m h number words (r ∷ rs) [] = ([], sym (append-nil words))
-words_more_than m h number words (r ∷ rs) (j ∷ js) =
-    let new = words_at m h number words r j in
-    let k = words_more_than m (after h (answer_input m h j)) number (words ++ new) rs js in
+words_more_than : (m : Market) (h : History) (words : List EvidenceEvent) (rs : List TrailRow) (is : List Input) → (more : List EvidenceEvent) × (words_from m h words rs is ≡ words ++ more)
+words_more_than m h words [] is = ([], sym (append-nil words))
+words_more_than m h words (r ∷ rs) [] = ([], sym (append-nil words))
+words_more_than m h words (r ∷ rs) (j ∷ js) =
+    let new = words_at m h words r j in
+    let k = words_more_than m (after h (answer_input m h j)) (words ++ new) rs js in
     (new ++ k.0, k.1 ∙ append_assoc words new k.0)
 
 -- where a quote came, from a history on
@@ -130,23 +129,21 @@ record ShownAt (m : Market) (h : History) (rs : List TrailRow) (is : List Input)
   pub after : List EvidenceEvent
   pub shown : all ≡ before ++ (shown_words row.n row.moment asked.requester asked.id (picture (run_from m h earlier).history.facts asked.instrument) ++ after)
 
-abbrev Whole : Market → ℕ → History → List EvidenceEvent → List TrailRow → List Input → RoomQuote → Type 0
-Whole m number h words rs is q = In q (quotes h.facts) ⊎ ShownAt m h rs is (words_from m h number words rs is) q
+abbrev Whole : Market → History → List EvidenceEvent → List TrailRow → List Input → RoomQuote → Type 0
+Whole m h words rs is q = In q (quotes h.facts) ⊎ ShownAt m h rs is (words_from m h words rs is) q
 
-shown_here : (m : Market) (number : ℕ) (h : History) (words : List EvidenceEvent) (r : TrailRow) (j : Input) (rs : List TrailRow) (js : List Input) (q : RoomQuote) → In q (quotes (answer_input m h j).facts) → first_quote h.facts q.room ≡ None
-    → ShownAt m h (r ∷ rs) (j ∷ js) (words_from m h number words (r ∷ rs) (j ∷ js)) q
-shown_here m number h words r j rs js q i none =
+shown_here : (m : Market) (h : History) (words : List EvidenceEvent) (r : TrailRow) (j : Input) (rs : List TrailRow) (js : List Input) (q : RoomQuote) → In q (quotes (answer_input m h j).facts) → first_quote h.facts q.room ≡ None
+    → ShownAt m h (r ∷ rs) (j ∷ js) (words_from m h words (r ∷ rs) (j ∷ js)) q
+shown_here m h words r j rs js q i none =
     let a = answer_input m h j in
     let k = input_pictures m h words r.n j q i none in
-    let stood = stood_at m h number r.n r.moment a.replies in
     let c = came_of m words r.n j in
     let f = words_in r.n r.moment c in
     let p = flat_part f a.replies (shows m h k.0) k.3 in
     let part = shown_words r.n r.moment k.0.requester k.0.id (picture h.facts k.0.instrument) in
     let is_part : f (shows m h k.0) ≡ part = ap (λ (y : Trigger). words_in r.n r.moment y (shows m h k.0)) k.5 ∙ shown_part r.n r.moment m h k.0 k.4 in
     let new = words_of r.n r.moment c a.replies in
-    let at = stood ++ new in
-    let more = words_more_than m (after h a) number (words ++ at) rs js in
+    let more = words_more_than m (after h a) (words ++ new) rs js in
     record {
       earlier = [];
       input = j;
@@ -158,19 +155,19 @@ shown_here m number h words r j rs js q i none =
       asked = k.0;
       was_asked = k.1;
       here = k.2;
-      before = (words ++ stood) ++ p.0;
+      before = words ++ p.0;
       after = p.1 ++ more.0;
       shown = more.1
-          ∙ (ap (λ l. (words ++ (stood ++ l)) ++ more.0) (p.2 ∙ ap (λ l. p.0 ++ (l ++ p.1)) is_part)
-          ∙ parted words stood p.0 part p.1 more.0);
+          ∙ (ap (λ l. (words ++ l) ++ more.0) (p.2 ∙ ap (λ l. p.0 ++ (l ++ p.1)) is_part)
+          ∙ parted words p.0 part p.1 more.0);
     }
   where
-    parted : (a b c d e f : List EvidenceEvent) → (a ++ (b ++ (c ++ (d ++ e)))) ++ f ≡ ((a ++ b) ++ c) ++ (d ++ (e ++ f))
-    parted a b c d e f = simp (append_assoc)
+    parted : (a c d e f : List EvidenceEvent) → (a ++ (c ++ (d ++ e))) ++ f ≡ (a ++ c) ++ (d ++ (e ++ f))
+    parted a c d e f = simp (append_assoc)
 
-shown_later : (m : Market) (number : ℕ) (h : History) (words : List EvidenceEvent) (r : TrailRow) (j : Input) (rs : List TrailRow) (js : List Input) (q : RoomQuote)
-    → ShownAt m (after h (answer_input m h j)) rs js (words_from m h number words (r ∷ rs) (j ∷ js)) q → ShownAt m h (r ∷ rs) (j ∷ js) (words_from m h number words (r ∷ rs) (j ∷ js)) q
-shown_later m number h words r j rs js q s = record {
+shown_later : (m : Market) (h : History) (words : List EvidenceEvent) (r : TrailRow) (j : Input) (rs : List TrailRow) (js : List Input) (q : RoomQuote)
+    → ShownAt m (after h (answer_input m h j)) rs js (words_from m h words (r ∷ rs) (j ∷ js)) q → ShownAt m h (r ∷ rs) (j ∷ js) (words_from m h words (r ∷ rs) (j ∷ js)) q
+shown_later m h words r j rs js q s = record {
   earlier = j ∷ s.earlier;
   input = s.input;
   later = s.later;
@@ -193,29 +190,29 @@ first_stays facts more room p q here whole =
     let longer : first_quote (facts ++ more) room ≡ Some p = ap (λ qs. find test qs) (filter_map-append quote_in_fact facts more) ∙ found_longer test (quotes facts) (quotes more) p here in
     subst (λ (x : RoomQuote). In x (quotes facts)) (same_some p q (sym longer ∙ whole)) (found_passes test (quotes facts) p here).0
 
-by_first : (m : Market) (number : ℕ) (h : History) (words : List EvidenceEvent) (r : TrailRow) (j : Input) (rs : List TrailRow) (js : List Input) (q : RoomQuote) (o : Option RoomQuote) → first_quote h.facts q.room ≡ o
-    → first_quote (run_from m h (j ∷ js)).history.facts q.room ≡ Some q → In q (quotes (answer_input m h j).facts) → Whole m number h words (r ∷ rs) (j ∷ js) q
-by_first m number h words r j rs js q None e whole i = inr (shown_here m number h words r j rs js q i e)
-by_first m number h words r j rs js q (Some p) e whole i = let grows = run_grows m h [] (j ∷ js) in inl (first_stays h.facts grows.0 q.room p q e (sym (ap (λ (fs : List Fact). first_quote fs q.room) grows.1) ∙ whole))
+by_first : (m : Market) (h : History) (words : List EvidenceEvent) (r : TrailRow) (j : Input) (rs : List TrailRow) (js : List Input) (q : RoomQuote) (o : Option RoomQuote) → first_quote h.facts q.room ≡ o
+    → first_quote (run_from m h (j ∷ js)).history.facts q.room ≡ Some q → In q (quotes (answer_input m h j).facts) → Whole m h words (r ∷ rs) (j ∷ js) q
+by_first m h words r j rs js q None e whole i = inr (shown_here m h words r j rs js q i e)
+by_first m h words r j rs js q (Some p) e whole i = let grows = run_grows m h [] (j ∷ js) in inl (first_stays h.facts grows.0 q.room p q e (sym (ap (λ (fs : List Fact). first_quote fs q.room) grows.1) ∙ whole))
 
-shown_among : (m : Market) (number : ℕ) (h : History) (words : List EvidenceEvent) (r : TrailRow) (j : Input) (rs : List TrailRow) (js : List Input) (q : RoomQuote) → first_quote (run_from m h (j ∷ js)).history.facts q.room ≡ Some q
-    → In q (quotes h.facts) ⊎ In q (quotes (answer_input m h j).facts) → Whole m number h words (r ∷ rs) (j ∷ js) q
-shown_among m number h words r j rs js q whole (inl old) = inl old
-shown_among m number h words r j rs js q whole (inr new) = by_first m number h words r j rs js q (first_quote h.facts q.room) refl whole new
+shown_among : (m : Market) (h : History) (words : List EvidenceEvent) (r : TrailRow) (j : Input) (rs : List TrailRow) (js : List Input) (q : RoomQuote) → first_quote (run_from m h (j ∷ js)).history.facts q.room ≡ Some q
+    → In q (quotes h.facts) ⊎ In q (quotes (answer_input m h j).facts) → Whole m h words (r ∷ rs) (j ∷ js) q
+shown_among m h words r j rs js q whole (inl old) = inl old
+shown_among m h words r j rs js q whole (inr new) = by_first m h words r j rs js q (first_quote h.facts q.room) refl whole new
 
-shown_step : (m : Market) (number : ℕ) (h : History) (words : List EvidenceEvent) (r : TrailRow) (j : Input) (rs : List TrailRow) (js : List Input) (q : RoomQuote) → first_quote (run_from m h (j ∷ js)).history.facts q.room ≡ Some q
-    → Whole m number (after h (answer_input m h j)) (words ++ words_at m h number words r j) rs js q → Whole m number h words (r ∷ rs) (j ∷ js) q
-shown_step m number h words r j rs js q whole (inl k) =
-    shown_among m number h words r j rs js q whole (In-append_cases (quotes h.facts) (quotes (answer_input m h j).facts) q (subst (In q) (filter_map-append quote_in_fact h.facts (answer_input m h j).facts) k))
-shown_step m number h words r j rs js q whole (inr k) = inr (shown_later m number h words r j rs js q k)
+shown_step : (m : Market) (h : History) (words : List EvidenceEvent) (r : TrailRow) (j : Input) (rs : List TrailRow) (js : List Input) (q : RoomQuote) → first_quote (run_from m h (j ∷ js)).history.facts q.room ≡ Some q
+    → Whole m (after h (answer_input m h j)) (words ++ words_at m h words r j) rs js q → Whole m h words (r ∷ rs) (j ∷ js) q
+shown_step m h words r j rs js q whole (inl k) =
+    shown_among m h words r j rs js q whole (In-append_cases (quotes h.facts) (quotes (answer_input m h j).facts) q (subst (In q) (filter_map-append quote_in_fact h.facts (answer_input m h j).facts) k))
+shown_step m h words r j rs js q whole (inr k) = inr (shown_later m h words r j rs js q k)
 
-day_shows : (m : Market) (number : ℕ) (h : History) (words : List EvidenceEvent) (rs : List TrailRow) (is : List Input) → AreEmitted rs is → (q : RoomQuote) → first_quote (run_from m h is).history.facts q.room ≡ Some q → In q (quotes (run_from m h is).history.facts)
-    → Whole m number h words rs is q
-day_shows m number h words [] [] emitted q whole i = inl i
-day_shows m number h words [] (j ∷ js) emitted q whole i = absurd emitted
-day_shows m number h words (r ∷ rs) [] emitted q whole i = absurd emitted
-day_shows m number h words (r ∷ rs) (j ∷ js) emitted q whole i =
-    shown_step m number h words r j rs js q whole (day_shows m number (after h (answer_input m h j)) (words ++ words_at m h number words r j) rs js emitted.1 q whole i)
+day_shows : (m : Market) (h : History) (words : List EvidenceEvent) (rs : List TrailRow) (is : List Input) → AreEmitted rs is → (q : RoomQuote) → first_quote (run_from m h is).history.facts q.room ≡ Some q → In q (quotes (run_from m h is).history.facts)
+    → Whole m h words rs is q
+day_shows m h words [] [] emitted q whole i = inl i
+day_shows m h words [] (j ∷ js) emitted q whole i = absurd emitted
+day_shows m h words (r ∷ rs) [] emitted q whole i = absurd emitted
+day_shows m h words (r ∷ rs) (j ∷ js) emitted q whole i =
+    shown_step m h words r j rs js q whole (day_shows m (after h (answer_input m h j)) (words ++ words_at m h words r j) rs js emitted.1 q whole i)
 
 quoted_in : (facts : List Fact) (q : RoomQuote) → In q (quotes facts) → In (fact.Quoted q) facts
 quoted_in facts q i = let k = picked_from quote_in_fact facts q i in subst (λ (f : Fact). In f facts) (is_quoted k.0 k.2) k.1
@@ -232,10 +229,10 @@ quoted_in facts q i = let k = picked_from quote_in_fact facts q i in subst (λ (
     is_quoted (fact.Closed y) h = absurd (none_is_some q h)
 
 pub resting_orders_are_shown : RestingOrdersAreShown
-resting_orders_are_shown m rs is number q emitted there first =
-    by (day_shows m number no_history [] rs is emitted q first (In-filter_map quote_in_fact (run m is).history.facts (fact.Quoted q) q (In-from_Contains (run m is).history.facts (fact.Quoted q) there) refl))
+resting_orders_are_shown m rs is q emitted there first =
+    by (day_shows m no_history [] rs is emitted q first (In-filter_map quote_in_fact (run m is).history.facts (fact.Quoted q) q (In-from_Contains (run m is).history.facts (fact.Quoted q) there) refl))
   where
-    by : Whole m number no_history [] rs is q → IsShown m rs is (words_emitted m number rs is) q
+    by : Whole m no_history [] rs is q → IsShown m rs is (words_emitted m rs is) q
     by (inl k) = absurd k
     by (inr k) = record {
       earlier = k.earlier;

@@ -38,14 +38,12 @@ use Rattle.venue_rules.specs.Rooms.{find_quote, find_room, first_quote, live_quo
 use Rattle.venue_rules.specs.Run.{Input, Message, Tick, after, answer_due_of, answer_input, run, run_from}
 use Rattle.venue_rules.specs.Withdrawals.{answer_withdrawal_of, not_found, withdraw_one, withdrawn_or}
 use Rattle.venue_core.specs.Replay.{AreEmitted}
-use Rattle.trade_reconstruction.specs.declared.evidence_event.Quoted.{Quoted}
 use Rattle.trade_reconstruction.specs.declared.evidence_event.EventKind.TheVariants as said
 use Rattle.trade_reconstruction.specs.declared.evidence_event.EvidenceEvent.{EvidenceEvent}
 use Rattle.trade_reconstruction.specs.declared.trigger.Trigger.{Trigger}
 use Rattle.trade_reconstruction.specs.EventKinds.{quote_id_in, word, words_in, words_of}
 use Rattle.trade_reconstruction.specs.Emitted.{came_of, words_at, words_emitted, words_from}
 use Rattle.trade_reconstruction.specs.Laws.{IsReported, QuotesAreReported, quoted_as}
-use Rattle.trade_reconstruction.specs.Standing.{stood_at}
 use Rattle.trade_reconstruction.proofs.Holds.{run_grows}
 use Rattle.trade_reconstruction.proofs.Members.{Contains-from_In, In, In-append_cases, In-append_left, In-append_right, In-filter_map, In-from_Contains, found_passes, none_is_some, picked_from, same_some}
 
@@ -204,26 +202,25 @@ sent_word row moment c m r q = inl refl
 
 -- and all of a day have
 
-words_begin : (m : Market) (h : History) (number : ℕ) (words : List EvidenceEvent) (rs : List TrailRow) (is : List Input) (w : EvidenceEvent) → In w words → In w (words_from m h number words rs is)
-words_begin m h number words [] is w i = i
-words_begin m h number words (r ∷ rs) [] w i = i
-words_begin m h number words (r ∷ rs) (j ∷ js) w i = words_begin m (after h (answer_input m h j)) number (words ++ words_at m h number words r j) rs js w (In-append_left words (words_at m h number words r j) w i)
+words_begin : (m : Market) (h : History) (words : List EvidenceEvent) (rs : List TrailRow) (is : List Input) (w : EvidenceEvent) → In w words → In w (words_from m h words rs is)
+words_begin m h words [] is w i = i
+words_begin m h words (r ∷ rs) [] w i = i
+words_begin m h words (r ∷ rs) (j ∷ js) w i = words_begin m (after h (answer_input m h j)) (words ++ words_at m h words r j) rs js w (In-append_left words (words_at m h words r j) w i)
 
 abbrev Reported : Market → List Fact → List EvidenceEvent → RoomQuote → Type 0
 Reported m facts words q = (r : Room) × In r (rooms facts) × (r.number ≡ q.room) × (w : EvidenceEvent) × In w words × (w.to ≡ r.requester) × (id : Option (List ℕ)) × (w.said ≡ said.Quoted (quoted_as m r q id))
 
-abbrev Whole : Market → ℕ → History → List EvidenceEvent → List TrailRow → List Input → RoomQuote → Type 0
-Whole m number h words rs is q = In q (quotes h.facts) ⊎ Reported m (run_from m h is).history.facts (words_from m h number words rs is) q
+abbrev Whole : Market → History → List EvidenceEvent → List TrailRow → List Input → RoomQuote → Type 0
+Whole m h words rs is q = In q (quotes h.facts) ⊎ Reported m (run_from m h is).history.facts (words_from m h words rs is) q
 
 -- a quote that the answer at a row adds
-reports_here : (m : Market) (number : ℕ) (h : History) (words : List EvidenceEvent) (r : TrailRow) (j : Input) (rs : List TrailRow) (js : List Input) (q : RoomQuote) → In q (quotes (answer_input m h j).facts) → Whole m number h words (r ∷ rs) (j ∷ js) q
-reports_here m number h words r j rs js q k =
+reports_here : (m : Market) (h : History) (words : List EvidenceEvent) (r : TrailRow) (j : Input) (rs : List TrailRow) (js : List Input) (q : RoomQuote) → In q (quotes (answer_input m h j).facts) → Whole m h words (r ∷ rs) (j ∷ js) q
+reports_here m h words r j rs js q k =
     let a = answer_input m h j in
     let sent = input_sends m h j q k in
     let c = came_of m words r.n j in
     let w = word r.n r.moment sent.0.requester (said.Quoted (quoted_as m sent.0 q (quote_id_in c))) in
     let new = words_of r.n r.moment c a.replies in
-    let stood = stood_at m h number r.n r.moment a.replies in
     let grows = run_grows m h [] (j ∷ js) in
     let among : In w new = flat_In (words_in r.n r.moment c) a.replies (quote_sent m sent.0 q) w sent.3 (sent_word r.n r.moment c m sent.0 q) in
     inr (
@@ -231,29 +228,29 @@ reports_here m number h words r j rs js q k =
       subst (λ (fs : List Fact). In sent.0 (rooms fs)) (sym grows.1) (subst (In sent.0) (sym (filter_map-append room_in_fact h.facts grows.0)) (In-append_left (rooms h.facts) (rooms grows.0) sent.0 sent.1)),
       sent.2,
       w,
-      words_begin m (after h a) number (words ++ words_at m h number words r j) rs js w (In-append_right words (words_at m h number words r j) w (In-append_right stood new w among)),
+      words_begin m (after h a) (words ++ words_at m h words r j) rs js w (In-append_right words new w among),
       refl,
       quote_id_in c,
       refl,
     )
 
-reports_among : (m : Market) (number : ℕ) (h : History) (words : List EvidenceEvent) (r : TrailRow) (j : Input) (rs : List TrailRow) (js : List Input) (q : RoomQuote) → In q (quotes h.facts) ⊎ In q (quotes (answer_input m h j).facts)
-    → Whole m number h words (r ∷ rs) (j ∷ js) q
-reports_among m number h words r j rs js q (inl old) = inl old
-reports_among m number h words r j rs js q (inr new) = reports_here m number h words r j rs js q new
+reports_among : (m : Market) (h : History) (words : List EvidenceEvent) (r : TrailRow) (j : Input) (rs : List TrailRow) (js : List Input) (q : RoomQuote) → In q (quotes h.facts) ⊎ In q (quotes (answer_input m h j).facts)
+    → Whole m h words (r ∷ rs) (j ∷ js) q
+reports_among m h words r j rs js q (inl old) = inl old
+reports_among m h words r j rs js q (inr new) = reports_here m h words r j rs js q new
 
-reports_step : (m : Market) (number : ℕ) (h : History) (words : List EvidenceEvent) (r : TrailRow) (j : Input) (rs : List TrailRow) (js : List Input) (q : RoomQuote)
-    → Whole m number (after h (answer_input m h j)) (words ++ words_at m h number words r j) rs js q → Whole m number h words (r ∷ rs) (j ∷ js) q
-reports_step m number h words r j rs js q (inl k) =
-    reports_among m number h words r j rs js q (In-append_cases (quotes h.facts) (quotes (answer_input m h j).facts) q (subst (In q) (filter_map-append quote_in_fact h.facts (answer_input m h j).facts) k))
-reports_step m number h words r j rs js q (inr k) = inr k
+reports_step : (m : Market) (h : History) (words : List EvidenceEvent) (r : TrailRow) (j : Input) (rs : List TrailRow) (js : List Input) (q : RoomQuote)
+    → Whole m (after h (answer_input m h j)) (words ++ words_at m h words r j) rs js q → Whole m h words (r ∷ rs) (j ∷ js) q
+reports_step m h words r j rs js q (inl k) =
+    reports_among m h words r j rs js q (In-append_cases (quotes h.facts) (quotes (answer_input m h j).facts) q (subst (In q) (filter_map-append quote_in_fact h.facts (answer_input m h j).facts) k))
+reports_step m h words r j rs js q (inr k) = inr k
 
-day_reports : (m : Market) (number : ℕ) (h : History) (words : List EvidenceEvent) (rs : List TrailRow) (is : List Input) → AreEmitted rs is → (q : RoomQuote) → In q (quotes (run_from m h is).history.facts) → Whole m number h words rs is q
-day_reports m number h words [] [] emitted q i = inl i
-day_reports m number h words [] (j ∷ js) emitted q i = absurd emitted
-day_reports m number h words (r ∷ rs) [] emitted q i = absurd emitted
-day_reports m number h words (r ∷ rs) (j ∷ js) emitted q i =
-    reports_step m number h words r j rs js q (day_reports m number (after h (answer_input m h j)) (words ++ words_at m h number words r j) rs js emitted.1 q i)
+day_reports : (m : Market) (h : History) (words : List EvidenceEvent) (rs : List TrailRow) (is : List Input) → AreEmitted rs is → (q : RoomQuote) → In q (quotes (run_from m h is).history.facts) → Whole m h words rs is q
+day_reports m h words [] [] emitted q i = inl i
+day_reports m h words [] (j ∷ js) emitted q i = absurd emitted
+day_reports m h words (r ∷ rs) [] emitted q i = absurd emitted
+day_reports m h words (r ∷ rs) (j ∷ js) emitted q i =
+    reports_step m h words r j rs js q (day_reports m (after h (answer_input m h j)) (words ++ words_at m h words r j) rs js emitted.1 q i)
 
 pub room_fact_in : (facts : List Fact) (r : Room) → In r (rooms facts) → In (fact.Asked r) facts
 room_fact_in facts r i = let k = picked_from room_in_fact facts r i in subst (λ (f : Fact). In f facts) (is_asked k.0 k.2) k.1
@@ -270,17 +267,17 @@ room_fact_in facts r i = let k = picked_from room_in_fact facts r i in subst (λ
     is_asked (fact.Closed y) h = absurd (none_is_some r h)
 
 pub quotes_are_reported : QuotesAreReported
-quotes_are_reported m rs is number q emitted there =
-    by (day_reports m number no_history [] rs is emitted q (In-filter_map quote_in_fact (run m is).history.facts (fact.Quoted q) q (In-from_Contains (run m is).history.facts (fact.Quoted q) there) refl))
+quotes_are_reported m rs is q emitted there =
+    by (day_reports m no_history [] rs is emitted q (In-filter_map quote_in_fact (run m is).history.facts (fact.Quoted q) q (In-from_Contains (run m is).history.facts (fact.Quoted q) there) refl))
   where
-    by : In q (quotes no_history.facts) ⊎ Reported m (run m is).history.facts (words_emitted m number rs is) q → IsReported m (run m is).history.facts (words_emitted m number rs is) q
+    by : In q (quotes no_history.facts) ⊎ Reported m (run m is).history.facts (words_emitted m rs is) q → IsReported m (run m is).history.facts (words_emitted m rs is) q
     by (inl k) = absurd k
     by (inr k) = record {
       asked = k.0;
       was_asked = Contains-from_In (run m is).history.facts (fact.Asked k.0) (room_fact_in (run m is).history.facts k.0 k.1);
       here = k.2;
       event = k.3;
-      reported = Contains-from_In (words_emitted m number rs is) k.3 k.4;
+      reported = Contains-from_In (words_emitted m rs is) k.3 k.4;
       to = k.5;
       id = k.6;
       says = k.7;

@@ -1,5 +1,5 @@
 -- The events of a day about orders as they enter, their fills, and held sides, reply by reply.
-use Rattle.std.proofs.Common.{◌≡◌, refl, ap, ◌∙◌, ℕ, ℤ, ◌+◌, ◌==◌, Bool, true, false, if◌then◌else◌, List, [], ◌∷◌, ◌++◌, map, filter_map, length, Option, Some, None}
+use Rattle.std.proofs.Common.{◌≡◌, refl, ap, ◌∙◌, ℕ, ℤ, ◌+◌, Bool, if◌then◌else◌, List, [], ◌∷◌, ◌++◌, map, filter_map, Option, Some, None}
 use Rattle.std.specs.Prelude.{bytes_eq}
 use Rattle.std.specs.List.{cons_option}
 use Rattle.std.proofs.lemmas.List.Elements.{filter_map-append}
@@ -13,20 +13,13 @@ use Rattle.venue_rules.specs.declared.replies.RequestSent.{RequestSent}
 use Rattle.venue_rules.specs.declared.replies.RoomReport.{RoomReport}
 use Rattle.venue_rules.specs.declared.replies.ReplyBody.{ReplyBody}
 use Rattle.venue_rules.specs.declared.replies.ReplyBody.TheVariants as what
-use Rattle.venue_rules.specs.Book.{is_side}
-use Rattle.venue_rules.specs.Facts.{History}
-use Rattle.venue_rules.specs.Market.{Market}
 use Rattle.trade_reconstruction.specs.declared.trigger.Trigger.{Trigger}
 use Rattle.trade_reconstruction.specs.declared.trigger.Trigger.TheVariants as trigger
-use Rattle.trade_reconstruction.specs.declared.standing.Met.{Met}
-use Rattle.trade_reconstruction.specs.declared.evidence_event.RestedCount.{RestedCount}
 use Rattle.trade_reconstruction.specs.declared.evidence_event.EventKind.{EventKind}
 use Rattle.trade_reconstruction.specs.declared.evidence_event.EventKind.TheVariants as said
 use Rattle.trade_reconstruction.specs.declared.evidence_event.Shown.{Shown}
-use Rattle.trade_reconstruction.specs.declared.evidence_event.RestedBefore.{RestedBefore}
 use Rattle.trade_reconstruction.specs.declared.evidence_event.EvidenceEvent.{EvidenceEvent}
 use Rattle.trade_reconstruction.specs.EventKinds.{asked_in, entered_of, filled_of, held_by, held_in, hit_in, is_tick, picture_of, pictured_in, price_in, prices_words, said_by, said_in, shown_word, word, words_in, words_of}
-use Rattle.trade_reconstruction.specs.Standing.{counted_word, met_after, prices_of, stood_at, stood_from, stood_if, stood_met, stood_word, stood_words}
 
 -- an order as it enters
 pub record HeardEntry : Type 0 where
@@ -172,31 +165,29 @@ asking_by n t c r = asking_what n t c r.to r.what
 
 -- The events of a reply state what the reply does.
 
--- neither what was shown nor what rested is picked
-pub record IsDeaf {Y : Type 0} (pick : EvidenceEvent → Option Y) : Type 0 where
-  pub shown : (n t to : ℕ) (s : Shown) → pick (word n t to (said.Shown s)) ≡ None
-  pub stood : (n t to : ℕ) (s : RestedBefore) → pick (word n t to (said.RestedBefore s)) ≡ None
-  pub counted : (n t to : ℕ) (s : RestedCount) → pick (word n t to (said.RestedCount s)) ≡ None
+-- what was shown is not picked
+abbrev pub IsDeaf : {Y : Type 0} → (EvidenceEvent → Option Y) → Type 0
+IsDeaf pick = (n t to : ℕ) (s : Shown) → pick (word n t to (said.Shown s)) ≡ None
 
 pub entry-deaf : IsDeaf entry_in
-entry-deaf = record { shown = λ n t to s. refl; stood = λ n t to s. refl; counted = λ n t to s. refl }
+entry-deaf = λ n t to s. refl
 
 pub fill-deaf : IsDeaf fill_in
-fill-deaf = record { shown = λ n t to s. refl; stood = λ n t to s. refl; counted = λ n t to s. refl }
+fill-deaf = λ n t to s. refl
 
 pub hold-deaf : IsDeaf hold_in
-hold-deaf = record { shown = λ n t to s. refl; stood = λ n t to s. refl; counted = λ n t to s. refl }
+hold-deaf = λ n t to s. refl
 
 pub asking-deaf : IsDeaf asking_in
-asking-deaf = record { shown = λ n t to s. refl; stood = λ n t to s. refl; counted = λ n t to s. refl }
+asking-deaf = λ n t to s. refl
 
 pub traded-deaf : IsDeaf traded_in
-traded-deaf = record { shown = λ n t to s. refl; stood = λ n t to s. refl; counted = λ n t to s. refl }
+traded-deaf = λ n t to s. refl
 
 pub shown_silent : {Y : Type 0} (pick : EvidenceEvent → Option Y) → IsDeaf pick → (n t to : ℕ) (request : List ℕ) (es : List SnapshotEntry) → filter_map pick (map (shown_word n t to request) es) ≡ []
 shown_silent pick deaf n t to request [] = refl
 shown_silent pick deaf n t to request (e ∷ es) =
-    ap (λ o. cons_option o (filter_map pick (map (shown_word n t to request) es))) (deaf.shown n t to (record { request = request; side = e.side; price = e.price; left = e.left; order = e.order }))
+    ap (λ o. cons_option o (filter_map pick (map (shown_word n t to request) es))) (deaf n t to (record { request = request; side = e.side; price = e.price; left = e.left; order = e.order }))
     ∙ shown_silent pick deaf n t to request es
 
 prices_silent : {Y : Type 0} (pick : EvidenceEvent → Option Y) → IsDeaf pick → (n t to : ℕ) (c : Trigger) (p : BookSnapshot) → filter_map pick (prices_words n t to c p) ≡ []
@@ -566,31 +557,3 @@ askings_say n t c rs = replies_say asking_in (asking_by n t c) n t c (λ r. what
 pub hits_say : (n t : ℕ) (c : Trigger) (rs : List Reply) → filter_map traded_in (words_of n t c rs) ≡ filter_map (hit_by n c) rs
 unfolding words_in
 hits_say n t c rs = replies_say traded_in (hit_by n c) n t c (λ r. what_traded n t c r.to r.what) rs
-
-stood_if_silent : {Y : Type 0} (pick : EvidenceEvent → Option Y) → IsDeaf pick → (n t : ℕ) (met : Met) (e : SnapshotEntry) → filter_map pick (stood_if n t met e) ≡ []
-stood_if_silent pick deaf n t met e =
-    elim (is_side e.side met.side) as (λ b. filter_map pick (if b then stood_word n t met e ∷ [] else []) ≡ [])
-    [ true ↦ ap (λ o. cons_option o []) (deaf.stood n t met.who (record { resting = met.resting; side = e.side; price = e.price; left = e.left; order = e.order })) | false ↦ refl ]
-
-stood_from_silent : {Y : Type 0} (pick : EvidenceEvent → Option Y) → IsDeaf pick → (n t : ℕ) (met : Met) (es : List SnapshotEntry) → filter_map pick (stood_from n t met es) ≡ []
-stood_from_silent pick deaf n t met [] = refl
-stood_from_silent pick deaf n t met (e ∷ es) =
-    elim (e.order == met.resting) as (λ b. filter_map pick (if b then [] else stood_if n t met e ++ stood_from n t met es) ≡ []) [
-      | true ↦ refl
-      | false ↦ filter_map-append pick (stood_if n t met e) (stood_from n t met es)
-          ∙ (ap (λ l. l ++ filter_map pick (stood_from n t met es)) (stood_if_silent pick deaf n t met e) ∙ stood_from_silent pick deaf n t met es)
-    ]
-
-stood_words_silent : {Y : Type 0} (pick : EvidenceEvent → Option Y) → IsDeaf pick → (n t : ℕ) (met : Met) (es : List SnapshotEntry) → filter_map pick (stood_words n t met es) ≡ []
-unfolding stood_words
-stood_words_silent pick deaf n t met es =
-    let count = length (stood_from n t met es) in
-    filter_map-append pick (stood_from n t met es) (counted_word n t met count ∷ [])
-    ∙ (ap (λ l. l ++ filter_map pick (counted_word n t met count ∷ [])) (stood_from_silent pick deaf n t met es) ∙ ap (λ o. cons_option o []) (deaf.counted n t met.who (record { resting = met.resting; count = count })))
-
-met_silent : {Y : Type 0} (pick : EvidenceEvent → Option Y) → IsDeaf pick → (m : Market) (h : History) (n t : ℕ) (met : Option Met) → filter_map pick (stood_met m h n t met) ≡ []
-met_silent pick deaf m h n t None = refl
-met_silent pick deaf m h n t (Some met) = stood_words_silent pick deaf n t met (prices_of m h met.symbol)
-
-pub stood_silent : {Y : Type 0} (pick : EvidenceEvent → Option Y) → IsDeaf pick → (m : Market) (h : History) (number n t : ℕ) (rs : List Reply) → filter_map pick (stood_at m h number n t rs) ≡ []
-stood_silent pick deaf m h number n t rs = met_silent pick deaf m h n t (met_after number None rs)

@@ -1,7 +1,7 @@
--- The events of a day about what rested before the order that a trade filled, and no others of the kind.
-use Rattle.std.proofs.Common.{◌≡◌, refl, sym, ap, subst, ◌∙◌, ◌⊎◌, inl, inr, ℕ, zero, suc, ◌+◌, ◌-◌, ◌<◌, ◌≤◌, ◌==◌, Bool, true, false, if◌then◌else◌, List, [], ◌∷◌, ◌++◌, map, filter_map, length, slice_get, Option, Some, None, append-nil, eq-eqb, ne_eqb, arith}
+-- What is noted of a trade in the book is what rested before the order that it filled.
+use Rattle.std.proofs.Common.{◌≡◌, refl, sym, ap, subst, ◌∙◌, ◌⊎◌, inl, inr, ℕ, zero, suc, ◌+◌, ◌<◌, ◌≤◌, ◌==◌, Bool, true, false, if◌then◌else◌, List, [], ◌∷◌, ◌++◌, map, filter_map, length, slice_get, Option, Some, None, append-nil, eq-eqb, ne_eqb, arith}
 use Rattle.std.specs.Prelude.{option_map}
-use Rattle.std.specs.List.{cons_option, flat_map}
+use Rattle.std.specs.List.{cons_option}
 use Rattle.std.proofs.lemmas.List.Elements.{filter_map-append}
 use Rattle.std.proofs.lemmas.List.{length-map}
 use Rattle.instruments.specs.Listing.{symbol_of}
@@ -11,182 +11,23 @@ use Rattle.venue_rules.specs.declared.facts.TradeSource.{TradeSource}
 use Rattle.venue_rules.specs.declared.facts.TradeSource.TheVariants.{Book as InBook, Room as InRoom}
 use Rattle.venue_rules.specs.declared.facts.Trade.{Trade}
 use Rattle.venue_rules.specs.declared.replies.FilledReport.{FilledReport}
-use Rattle.venue_rules.specs.declared.replies.OrderReport.{OrderReport}
-use Rattle.venue_rules.specs.declared.replies.SnapshotEntry.{SnapshotEntry}
-use Rattle.venue_rules.specs.declared.replies.BookSnapshot.{BookSnapshot}
 use Rattle.venue_rules.specs.declared.replies.Reply.{Reply}
-use Rattle.venue_rules.specs.declared.replies.RequestSent.{RequestSent}
-use Rattle.venue_rules.specs.declared.replies.RoomReport.{RoomReport}
 use Rattle.venue_rules.specs.declared.replies.ReplyBody.{ReplyBody}
 use Rattle.venue_rules.specs.declared.replies.ReplyBody.TheVariants as what
 use Rattle.venue_rules.specs.declared.trail.TrailRow.{TrailRow}
-use Rattle.venue_rules.specs.Book.{is_side}
-use Rattle.venue_rules.specs.Facts.{History, entries, entry_in as entry_in_fact, next_trade, no_history, trade_in as trade_in_fact, trades}
+use Rattle.venue_rules.specs.Facts.{History, entries, entry_in as entry_in_fact, next_trade, trade_in as trade_in_fact, trades}
 use Rattle.venue_rules.specs.Market.{Market}
 use Rattle.venue_rules.specs.Run.{Input, after, answer_input, run_from}
-use Rattle.trade_reconstruction.specs.declared.trigger.Trigger.{Trigger}
-use Rattle.trade_reconstruction.specs.declared.trigger.Trigger.TheVariants as trigger
 use Rattle.trade_reconstruction.specs.declared.standing.Met.{Met}
-use Rattle.trade_reconstruction.specs.declared.evidence_event.EventKind.{EventKind}
-use Rattle.trade_reconstruction.specs.declared.evidence_event.EventKind.TheVariants as said
-use Rattle.trade_reconstruction.specs.declared.evidence_event.EvidenceEvent.{EvidenceEvent}
 use Rattle.trade_reconstruction.specs.Found.{met_emitted}
-use Rattle.trade_reconstruction.specs.Lines.{standing_line, standing_lines, standing_said}
-use Rattle.trade_reconstruction.specs.EventKinds.{asked_in, entered_of, filled_of, held_by, hit_in, pictured_in, prices_words, said_by, shown_word, words_in, words_of}
-use Rattle.trade_reconstruction.specs.Standing.{counted_word, later, met_after, met_by, met_filled, met_of, met_what, prices_of, stood_at, stood_from, stood_if, stood_met, stood_word, stood_words}
+use Rattle.trade_reconstruction.specs.Standing.{later, met_after, met_by, met_filled, met_of, met_what, prices_of, stood_met, stood_words}
 use Rattle.venue_core.specs.Replay.{AreEmitted, Emits}
-use Rattle.trade_reconstruction.specs.Emitted.{came_of, words_at, words_emitted}
+use Rattle.trade_reconstruction.specs.Emitted.{stood_on}
 use Rattle.trade_reconstruction.proofs.Members.{In, In-append_left, none_is_some, same_some, slice_In, slice_append, slice_map, slice_unmap, slice_within}
-use Rattle.trade_reconstruction.proofs.Says.{HeardFill, fill_by, fill_from, fill_what, replies_say, what_words}
+use Rattle.trade_reconstruction.proofs.Says.{HeardFill, fill_by, fill_from, fill_what}
 use Rattle.trade_reconstruction.proofs.Replies.{FillsOf, at_row, fills_emitted, input-Says, met_in, met_in_what, pair_emitted}
-use Rattle.trade_reconstruction.proofs.Days.{added, day_says, next_trades}
+use Rattle.trade_reconstruction.proofs.Days.{added, next_trades}
 use Rattle.trade_reconstruction.proofs.Holds.{run_grows}
-
--- an event about what rested
-abbrev stands_said : EvidenceEvent → EventKind → Option EvidenceEvent
-stands_said w (said.RestedBefore x) = Some w
-stands_said w (said.RestedCount x) = Some w
-stands_said w _ = None
-
-abbrev pub stands_in : EvidenceEvent → Option EvidenceEvent
-stands_in w = stands_said w w.said
-
--- the lines are of these events alone
-standing_step : (all : List EvidenceEvent) (w : EvidenceEvent) (s : EventKind) (ws : List EvidenceEvent) → s ≡ w.said → standing_said all w s ++ flat_map (standing_line all) ws ≡ flat_map (standing_line all) (cons_option (stands_said w s) ws)
-standing_step all w (said.RestedBefore x) ws e = ap (λ (y : EventKind). standing_said all w y ++ flat_map (standing_line all) ws) e
-standing_step all w (said.RestedCount x) ws e = ap (λ (y : EventKind). standing_said all w y ++ flat_map (standing_line all) ws) e
-standing_step all w (said.Asked x) ws e = refl
-standing_step all w (said.SnapshotSent x) ws e = refl
-standing_step all w (said.Shown x) ws e = refl
-standing_step all w (said.Quoted x) ws e = refl
-standing_step all w (said.Hit x) ws e = refl
-standing_step all w (said.Entered x) ws e = refl
-standing_step all w (said.Held x) ws e = refl
-standing_step all w (said.Filled x) ws e = refl
-
-lines_of_standing : (all ws : List EvidenceEvent) → flat_map (standing_line all) ws ≡ flat_map (standing_line all) (filter_map stands_in ws)
-lines_of_standing all [] = refl
-lines_of_standing all (w ∷ ws) = ap (λ l. standing_line all w ++ l) (lines_of_standing all ws) ∙ standing_step all w w.said (filter_map stands_in ws) refl
-
--- no event of the kind
-abbrev none_of : Reply → Option EvidenceEvent
-none_of r = None
-
-shown_not_standing : (n t to : ℕ) (request : List ℕ) (es : List SnapshotEntry) → filter_map stands_in (map (shown_word n t to request) es) ≡ []
-shown_not_standing n t to request [] = refl
-shown_not_standing n t to request (e ∷ es) = shown_not_standing n t to request es
-
--- Replies say nothing of what rested.
-
-asked_standing : (n t : ℕ) (c : Trigger) (to : ℕ) (r : RequestSent) → filter_map stands_in (said_by n t to (asked_in c r) ++ []) ≡ []
-asked_standing n t (trigger.Request x) to r = refl
-asked_standing n t (trigger.Quote x) to r = refl
-asked_standing n t (trigger.Response x) to r = refl
-asked_standing n t (trigger.Order x) to r = refl
-asked_standing n t (trigger.Cross x) to r = refl
-asked_standing n t trigger.Tick to r = refl
-asked_standing n t trigger.Other to r = refl
-
-hit_standing : (n t : ℕ) (c : Trigger) (to : ℕ) (r : RoomReport) → filter_map stands_in (said_by n t to (hit_in c r) ++ []) ≡ []
-hit_standing n t (trigger.Request x) to r = refl
-hit_standing n t (trigger.Quote x) to r = refl
-hit_standing n t (trigger.Response x) to r = refl
-hit_standing n t (trigger.Order x) to r = refl
-hit_standing n t (trigger.Cross x) to r = refl
-hit_standing n t trigger.Tick to r = refl
-hit_standing n t trigger.Other to r = refl
-
-prices_standing : (n t : ℕ) (c : Trigger) (to : ℕ) (p : BookSnapshot) → filter_map stands_in (said_by n t to (pictured_in c p) ++ prices_words n t to c p) ≡ []
-prices_standing n t (trigger.Request x) to p = refl
-prices_standing n t (trigger.Quote x) to p = shown_not_standing n t to p.request_id p.entries
-prices_standing n t (trigger.Response x) to p = refl
-prices_standing n t (trigger.Order x) to p = refl
-prices_standing n t (trigger.Cross x) to p = refl
-prices_standing n t trigger.Tick to p = refl
-prices_standing n t trigger.Other to p = refl
-
-held_standing : (n t : ℕ) (c : Trigger) (to : ℕ) (r : OrderReport) → filter_map stands_in (said_by n t to (held_by c r) ++ []) ≡ []
-held_standing n t (trigger.Request x) to r = refl
-held_standing n t (trigger.Quote x) to r = refl
-held_standing n t (trigger.Response x) to r = refl
-held_standing n t (trigger.Order x) to r = refl
-held_standing n t (trigger.Cross x) to r = refl
-held_standing n t trigger.Tick to r = refl
-held_standing n t trigger.Other to r = refl
-
-entered_standing : (n t : ℕ) (c : Trigger) (to : ℕ) (original : Option (List ℕ)) (r : OrderReport) (o : Option ℕ) (rest : List EvidenceEvent) → filter_map stands_in rest ≡ [] → filter_map stands_in (said_by n t to (entered_of c original r o) ++ rest) ≡ []
-entered_standing n t c to original r None rest k = k
-entered_standing n t c to original r (Some order) rest k = k
-
-filled_standing : (n t to : ℕ) (f : FilledReport) (o : Option ℕ) → filter_map stands_in (said_by n t to (filled_of f o) ++ []) ≡ []
-filled_standing n t to f None = refl
-filled_standing n t to f (Some order) = refl
-
-what_standing : (n t : ℕ) (c : Trigger) (to : ℕ) (x : ReplyBody) → filter_map stands_in (what_words n t c to x) ≡ []
-what_standing n t c to (what.RequestSent r) = asked_standing n t c to r
-what_standing n t c to (what.BookSnapshot p) = prices_standing n t c to p
-what_standing n t c to (what.QuoteSent q) = refl
-what_standing n t c to (what.OrderEntered r) = entered_standing n t c to None r r.order (said_by n t to (held_by c r) ++ []) (held_standing n t c to r)
-what_standing n t c to (what.OrderReplaced r) = entered_standing n t c to _ r.order r.order.order [] refl
-what_standing n t c to (what.OrderFilled f) = filled_standing n t to f f.order.order
-what_standing n t c to (what.RoomTraded r) = hit_standing n t c to r
-what_standing n t c to (what.OrderRefused r) = refl
-what_standing n t c to (what.CrossRefused r) = refl
-what_standing n t c to (what.OrderUnfilled r) = refl
-what_standing n t c to (what.OrderCancelled r) = refl
-what_standing n t c to (what.ChangeRefused r) = refl
-what_standing n t c to (what.RequestRefused r) = refl
-what_standing n t c to (what.QuoteStatus r) = refl
-what_standing n t c to (what.MarketDataReject r) = refl
-what_standing n t c to (what.BusinessReject r) = refl
-
-none_picked : (rs : List Reply) → filter_map (λ (r : Reply). none_of r) rs ≡ []
-none_picked [] = refl
-none_picked (r ∷ rs) = none_picked rs
-
-replies_silent : (n t : ℕ) (c : Trigger) (rs : List Reply) → filter_map stands_in (words_of n t c rs) ≡ []
-unfolding words_in
-replies_silent n t c rs = replies_say stands_in none_of n t c (λ r. what_standing n t c r.to r.what) rs ∙ none_picked rs
-
--- What rested is reported as it is.
-
-stood_if_stands : (n t : ℕ) (met : Met) (e : SnapshotEntry) → filter_map stands_in (stood_if n t met e) ≡ stood_if n t met e
-stood_if_stands n t met e = elim (is_side e.side met.side) as (λ b. filter_map stands_in (if b then stood_word n t met e ∷ [] else []) ≡ (if b then stood_word n t met e ∷ [] else [])) [ true ↦ refl | false ↦ refl ]
-
-stood_from_stands : (n t : ℕ) (met : Met) (es : List SnapshotEntry) → filter_map stands_in (stood_from n t met es) ≡ stood_from n t met es
-stood_from_stands n t met [] = refl
-stood_from_stands n t met (e ∷ es) =
-    elim (e.order == met.resting) as (λ b. filter_map stands_in (if b then [] else stood_if n t met e ++ stood_from n t met es) ≡ (if b then [] else stood_if n t met e ++ stood_from n t met es)) [
-      | true ↦ refl
-      | false ↦ filter_map-append stands_in (stood_if n t met e) (stood_from n t met es)
-          ∙ (ap (λ l. l ++ filter_map stands_in (stood_from n t met es)) (stood_if_stands n t met e) ∙ ap (λ l. stood_if n t met e ++ l) (stood_from_stands n t met es))
-    ]
-
-stood_words_stand : (n t : ℕ) (met : Met) (es : List SnapshotEntry) → filter_map stands_in (stood_words n t met es) ≡ stood_words n t met es
-unfolding stood_words
-stood_words_stand n t met es =
-    let count = length (stood_from n t met es) in
-    filter_map-append stands_in (stood_from n t met es) (counted_word n t met count ∷ []) ∙ ap (λ l. l ++ counted_word n t met count ∷ []) (stood_from_stands n t met es)
-
-met_stands : (m : Market) (h : History) (n t : ℕ) (met : Option Met) → filter_map stands_in (stood_met m h n t met) ≡ stood_met m h n t met
-met_stands m h n t None = refl
-met_stands m h n t (Some met) = stood_words_stand n t met (prices_of m h met.symbol)
-
--- Row by row.
-
-abbrev stood_on : Market → ℕ → History → List TrailRow → List Input → List EvidenceEvent
-stood_on m number h [] is = []
-stood_on m number h (r ∷ rs) [] = []
-stood_on m number h (r ∷ rs) (i ∷ is) = stood_at m h number r.n r.moment (answer_input m h i).replies ++ stood_on m number (after h (answer_input m h i)) rs is
-
-stood_step : (m : Market) (number : ℕ) (h : History) (words : List EvidenceEvent) (r : TrailRow) (i : Input) (rs : List TrailRow) (is : List Input) → Emits r i
-    → filter_map stands_in (words_at m h number words r i) ++ stood_on m number (after h (answer_input m h i)) rs is ≡ stood_on m number h (r ∷ rs) (i ∷ is)
-stood_step m number h words r i rs is emits =
-    let replies = (answer_input m h i).replies in
-    let emitted = words_of r.n r.moment (came_of m words r.n i) replies in
-    let here = stood_at m h number r.n r.moment replies in
-    ap (λ l. l ++ stood_on m number (after h (answer_input m h i)) rs is)
-    (filter_map-append stands_in here emitted ∙ (ap (λ l. l ++ filter_map stands_in emitted) (met_stands m h r.n r.moment (met_after number None replies)) ∙ (ap (λ l. here ++ l) (replies_silent r.n r.moment (came_of m words r.n i) replies) ∙ append-nil here)))
 
 -- The filled order is that of the fills.
 
@@ -435,7 +276,7 @@ at_one r i x = (r, i, x)
 abbrev at_step : TrailRow → Input → List Trade → List (TrailRow × Input × Trade)
 at_step r i ts = map (λ (x : Trade). at_one r i x) ts
 
-stood_once : (m : Market) (number : ℕ) (h : History) (rs : List TrailRow) (is : List Input) → AreEmitted rs is → (k old new : ℕ) (q : TrailRow × Input × Trade) → slice_get (added trade_in_fact m h rs is) k ≡ Some q → q.2.place ≡ InBook old new
+pub stood_once : (m : Market) (number : ℕ) (h : History) (rs : List TrailRow) (is : List Input) → AreEmitted rs is → (k old new : ℕ) (q : TrailRow × Input × Trade) → slice_get (added trade_in_fact m h rs is) k ≡ Some q → q.2.place ≡ InBook old new
     → number ≡ next_trade h.facts + k → StoodAt m number h rs is q old
 stood_once m number h [] is emitted k old new q at place from = absurd (none_is_some q at)
 stood_once m number h (r ∷ rs) [] emitted k old new q at place from = absurd (none_is_some q at)
@@ -462,12 +303,3 @@ stood_once m number h (r ∷ rs) (i ∷ is) emitted k old new q at place from =
         let f = counted (next_trade h.facts) (length ts) (length (at_step r i ts)) behind.0 many behind.1 from in
         stood_later m number h r i rs is emitted.0 q old behind.0 f
         (rec behind.0 behind.2 (further (next_trade (after h (answer_input m h i)).facts) (next_trade h.facts) (length ts) (length ts) behind.0 (next_trades h (answer_input m h i).facts) refl f))
-
--- the events of a day about what rested
-pub standing_emitted : (m : Market) (number : ℕ) (rs : List TrailRow) (is : List Input) → AreEmitted rs is → (old new : ℕ) (q : TrailRow × Input × Trade) → slice_get (added trade_in_fact m no_history rs is) (number - 1) ≡ Some q → q.2.place ≡ InBook old new
-    → number ≡ 1 + (number - 1)
-    → (s : StoodAt m number no_history rs is q old)
-    × (standing_lines (words_emitted m number rs is) ≡ flat_map (standing_line (words_emitted m number rs is)) (stood_words q.0.n q.0.moment (met_emitted m s.of) (prices_of m (run_from m no_history s.earlier).history (symbol_of m.instruments s.of.order.instrument))))
-standing_emitted m number rs is emitted old new q at place from =
-    let s = stood_once m number no_history rs is emitted (number - 1) old new q at place from in
-    (s, lines_of_standing (words_emitted m number rs is) (words_emitted m number rs is) ∙ ap (λ (ws : List EvidenceEvent). flat_map (standing_line (words_emitted m number rs is)) ws) (day_says stands_in (λ h xs ys. stood_on m number h xs ys) m number (λ h. refl) (stood_step m number) no_history [] rs is emitted ∙ s.said))

@@ -1,5 +1,6 @@
--- The events of a day, row by row, and the evidence for one of its trades.
-use Rattle.std.specs.Prelude.{◌≡◌, ℕ, ◌-◌, ◌==◌, List, [], ◌∷◌, ◌++◌, Option, None, Some, slice_get, if◌then◌else◌, ⊤}
+-- The events of a day, row by row, and the evidence for one of its trades, or for all.
+use Rattle.std.specs.Prelude.{◌≡◌, ℕ, ◌+◌, ◌-◌, ◌==◌, true, List, [], ◌∷◌, ◌++◌, Option, None, Some, codes, length, slice_get, if◌then◌else◌, ⊤}
+use Rattle.std.specs.List.{flat_map}
 use Rattle.std.specs.Io.KnownBytes.{Appends}
 use Rattle.instruments.specs.declared.instruments.Instrument.{Instrument}
 use Rattle.venue_rules.specs.declared.trail.Taken.{Taken}
@@ -20,12 +21,14 @@ use Rattle.trade_reconstruction.specs.declared.evidence.EvidenceFault.{EvidenceF
 use Rattle.trade_reconstruction.specs.declared.evidence.EvidenceFault.TheVariants as fault
 use Rattle.trade_reconstruction.specs.declared.evidence_event.EvidenceEvent.{EvidenceEvent}
 use Rattle.trade_reconstruction.specs.Found.{HasOrders, HasRequest, HasRow}
-use Rattle.trade_reconstruction.specs.declared.quote_note.QuoteNote.{QuoteNote}
+use Rattle.trade_reconstruction.specs.declared.quote_note.Ended.{Ended}
+use Rattle.trade_reconstruction.specs.declared.quote_note.QuoteFate.{QuoteFate}
+use Rattle.trade_reconstruction.specs.declared.trade_notes.TradeNotes.{TradeNotes}
 use Rattle.trade_reconstruction.specs.Lines.{evidence}
-use Rattle.trade_reconstruction.specs.NoteLines.{note_lines}
-use Rattle.trade_reconstruction.specs.QuoteNotes.{notes_at}
+use Rattle.trade_reconstruction.specs.NoteLines.{fate_lines}
+use Rattle.trade_reconstruction.specs.QuoteNotes.{ended_at, fates_at, taken_in}
 use Rattle.trade_reconstruction.specs.EventKinds.{trigger_in, words_of}
-use Rattle.trade_reconstruction.specs.Standing.{stood_at}
+use Rattle.trade_reconstruction.specs.Standing.{is_watched, stood_at}
 
 -- the trigger at a row: a message, or a tick, after these events
 abbrev pub trigger_at : List Instrument → List EvidenceEvent → ℕ → Option Taken → Trigger
@@ -37,47 +40,85 @@ abbrev pub came_of : Market → List EvidenceEvent → ℕ → Input → Trigger
 came_of m words row (Message taken t) = trigger_at m.instruments words row (Some taken)
 came_of m words row (Tick t) = trigger_at m.instruments words row None
 
--- The events at a row, after these: where the trade with this number is made there, what rested before the order that
--- it filled; and then the answer of the rules to the input of the row.
-abbrev pub words_at : Market → History → ℕ → List EvidenceEvent → TrailRow → Input → List EvidenceEvent
-words_at m h number words r i = stood_at m h number r.n r.moment (answer_input m h i).replies ++ words_of r.n r.moment (came_of m words r.n i) (answer_input m h i).replies
+-- the events at a row, after these: the answer of the rules to the input of the row
+abbrev pub words_at : Market → History → List EvidenceEvent → TrailRow → Input → List EvidenceEvent
+words_at m h words r i = words_of r.n r.moment (came_of m words r.n i) (answer_input m h i).replies
 
 -- these events, and those at the rows, one after another, from a history on
-abbrev pub words_from : Market → History → ℕ → List EvidenceEvent → List TrailRow → List Input → List EvidenceEvent
-words_from m h number words [] is = words
-words_from m h number words (r ∷ rs) [] = words
-words_from m h number words (r ∷ rs) (i ∷ is) = words_from m (after h (answer_input m h i)) number (words ++ words_at m h number words r i) rs is
+abbrev pub words_from : Market → History → List EvidenceEvent → List TrailRow → List Input → List EvidenceEvent
+words_from m h words [] is = words
+words_from m h words (r ∷ rs) [] = words
+words_from m h words (r ∷ rs) (i ∷ is) = words_from m (after h (answer_input m h i)) (words ++ words_at m h words r i) rs is
 
--- the events of a day with regard to the trade with a number
-abbrev pub words_emitted : Market → ℕ → List TrailRow → List Input → List EvidenceEvent
-words_emitted m number rs is = words_from m no_history number [] rs is
+-- the events of a day
+abbrev pub words_emitted : Market → List TrailRow → List Input → List EvidenceEvent
+words_emitted m rs is = words_from m no_history [] rs is
 
--- the notes on quotes at the rows, one after another, after these events
-abbrev pub notes_from : Market → History → ℕ → List EvidenceEvent → List TrailRow → List Input → List QuoteNote
-notes_from m h number words [] is = []
-notes_from m h number words (r ∷ rs) [] = []
-notes_from m h number words (r ∷ rs) (i ∷ is) = notes_at m h number words r i ++ notes_from m (after h (answer_input m h i)) number (words ++ words_at m h number words r i) rs is
+-- these ends of quotes, and those that are reported at the rows
+abbrev pub ended_from : Market → History → List Ended → List TrailRow → List Input → List Ended
+ended_from m h ended [] is = ended
+ended_from m h ended (r ∷ rs) [] = ended
+ended_from m h ended (r ∷ rs) (i ∷ is) = ended_from m (after h (answer_input m h i)) (ended ++ ended_at r (taken_in i) (answer_input m h i).replies) rs is
 
--- the notes of a day with regard to the trade with a number
-abbrev pub notes_emitted : Market → ℕ → List TrailRow → List Input → List QuoteNote
-notes_emitted m number rs is = notes_from m no_history number [] rs is
+-- what rested, at the row where the trade with a number is made, before the order that it filled
+abbrev pub stood_on : Market → ℕ → History → List TrailRow → List Input → List EvidenceEvent
+stood_on m number h [] is = []
+stood_on m number h (r ∷ rs) [] = []
+stood_on m number h (r ∷ rs) (i ∷ is) = stood_at m h number r.n r.moment (answer_input m h i).replies ++ stood_on m number (after h (answer_input m h i)) rs is
 
--- a venue processes the input of a row, and its events and notes there were added
-pub record HearsRow (number : ℕ) (r : TrailRow) (s s' : State) (words words' : List EvidenceEvent) (notes notes' : List QuoteNote) : Type 0 where
+-- of a day
+abbrev pub stood_emitted : Market → ℕ → List TrailRow → List Input → List EvidenceEvent
+stood_emitted m number rs is = stood_on m number no_history rs is
+
+-- what had become of the quotes of its room, at that row
+abbrev pub fates_on : Market → ℕ → History → List EvidenceEvent → List Ended → List TrailRow → List Input → List QuoteFate
+fates_on m number h words ended [] is = []
+fates_on m number h words ended (r ∷ rs) [] = []
+fates_on m number h words ended (r ∷ rs) (i ∷ is) =
+    fates_at m h number words ended r i ++ fates_on m number (after h (answer_input m h i)) (words ++ words_at m h words r i) (ended ++ ended_at r (taken_in i) (answer_input m h i).replies) rs is
+
+-- of a day
+abbrev pub fates_emitted : Market → ℕ → List TrailRow → List Input → List QuoteFate
+fates_emitted m number rs is = fates_on m number no_history [] [] rs is
+
+-- What is noted of the trade with a number, out of the notes of some.
+
+abbrev pub own : {A : Type 0} → ℕ → (ℕ → List A) → List ℕ → List A
+own number of numbers = flat_map (λ n. if n == number then of n else []) numbers
+
+abbrev pub stood_in : ℕ → TradeNotes → List EvidenceEvent
+stood_in number x = if x.number == number then x.stood.items else []
+
+abbrev pub stood_for : ℕ → List TradeNotes → List EvidenceEvent
+stood_for number notes = flat_map (stood_in number) notes
+
+abbrev pub fates_of : ℕ → TradeNotes → List QuoteFate
+fates_of number x = if x.number == number then x.fates.items else []
+
+abbrev pub fates_for : ℕ → List TradeNotes → List QuoteFate
+fates_for number notes = flat_map (fates_of number) notes
+
+-- a venue processes the input of a row; the events and the ends of quotes there were added, and of each trade there
+-- that is watched what is noted of it
+pub record HearsRow (watch : Option ℕ) (r : TrailRow) (s s' : State) (words words' : List EvidenceEvent) (ended ended' : List Ended) (notes notes' : List TradeNotes) : Type 0 where
   pub input : Input
   pub answer : Answer
   pub emits : Emits r input
   pub takes : Takes s input answer s'
-  pub hears : (h : History) → IsHistory s h → words' ≡ words ++ words_at s.market h number words r input
-  pub noted : (h : History) → IsHistory s h → notes' ≡ notes ++ notes_at s.market h number words r input
+  pub hears : (h : History) → IsHistory s h → words' ≡ words ++ words_at s.market h words r input
+  pub ends : (h : History) → IsHistory s h → ended' ≡ ended ++ ended_at r (taken_in input) (answer_input s.market h input).replies
+  pub stood : (h : History) (number : ℕ) → IsHistory s h → is_watched watch number ≡ true → stood_for number notes' ≡ stood_for number notes ++ stood_at s.market h number r.n r.moment (answer_input s.market h input).replies
+  pub fates : (h : History) (number : ℕ) → IsHistory s h → is_watched watch number ≡ true → fates_for number notes' ≡ fates_for number notes ++ fates_at s.market h number words ended r input
 
--- a venue stands where the inputs of these rows lead, and these are the events and the notes at the rows
-pub record IsHeard (m : Market) (number : ℕ) (rs : List TrailRow) (s : State) (words : List EvidenceEvent) (notes : List QuoteNote) : Type 0 where
+-- a venue stands where the inputs of these rows lead, and these are the events, the ends of quotes, and the notes
+pub record IsHeard (m : Market) (watch : Option ℕ) (rs : List TrailRow) (s : State) (words : List EvidenceEvent) (ended : List Ended) (notes : List TradeNotes) : Type 0 where
   pub items : List Input
   pub emitted : AreEmitted rs items
   pub stands : Stands m items s
-  pub said : words ≡ words_emitted m number rs items
-  pub noted : notes ≡ notes_emitted m number rs items
+  pub said : words ≡ words_emitted m rs items
+  pub ends : ended ≡ ended_from m no_history [] rs items
+  pub stood : (number : ℕ) → is_watched watch number ≡ true → stood_for number notes ≡ stood_emitted m number rs items
+  pub fates : (number : ℕ) → is_watched watch number ≡ true → fates_for number notes ≡ fates_emitted m number rs items
 
 -- the trade with this number, counted from 1
 abbrev pub numbered_in : List TradeFact → ℕ → Option TradeFact
@@ -92,17 +133,53 @@ pub record AreOf (rs : List TrailRow) (items : List Input) : Type 0 where
   pub emitted : AreEmitted rs items
   pub of_run : (is : List Input) → rs ≡ rows is → AreFitting is → items ≡ is
 
--- A text is the evidence for the trade with this number in the run of the inputs of these rows: the row at which it was
--- made is found; of a room trade its request is found, and of a trade in the book both its orders.
+-- A text is the evidence for the trade with this number in the run of these inputs: the row at which it was made is
+-- found; of a room trade its request is found, and of a trade in the book both its orders.
+pub record IsEvidenceIn (m : Market) (rs : List TrailRow) (items : List Input) (number : ℕ) (text : List ℕ) : Type 0 where
+  pub trade : TradeFact
+  pub numbered : trade_numbered (run m items).history number ≡ Some trade
+  pub is : text ≡ evidence m rs (words_emitted m rs items) (stood_emitted m number rs items) (fate_lines (fates_emitted m number rs items)) trade
+  pub made : HasRow m rs items (words_emitted m rs items) number trade
+  pub requested : (room : ℕ) → trade.room ≡ Some room → HasRequest m rs items (words_emitted m rs items) trade room
+  pub ordered : trade.room ≡ None → HasOrders m rs items (words_emitted m rs items) (stood_emitted m number rs items) number trade
+
+-- and of the inputs of these rows
 pub record IsEvidence (m : Market) (rs : List TrailRow) (number : ℕ) (text : List ℕ) : Type 0 where
   pub items : List Input
   pub emitted : AreOf rs items
-  pub trade : TradeFact
-  pub numbered : trade_numbered (run m items).history number ≡ Some trade
-  pub is : text ≡ evidence m rs (words_emitted m number rs items) (note_lines (words_emitted m number rs items) (notes_emitted m number rs items) trade) trade
-  pub made : HasRow m rs items (words_emitted m number rs items) number trade
-  pub requested : (room : ℕ) → trade.room ≡ Some room → HasRequest m rs items (words_emitted m number rs items) trade room
-  pub ordered : trade.room ≡ None → HasOrders m rs items (words_emitted m number rs items) number trade
+  pub of_trade : IsEvidenceIn m rs items number text
+
+-- the evidence for a trade, out of these events and notes
+abbrev pub evidence_by : Market → List TrailRow → List EvidenceEvent → List TradeNotes → TradeFact → List ℕ
+evidence_by m rs words notes t = evidence m rs words (stood_for t.number notes) (fate_lines (fates_for t.number notes)) t
+
+-- Texts are the evidences for all trades of that run, from the first to the last.
+pub record AreEvidences (m : Market) (rs : List TrailRow) (texts : List (List ℕ)) : Type 0 where
+  pub items : List Input
+  pub emitted : AreOf rs items
+  pub all : length texts ≡ length (trade_facts (run m items).history.facts)
+  pub each : (k : ℕ) (text : List ℕ) → slice_get texts k ≡ Some text → IsEvidenceIn m rs items (k + 1) text
+
+-- with an empty line between two; a line where there are none
+
+abbrev pub behind : List (List ℕ) → List ℕ
+behind texts = flat_map (λ text. codes "\n" ++ text) texts
+
+abbrev pub joined : List (List ℕ) → List ℕ
+joined [] = codes "no trades\n"
+joined (text ∷ texts) = text ++ behind texts
+
+-- a text is all evidences, one after the other
+pub record AreJoined (m : Market) (rs : List TrailRow) (text : List ℕ) : Type 0 where
+  pub texts : List (List ℕ)
+  pub evidences : AreEvidences m rs texts
+  pub is : text ≡ joined texts
+
+-- what was written is all evidences, and nothing else
+pub record EmitsTrades (m : Market) (rs : List TrailRow) (before after : Option (List ℕ)) : Type 0 where
+  pub text : List ℕ
+  pub all : AreJoined m rs text
+  pub written : Appends before after text
 
 -- what was written is the evidence for this trade, and nothing else
 pub record EmitsTrade (m : Market) (rs : List TrailRow) (number : ℕ) (before after : Option (List ℕ)) : Type 0 where

@@ -1,5 +1,5 @@
 -- What is found of a trade among the events of its day, so that its lines are complete.
-use Rattle.std.specs.Prelude.{◌≡◌, ℕ, ℤ, ◌-◌, min, true, false, List, ◌∷◌, ◌++◌, Contains, Option, None, Some, filter, find, flat_map, length, map, slice_get}
+use Rattle.std.specs.Prelude.{◌≡◌, ℕ, ℤ, ◌-◌, min, true, false, List, ◌∷◌, ◌++◌, Contains, Option, None, Some, filter, find, length, map, slice_get}
 use Rattle.fix_dictionary.specs.declared.messages.App.{App}
 use Rattle.fix_dictionary.specs.declared.messages.App.TheVariants.{OrderCancelReplaceRequest}
 use Rattle.participants.specs.Relations.{are_unrelated}
@@ -29,7 +29,7 @@ use Rattle.trade_reconstruction.specs.declared.evidence_event.Held.{Held as Held
 use Rattle.trade_reconstruction.specs.declared.evidence_event.Hit.{Hit as HitEvent}
 use Rattle.trade_reconstruction.specs.declared.evidence_event.EventKind.TheVariants as said
 use Rattle.trade_reconstruction.specs.declared.evidence_event.EvidenceEvent.{EvidenceEvent}
-use Rattle.trade_reconstruction.specs.Lines.{both_lines, entries_linked, evidence, is_asked, is_sought, last_lines, link_id, request_line, room_word, standing_line, standing_lines, three_line, three_text, trade_row}
+use Rattle.trade_reconstruction.specs.Lines.{both_lines, entries_linked, evidence, is_asked, is_sought, last_lines, link_id, request_line, three_line, three_text, trade_row, words_lines}
 use Rattle.trade_reconstruction.specs.Standing.{prices_of, stood_words}
 
 -- a row, and its input, whose answer added this fact
@@ -50,7 +50,7 @@ pub record HasRequest (m : Market) (rs : List TrailRow) (is : List Input) (words
   pub found : find (is_sought (Request room)) words ≡ Some word
   pub says : word.said ≡ said.Asked asked
   pub here : asked.room ≡ room
-  pub lines : (noted : List ℕ) → evidence m rs words noted t ≡ (request_line rs m.participants word asked ++ (three_line m.participants words word asked ++ flat_map (room_word rs m.participants words asked) words)) ++ (noted ++ last_lines m t (trade_row words t))
+  pub lines : (stood : List EvidenceEvent) (noted : List ℕ) → evidence m rs words stood noted t ≡ (request_line rs m.participants word asked ++ (three_line m.participants words word asked ++ words_lines rs m.participants words asked)) ++ (noted ++ last_lines m rs t (trade_row words t))
   pub opened : Room
   pub row : TrailRow
   pub input : Input
@@ -148,16 +148,16 @@ met_emitted m e = record { resting = e.number; side = e.order.side; symbol = sym
 
 -- the events about what rested before the order that a trade filled state what rested then: of the book that the venue
 -- would have shown just before that row, the orders before it on its side, and their count
-pub record HasStanding (m : Market) (rs : List TrailRow) (is : List Input) (words : List EvidenceEvent) (trade : Trade) (rested : Entry) : Type 0 where
+pub record HasStanding (m : Market) (rs : List TrailRow) (is : List Input) (stood : List EvidenceEvent) (trade : Trade) (rested : Entry) : Type 0 where
   pub row : TrailRow
   pub input : Input
   pub made : CameAt m rs is row input (Traded trade)
-  pub lines : standing_lines words ≡ flat_map (standing_line words) (stood_words row.n row.moment (met_emitted m rested) (prices_of m (run m made.earlier).history (symbol_of m.instruments rested.order.instrument)))
+  pub said : stood ≡ stood_words row.n row.moment (met_emitted m rested) (prices_of m (run m made.earlier).history (symbol_of m.instruments rested.order.instrument))
 
 -- both orders of a trade in the book are found: its evidence is the lines of the resting order, of the entering one, of
 -- both together, and of the trade; what is said of both and of the trade has the row at which the second entered, and
 -- whether they are linked is what the rules say
-pub record HasOrders (m : Market) (rs : List TrailRow) (is : List Input) (words : List EvidenceEvent) (number : ℕ) (t : TradeFact) : Type 0 where
+pub record HasOrders (m : Market) (rs : List TrailRow) (is : List Input) (words stood : List EvidenceEvent) (number : ℕ) (t : TradeFact) : Type 0 where
   pub trade : Trade
   pub rested : Entry
   pub entered : Entry
@@ -169,5 +169,5 @@ pub record HasOrders (m : Market) (rs : List TrailRow) (is : List Input) (words 
   pub emits_rested : EmitsOrder m rs is words rested resting
   pub emits_entered : EmitsOrder m rs is words entered entering
   pub linked : entries_linked m.participants resting entering ≡ is_linked m rested.order entered.order
-  pub lines : (noted : List ℕ) → evidence m rs words noted t ≡ both_lines rs m.participants words (record { resting = resting; entering = entering; row = entering.row }) ++ (noted ++ last_lines m t entering.row)
-  pub stood : HasStanding m rs is words trade rested
+  pub lines : (noted : List ℕ) → evidence m rs words stood noted t ≡ both_lines rs m.participants words stood (record { resting = resting; entering = entering; row = entering.row }) ++ (noted ++ last_lines m rs t entering.row)
+  pub standing : HasStanding m rs is stood trade rested

@@ -22,18 +22,18 @@ use Rattle.trade_reconstruction.specs.declared.quote_note.Fate.TheVariants as fa
 use Rattle.trade_reconstruction.specs.Found.{HasOrders, HasRequest, HasRow}
 use Rattle.trade_reconstruction.specs.EventKinds.{shown_word, word}
 use Rattle.trade_reconstruction.specs.QuoteNotes.{fate_at, fate_by}
-use Rattle.trade_reconstruction.specs.Emitted.{trade_numbered, words_emitted}
-use Rattle.trade_reconstruction.specs.Lines.{sent_at, sent_in}
+use Rattle.trade_reconstruction.specs.Emitted.{stood_emitted, trade_numbered, words_emitted}
+use Rattle.trade_reconstruction.specs.Lines.{at_text, moment_text, sent_at, sent_in}
 
 -- the events of a day have the request of each room trade
 abbrev pub RoomTradesHaveRequests : Type 0
 RoomTradesHaveRequests = (m : Market) (rs : List TrailRow) (is : List Input) (number room : ℕ) (t : TradeFact) → AreEmitted rs is → trade_numbered (run m is).history number ≡ Some t → t.room ≡ Some room
-    → HasRequest m rs is (words_emitted m number rs is) t room
+    → HasRequest m rs is (words_emitted m rs is) t room
 
 -- the events of a day have both orders of each trade in the book
 abbrev pub BookTradesHaveOrders : Type 0
 BookTradesHaveOrders = (m : Market) (rs : List TrailRow) (is : List Input) (number : ℕ) (t : TradeFact) → AreEmitted rs is → trade_numbered (run m is).history number ≡ Some t → t.room ≡ None
-    → HasOrders m rs is (words_emitted m number rs is) number t
+    → HasOrders m rs is (words_emitted m rs is) (stood_emitted m number rs is) number t
 
 -- what is said of a quote in a room that has not traded is what had become of it by the facts
 abbrev pub FatesAreRight : Type 0
@@ -63,7 +63,7 @@ pub record IsReported (m : Market) (facts : List Fact) (words : List EvidenceEve
 -- the events of a day have each quote, so that the evidence for a trade in its room has its line, and says what had
 -- become of it
 abbrev pub QuotesAreReported : Type 0
-QuotesAreReported = (m : Market) (rs : List TrailRow) (is : List Input) (number : ℕ) (q : RoomQuote) → AreEmitted rs is → Contains (run m is).history.facts (fact.Quoted q) → IsReported m (run m is).history.facts (words_emitted m number rs is) q
+QuotesAreReported = (m : Market) (rs : List TrailRow) (is : List Input) (q : RoomQuote) → AreEmitted rs is → Contains (run m is).history.facts (fact.Quoted q) → IsReported m (run m is).history.facts (words_emitted m rs is) q
 
 -- the events that show resting orders to a requester, and their count
 abbrev pub shown_words : ℕ → ℕ → ℕ → List ℕ → List SnapshotEntry → List EvidenceEvent
@@ -87,17 +87,21 @@ pub record IsShown (m : Market) (rs : List TrailRow) (is : List Input) (words : 
 
 -- the events of a day show every resting order with the first quote of a room (17 CFR 37.9(a)(3))
 abbrev pub RestingOrdersAreShown : Type 0
-RestingOrdersAreShown = (m : Market) (rs : List TrailRow) (is : List Input) (number : ℕ) (q : RoomQuote) → AreEmitted rs is → Contains (run m is).history.facts (fact.Quoted q) → first_quote (run m is).history.facts q.room ≡ Some q
-    → IsShown m rs is (words_emitted m number rs is) q
+RestingOrdersAreShown = (m : Market) (rs : List TrailRow) (is : List Input) (q : RoomQuote) → AreEmitted rs is → Contains (run m is).history.facts (fact.Quoted q) → first_quote (run m is).history.facts q.room ≡ Some q
+    → IsShown m rs is (words_emitted m rs is) q
 
 -- each trade is reported at the row at which it was made
 abbrev pub TradesHaveRows : Type 0
-TradesHaveRows = (m : Market) (rs : List TrailRow) (is : List Input) (number : ℕ) (t : TradeFact) → AreEmitted rs is → trade_numbered (run m is).history number ≡ Some t → HasRow m rs is (words_emitted m number rs is) number t
+TradesHaveRows = (m : Market) (rs : List TrailRow) (is : List Input) (number : ℕ) (t : TradeFact) → AreEmitted rs is → trade_numbered (run m is).history number ≡ Some t → HasRow m rs is (words_emitted m rs is) number t
 
 -- no two rows have one number
 abbrev pub AreDistinct : List TrailRow → Type 0
 AreDistinct rs = (j k : ℕ) (a b : TrailRow) → slice_get rs j ≡ Some a → slice_get rs k ≡ Some b → a.n ≡ b.n → j ≡ k
 
--- where no two rows have one number, the message in a line is that of its row
+-- where no two rows have one number, the message in a line is that of its row, and so is the moment of a trade
+pub record IsOfRow (rs : List TrailRow) (row : TrailRow) : Type 0 where
+  pub message : sent_at rs row.n ≡ sent_in row
+  pub moment : moment_text rs row.n ≡ at_text row.moment
+
 abbrev pub MessagesAreOfRows : Type 0
-MessagesAreOfRows = (rs : List TrailRow) (k : ℕ) (row : TrailRow) → AreDistinct rs → slice_get rs k ≡ Some row → sent_at rs row.n ≡ sent_in row
+MessagesAreOfRows = (rs : List TrailRow) (k : ℕ) (row : TrailRow) → AreDistinct rs → slice_get rs k ≡ Some row → IsOfRow rs row

@@ -6,8 +6,12 @@ pub mod Standing
 pub mod QuoteNotes
 -- the lines about it
 pub mod NoteLines
+-- events by key
+pub mod Indexed
 -- the events of a day, row by row
 pub mod Emitted
+-- notes of trades in order
+pub mod Notes
 -- three unrelated recipients
 pub mod Unrelated
 -- the lines of the evidence for a trade

@@ -8,7 +8,7 @@
 -- link; what rested before the resting one as the other entered; the relation of their participants; whether the two
 -- are the sides of one cross; whether they are linked; the time between their entries; the delay of the instrument; the
 -- trade.
-use Rattle.std.specs.Prelude.{ℕ, ℤ, ◌+◌, ◌-◌, min, Bool, true, false, not, ◌&&◌, ◌||◌, ◌==◌, nat_lt, List, [], ◌∷◌, ◌++◌, find, Option, Some, None, codes, decimal, bytes_eq, if◌then◌else◌}
+use Rattle.std.specs.Prelude.{ℕ, ℤ, ◌+◌, ◌-◌, min, Bool, true, false, not, ◌&&◌, ◌||◌, ◌==◌, nat_lt, List, [], ◌∷◌, ◌++◌, find, Option, Some, None, slice_get, codes, decimal, bytes_eq, if◌then◌else◌}
 use Rattle.std.specs.List.{flat_map}
 use Rattle.sef_moment.specs.Utc.{greatest}
 use Rattle.sef_moment.specs.Utc.{utc_text}
@@ -43,6 +43,9 @@ use Rattle.trade_reconstruction.specs.declared.evidence_event.Linked.{Linked}
 use Rattle.trade_reconstruction.specs.declared.evidence_event.RestedBefore.{RestedBefore}
 use Rattle.trade_reconstruction.specs.declared.evidence_event.RestedCount.{RestedCount}
 use Rattle.trade_reconstruction.specs.declared.sent.Sent.{Sent}
+use Rattle.trade_reconstruction.specs.declared.key.Key.{Key}
+use Rattle.trade_reconstruction.specs.declared.key.Key.TheVariants.{First, Second}
+use Rattle.trade_reconstruction.specs.Indexed.{name_key}
 
 -- Tests of events.
 
@@ -120,6 +123,17 @@ is_sought (Hit trade) w = hits trade w
 is_sought (HeldSide who id) w = holds who id w
 is_sought (Entry who id) w = is_entry who id w
 
+-- a key of all events that are sought
+abbrev pub key_of : Query → Key
+key_of (Request room) = First room
+key_of (Order order) = First order
+key_of (Fill trade) = First trade
+key_of (OtherFill trade order) = First trade
+key_of (FillAt order row) = Second order
+key_of (Hit trade) = Second trade
+key_of (HeldSide who id) = First (name_key who id)
+key_of (Entry who id) = Second (name_key who id)
+
 abbrev pub order_said : EventKind → Option ℕ
 order_said (said.Filled f) = Some f.order
 order_said _ = None
@@ -166,35 +180,52 @@ row_of (Some w) = w.row
 abbrev pub row_text : ℕ → List ℕ
 row_text row = codes " row " ++ (decimal row ++ codes "\n")
 
--- the message at the row with a number: its sender's own number of it, and the era; a tick has none
-
 abbrev pub is_row : ℕ → TrailRow → Bool
 is_row row r = r.n == row
 
+-- the row with a number: the one at its place, if it has this number, or else the first that has it
+
+abbrev pub this_row : List TrailRow → ℕ → Option TrailRow → Option TrailRow
+this_row rs row None = find (is_row row) rs
+this_row rs row (Some r) = if is_row row r then Some r else find (is_row row) rs
+
+abbrev pub row_at : List TrailRow → ℕ → Option TrailRow
+row_at rs row = this_row rs row (slice_get rs (row - 1))
+
+-- its message: the sender, and the sender's own number of it and era; a tick has none
+
 abbrev pub sent_in : TrailRow → Option Sent
-sent_in r = if r.who == 0 then None else Some (record { era = r.era; number = r.number })
+sent_in r = if r.who == 0 then None else Some (record { who = r.who - 1; era = r.era; number = r.number })
 
 abbrev pub sent_of : Option TrailRow → Option Sent
 sent_of None = None
 sent_of (Some r) = sent_in r
 
 abbrev pub sent_at : List TrailRow → ℕ → Option Sent
-sent_at rs row = sent_of (find (is_row row) rs)
+sent_at rs row = sent_of (row_at rs row)
 
 -- the first era is not named
 abbrev pub era_text : ℕ → List ℕ
 era_text era = if era == 1 then [] else codes " of era " ++ decimal era
 
-abbrev pub sent_text : List ℕ → Option Sent → List ℕ
-sent_text name None = []
-sent_text name (Some x) = codes ", in message " ++ (decimal x.number ++ (era_text x.era ++ (codes " of " ++ name)))
+abbrev pub sent_text : ParticipantFile → Option Sent → List ℕ
+sent_text file None = []
+sent_text file (Some x) = codes ", in message " ++ (decimal x.number ++ (era_text x.era ++ (codes " of " ++ name_of file x.who)))
 
--- the message of somebody with this name at a row, and the row, which end a line
-abbrev pub sent_row : List TrailRow → List ℕ → ℕ → List ℕ
-sent_row rs name row = sent_text name (sent_at rs row) ++ row_text row
+-- the message at a row with its sender's name, and the row, which end a line
+abbrev pub sent_row : List TrailRow → ParticipantFile → ℕ → List ℕ
+sent_row rs file row = sent_text file (sent_at rs row) ++ row_text row
 
 abbrev pub at_text : ℕ → List ℕ
 at_text t = codes " at " ++ utc_text t
+
+abbrev pub moment_in : Option TrailRow → List ℕ
+moment_in None = []
+moment_in (Some r) = at_text r.moment
+
+-- the moment of a row
+abbrev pub moment_text : List TrailRow → ℕ → List ℕ
+moment_text rs row = moment_in (row_at rs row)
 
 -- the relation of two participants, by the participant file
 abbrev pub relation : ParticipantFile → ℕ → ℕ → List ℕ
@@ -218,7 +249,7 @@ abbrev pub request_terms : ParticipantFile → EvidenceEvent → Asked → List 
 request_terms file w a = codes "request in room R" ++ (decimal a.room ++ (codes " of " ++ (name_of file a.requester ++ (asked_side a.side ++ (decimal a.quantity ++ (codes " " ++ (a.symbol ++ (at_text w.moment ++ row_text w.row))))))))
 
 abbrev pub request_id_line : List TrailRow → ParticipantFile → EvidenceEvent → Asked → List ℕ
-request_id_line rs file w a = id_text (codes "R") a.room (codes " has the QuoteReqID ") a.request ++ sent_row rs (name_of file a.requester) w.row
+request_id_line rs file w a = id_text (codes "R") a.room (codes " has the QuoteReqID ") a.request ++ sent_row rs file w.row
 
 abbrev pub request_line : List TrailRow → ParticipantFile → EvidenceEvent → Asked → List ℕ
 request_line rs file w a = request_terms file w a ++ request_id_line rs file w a
@@ -251,12 +282,12 @@ abbrev pub quote_terms : EvidenceEvent → Quoted → List ℕ
 quote_terms w q = codes "quote Q" ++ (decimal q.quote ++ (codes " of " ++ (q.maker ++ (codes " bid " ++ (price_or_none q.bid ++ (codes " offer " ++ (price_or_none q.offer
     ++ (codes " until " ++ (utc_text q.end ++ (at_text w.moment ++ row_text w.row))))))))))
 
-abbrev pub quote_id_line : List TrailRow → EvidenceEvent → Quoted → Option (List ℕ) → List ℕ
-quote_id_line rs w q None = []
-quote_id_line rs w q (Some id) = id_text (codes "Q") q.quote (codes " has the QuoteID ") id ++ sent_row rs q.maker w.row
+abbrev pub quote_id_line : List TrailRow → ParticipantFile → EvidenceEvent → Quoted → Option (List ℕ) → List ℕ
+quote_id_line rs file w q None = []
+quote_id_line rs file w q (Some id) = id_text (codes "Q") q.quote (codes " has the QuoteID ") id ++ sent_row rs file w.row
 
-abbrev pub quote_line : List TrailRow → EvidenceEvent → Quoted → List ℕ
-quote_line rs w q = quote_terms w q ++ quote_id_line rs w q q.id
+abbrev pub quote_line : List TrailRow → ParticipantFile → EvidenceEvent → Quoted → List ℕ
+quote_line rs file w q = quote_terms w q ++ quote_id_line rs file w q q.id
 
 abbrev pub hit_side : Side → List ℕ
 hit_side Buy = codes " to buy at "
@@ -268,27 +299,44 @@ response_text (Some id) = codes " with the QuoteRespID " ++ id
 
 -- who hit which quote, on which side and at what price
 abbrev pub hit_line : List TrailRow → ParticipantFile → EvidenceEvent → HitSaid → List ℕ
-hit_line rs file w x = codes "hit of quote " ++ (x.quote ++ (codes " by " ++ (name_of file w.to ++ (hit_side x.side ++ (price_text x.price ++ (response_text x.response ++ (at_text w.moment ++ sent_row rs (name_of file w.to) w.row)))))))
+hit_line rs file w x = codes "hit of quote " ++ (x.quote ++ (codes " by " ++ (name_of file w.to ++ (hit_side x.side ++ (price_text x.price ++ (response_text x.response ++ (at_text w.moment ++ sent_row rs file w.row)))))))
 
 -- to the requester, on its request
 abbrev pub is_to : Asked → ℕ → List ℕ → Bool
 is_to a to request = to == a.requester && bytes_eq request a.request
 
--- the lines of an event about the room of a request
-abbrev pub room_said : List TrailRow → ParticipantFile → List EvidenceEvent → Asked → EvidenceEvent → EventKind → List ℕ
-room_said rs file words a w (said.Asked b) = if b.room == a.room then asked_lines file words w b else []
-room_said rs file words a w (said.SnapshotSent p) = if is_to a w.to p.request then pictured_line w p else []
-room_said rs file words a w (said.Shown s) = if is_to a w.to s.request then shown_line w s else []
-room_said rs file words a w (said.Quoted q) = if is_to a w.to q.request then quote_line rs w q else []
-room_said rs file words a w (said.Hit x) = if x.room == a.room && w.to == a.requester then hit_line rs file w x else []
-room_said rs file words a w (said.Entered e) = []
-room_said rs file words a w (said.Held x) = []
-room_said rs file words a w (said.Filled f) = []
-room_said rs file words a w (said.RestedBefore x) = []
-room_said rs file words a w (said.RestedCount x) = []
+-- that somebody was asked in the room of a request
 
-unfoldable pub room_word : List TrailRow → ParticipantFile → List EvidenceEvent → Asked → EvidenceEvent → List ℕ
-room_word rs file words a w = room_said rs file words a w w.said
+abbrev pub asked_said : ParticipantFile → List EvidenceEvent → Asked → EvidenceEvent → EventKind → List ℕ
+asked_said file words a w (said.Asked b) = if b.room == a.room then asked_lines file words w b else []
+asked_said file words a w _ = []
+
+unfoldable pub asked_word : ParticipantFile → List EvidenceEvent → Asked → EvidenceEvent → List ℕ
+asked_word file words a w = asked_said file words a w w.said
+
+-- what the requester was sent on its request
+
+abbrev pub answered_said : List TrailRow → ParticipantFile → Asked → EvidenceEvent → EventKind → List ℕ
+answered_said rs file a w (said.SnapshotSent p) = if is_to a w.to p.request then pictured_line w p else []
+answered_said rs file a w (said.Shown s) = if is_to a w.to s.request then shown_line w s else []
+answered_said rs file a w (said.Quoted q) = if is_to a w.to q.request then quote_line rs file w q else []
+answered_said rs file a w _ = []
+
+unfoldable pub answered_word : List TrailRow → ParticipantFile → Asked → EvidenceEvent → List ℕ
+answered_word rs file a w = answered_said rs file a w w.said
+
+-- the requester's hit in its room
+
+abbrev pub hit_said : List TrailRow → ParticipantFile → Asked → EvidenceEvent → EventKind → List ℕ
+hit_said rs file a w (said.Hit x) = if x.room == a.room && w.to == a.requester then hit_line rs file w x else []
+hit_said rs file a w _ = []
+
+unfoldable pub hit_word : List TrailRow → ParticipantFile → Asked → EvidenceEvent → List ℕ
+hit_word rs file a w = hit_said rs file a w w.said
+
+-- the recipients, what was shown and quoted, and the hit, each in the order of events
+abbrev pub words_lines : List TrailRow → ParticipantFile → List EvidenceEvent → Asked → List ℕ
+words_lines rs file words a = flat_map (asked_word file words a) words ++ (flat_map (answered_word rs file a) words ++ flat_map (hit_word rs file a) words)
 
 -- the recipients of a room's request, in the order in which they were asked
 
@@ -311,7 +359,7 @@ abbrev pub three_line : ParticipantFile → List EvidenceEvent → EvidenceEvent
 three_line file words w a = three_if file a.requester (three_of file a.requester (recipients_of a.room words)) w.row
 
 abbrev pub room_found_said : List TrailRow → ParticipantFile → List EvidenceEvent → EvidenceEvent → EventKind → List ℕ
-room_found_said rs file words w (said.Asked a) = request_line rs file w a ++ (three_line file words w a ++ flat_map (room_word rs file words a) words)
+room_found_said rs file words w (said.Asked a) = request_line rs file w a ++ (three_line file words w a ++ words_lines rs file words a)
 room_found_said rs file words w _ = []
 
 abbrev pub room_found : List TrailRow → ParticipantFile → List EvidenceEvent → EvidenceEvent → List ℕ
@@ -321,7 +369,7 @@ abbrev pub room_of : List TrailRow → ParticipantFile → List EvidenceEvent �
 room_of rs file words None = []
 room_of rs file words (Some w) = room_found rs file words w
 
--- the request, and then row by row the recipients, what was shown and quoted, and the hit
+-- the request, and then the recipients, what was shown and quoted, and the hit
 abbrev pub room_lines : List TrailRow → ParticipantFile → List EvidenceEvent → ℕ → List ℕ
 room_lines rs file words room = room_of rs file words (find (is_sought (Request room)) words)
 
@@ -368,7 +416,7 @@ order_terms file x = codes "order O" ++ (decimal x.entered.order ++ (codes " of 
     ++ (price_if x.entered.price ++ (at_text x.moment ++ row_text x.row)))))))))
 
 abbrev pub order_id_line : List TrailRow → ParticipantFile → OrderEntry → List ℕ
-order_id_line rs file x = id_text (codes "O") x.entered.order (codes " has the ClOrdID ") x.entered.id ++ sent_row rs (name_of file x.to) x.row
+order_id_line rs file x = id_text (codes "O") x.entered.order (codes " has the ClOrdID ") x.entered.id ++ sent_row rs file x.row
 
 abbrev pub order_line : List TrailRow → ParticipantFile → OrderEntry → List ℕ
 order_line rs file x = order_terms file x ++ order_id_line rs file x
@@ -388,7 +436,7 @@ original_line order None row = []
 original_line order (Some id) row = named_line order (codes " takes the place of the order with the identifier ") id row
 
 abbrev pub held_said : List TrailRow → ParticipantFile → ℕ → EvidenceEvent → EventKind → List ℕ
-held_said rs file order w (said.Held x) = codes "O" ++ (decimal order ++ (codes " was held as the second side of cross " ++ (x.cross ++ (codes " for " ++ (decimal x.delay ++ (codes " ms from " ++ (utc_text w.moment ++ sent_row rs (name_of file w.to) w.row)))))))
+held_said rs file order w (said.Held x) = codes "O" ++ (decimal order ++ (codes " was held as the second side of cross " ++ (x.cross ++ (codes " for " ++ (decimal x.delay ++ (codes " ms from " ++ (utc_text w.moment ++ sent_row rs file w.row)))))))
 held_said rs file order w _ = []
 
 abbrev pub held_line : List TrailRow → ParticipantFile → ℕ → EvidenceEvent → List ℕ
@@ -455,11 +503,11 @@ abbrev pub standing_line : List EvidenceEvent → EvidenceEvent → List ℕ
 standing_line words w = standing_said words w w.said
 
 -- what rested before it, best first, each with the trade that filled it at the same row, and then the count
-abbrev pub standing_lines : List EvidenceEvent → List ℕ
-standing_lines words = flat_map (standing_line words) words
+abbrev pub standing_lines : List EvidenceEvent → List EvidenceEvent → List ℕ
+standing_lines words stood = flat_map (standing_line words) stood
 
 abbrev pub sides_said : List TrailRow → ParticipantFile → Both → EvidenceEvent → EventKind → List ℕ
-sides_said rs file b w (said.Held x) = codes "O" ++ (decimal b.resting.entered.order ++ (codes " and O" ++ (decimal b.entering.entered.order ++ (codes " are the two sides of cross " ++ (x.cross ++ sent_row rs (name_of file w.to) w.row)))))
+sides_said rs file b w (said.Held x) = codes "O" ++ (decimal b.resting.entered.order ++ (codes " and O" ++ (decimal b.entering.entered.order ++ (codes " are the two sides of cross " ++ (x.cross ++ sent_row rs file w.row)))))
 sides_said rs file b w _ = []
 
 -- both orders, by the event at which the second was held
@@ -476,33 +524,33 @@ abbrev pub sides_lines : List TrailRow → ParticipantFile → List EvidenceEven
 sides_lines rs file words b = if b.entering.entered.at_tick then sides_of rs file b (find (is_sought (HeldSide b.entering.to b.entering.entered.id)) words) else []
 
 -- of both orders together
-unfoldable pub together_lines : List TrailRow → ParticipantFile → List EvidenceEvent → Both → List ℕ
-together_lines rs file words b =
-    standing_lines words ++ (pair_line file b.resting.to b.entering.to b.row ++ (sides_lines rs file words b ++ (linked_line file b ++ apart_line b.resting.moment b.entering.moment b.row)))
+unfoldable pub together_lines : List TrailRow → ParticipantFile → List EvidenceEvent → List EvidenceEvent → Both → List ℕ
+together_lines rs file words stood b =
+    standing_lines words stood ++ (pair_line file b.resting.to b.entering.to b.row ++ (sides_lines rs file words b ++ (linked_line file b ++ apart_line b.resting.moment b.entering.moment b.row)))
 
 -- the resting order and the entering one
-abbrev pub both_lines : List TrailRow → ParticipantFile → List EvidenceEvent → Both → List ℕ
-both_lines rs file words b = entry_lines rs file words b.resting ++ (entry_lines rs file words b.entering ++ together_lines rs file words b)
+abbrev pub both_lines : List TrailRow → ParticipantFile → List EvidenceEvent → List EvidenceEvent → Both → List ℕ
+both_lines rs file words stood b = entry_lines rs file words b.resting ++ (entry_lines rs file words b.entering ++ together_lines rs file words stood b)
 
-abbrev pub two_orders : List TrailRow → ParticipantFile → List EvidenceEvent → Option OrderEntry → Option OrderEntry → ℕ → List ℕ
-two_orders rs file words None entering row = []
-two_orders rs file words (Some resting) None row = []
-two_orders rs file words (Some resting) (Some entering) row = both_lines rs file words (record { resting = resting; entering = entering; row = row })
+abbrev pub two_orders : List TrailRow → ParticipantFile → List EvidenceEvent → List EvidenceEvent → Option OrderEntry → Option OrderEntry → ℕ → List ℕ
+two_orders rs file words stood None entering row = []
+two_orders rs file words stood (Some resting) None row = []
+two_orders rs file words stood (Some resting) (Some entering) row = both_lines rs file words stood (record { resting = resting; entering = entering; row = row })
 
-unfoldable pub orders_lines : List TrailRow → ParticipantFile → List EvidenceEvent → ℕ → ℕ → ℕ → List ℕ
-orders_lines rs file words resting entering row = two_orders rs file words (entry_of words (find (is_sought (Order resting)) words)) (entry_of words (find (is_sought (Order entering)) words)) row
+unfoldable pub orders_lines : List TrailRow → ParticipantFile → List EvidenceEvent → List EvidenceEvent → ℕ → ℕ → ℕ → List ℕ
+orders_lines rs file words stood resting entering row = two_orders rs file words stood (entry_of words (find (is_sought (Order resting)) words)) (entry_of words (find (is_sought (Order entering)) words)) row
 
-abbrev pub other_of : List TrailRow → ParticipantFile → List EvidenceEvent → ℕ → Option ℕ → ℕ → List ℕ
-other_of rs file words entering None row = []
-other_of rs file words entering (Some resting) row = orders_lines rs file words resting entering row
+abbrev pub other_of : List TrailRow → ParticipantFile → List EvidenceEvent → List EvidenceEvent → ℕ → Option ℕ → ℕ → List ℕ
+other_of rs file words stood entering None row = []
+other_of rs file words stood entering (Some resting) row = orders_lines rs file words stood resting entering row
 
-abbrev pub filled_of : List TrailRow → ParticipantFile → List EvidenceEvent → ℕ → Option ℕ → ℕ → List ℕ
-filled_of rs file words trade None row = []
-filled_of rs file words trade (Some entering) row = other_of rs file words entering (order_of (find (is_sought (OtherFill trade entering)) words)) row
+abbrev pub filled_of : List TrailRow → ParticipantFile → List EvidenceEvent → List EvidenceEvent → ℕ → Option ℕ → ℕ → List ℕ
+filled_of rs file words stood trade None row = []
+filled_of rs file words stood trade (Some entering) row = other_of rs file words stood entering (order_of (find (is_sought (OtherFill trade entering)) words)) row
 
 -- of a fill the entering order's report comes first
-abbrev pub book_lines : List TrailRow → ParticipantFile → List EvidenceEvent → ℕ → ℕ → List ℕ
-book_lines rs file words trade row = filled_of rs file words trade (order_of (find (is_sought (Fill trade)) words)) row
+abbrev pub book_lines : List TrailRow → ParticipantFile → List EvidenceEvent → List EvidenceEvent → ℕ → ℕ → List ℕ
+book_lines rs file words stood trade row = filled_of rs file words stood trade (order_of (find (is_sought (Fill trade)) words)) row
 
 -- The whole.
 
@@ -514,12 +562,12 @@ row_in words trade (Some room) = row_of (find (is_sought (Hit trade)) words)
 abbrev pub trade_row : List EvidenceEvent → TradeFact → ℕ
 trade_row words t = row_in words t.number t.room
 
-abbrev pub lines_in : List TrailRow → ParticipantFile → List EvidenceEvent → ℕ → Option ℕ → ℕ → List ℕ
-lines_in rs file words trade None row = book_lines rs file words trade row
-lines_in rs file words trade (Some room) row = room_lines rs file words room
+abbrev pub lines_in : List TrailRow → ParticipantFile → List EvidenceEvent → List EvidenceEvent → ℕ → Option ℕ → ℕ → List ℕ
+lines_in rs file words stood trade None row = book_lines rs file words stood trade row
+lines_in rs file words stood trade (Some room) row = room_lines rs file words room
 
-abbrev pub place_lines : List TrailRow → ParticipantFile → List EvidenceEvent → TradeFact → ℕ → List ℕ
-place_lines rs file words t row = lines_in rs file words t.number t.room row
+abbrev pub place_lines : List TrailRow → ParticipantFile → List EvidenceEvent → List EvidenceEvent → TradeFact → ℕ → List ℕ
+place_lines rs file words stood t row = lines_in rs file words stood t.number t.room row
 
 -- the delay of an instrument: how long before the trade a linked order has to have entered, at least
 abbrev pub delay_line : List Instrument → TradeFact → ℕ → List ℕ
@@ -533,13 +581,15 @@ delay_in xs t row (Some room) = []
 abbrev pub delay_lines : List Instrument → TradeFact → ℕ → List ℕ
 delay_lines xs t row = delay_in xs t row t.room
 
-abbrev pub trade_line : Market → TradeFact → ℕ → List ℕ
-trade_line m t row = codes "trade T" ++ (decimal t.number ++ (codes " " ++ (deal m t ++ row_text row)))
+-- the trade, with the moment at which it was made
+abbrev pub trade_line : Market → List TrailRow → TradeFact → ℕ → List ℕ
+trade_line m rs t row = codes "trade T" ++ (decimal t.number ++ (codes " " ++ (deal m t ++ (moment_text rs row ++ row_text row))))
 
 -- the delay between linked orders, of a trade in the book, and then the trade
-abbrev pub last_lines : Market → TradeFact → ℕ → List ℕ
-last_lines m t row = delay_lines m.instruments t row ++ trade_line m t row
+abbrev pub last_lines : Market → List TrailRow → TradeFact → ℕ → List ℕ
+last_lines m rs t row = delay_lines m.instruments t row ++ trade_line m rs t row
 
--- the lines about a trade's request or orders, those about what had become of the quotes, and then the last ones
-unfoldable pub evidence : Market → List TrailRow → List EvidenceEvent → List ℕ → TradeFact → List ℕ
-evidence m rs words noted t = place_lines rs m.participants words t (trade_row words t) ++ (noted ++ last_lines m t (trade_row words t))
+-- the lines about a trade's request or orders, with what rested before the filled one; those about what had become of
+-- the quotes; and then the last ones
+unfoldable pub evidence : Market → List TrailRow → List EvidenceEvent → List EvidenceEvent → List ℕ → TradeFact → List ℕ
+evidence m rs words stood noted t = place_lines rs m.participants words stood t (trade_row words t) ++ (noted ++ last_lines m rs t (trade_row words t))

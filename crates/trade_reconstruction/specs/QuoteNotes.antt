@@ -1,6 +1,6 @@
 -- What had become of each quote in a room just before a trade there, and which quotes had ended by the reports to the
 -- requester.
-use Rattle.std.specs.Prelude.{ℕ, ◌==◌, nat_lt, Bool, true, false, List, [], ◌∷◌, ◌++◌, find, Option, Some, None, bytes_eq, if◌then◌else◌}
+use Rattle.std.specs.Prelude.{ℕ, ◌==◌, nat_lt, Bool, true, false, ◌&&◌, List, [], ◌∷◌, find, Option, Some, None, bytes_eq, if◌then◌else◌}
 use Rattle.std.specs.List.{flat_map}
 use Rattle.fix_dictionary.specs.declared.messages.App.{App}
 use Rattle.fix_dictionary.specs.declared.messages.App.TheVariants.{QuoteResponse}
@@ -27,8 +27,8 @@ use Rattle.trade_reconstruction.specs.declared.finding.Query.TheVariants.{Reques
 use Rattle.trade_reconstruction.specs.declared.quote_note.Fate.{Fate}
 use Rattle.trade_reconstruction.specs.declared.quote_note.Fate.TheVariants as fate
 use Rattle.trade_reconstruction.specs.declared.quote_note.HitAt.{HitAt}
-use Rattle.trade_reconstruction.specs.declared.quote_note.QuoteNote.{QuoteNote}
-use Rattle.trade_reconstruction.specs.declared.quote_note.QuoteNote.TheVariants as note
+use Rattle.trade_reconstruction.specs.declared.quote_note.QuoteFate.{QuoteFate}
+use Rattle.trade_reconstruction.specs.declared.quote_note.Ended.{Ended}
 use Rattle.trade_reconstruction.specs.Lines.{is_sought, is_to}
 
 -- Quotes that ended by a report to the requester: passed, in answer to its own message, or withdrawn, in answer to the
@@ -39,23 +39,23 @@ ended_state from to state.Passed = if to == from then Some true else None
 ended_state from to state.Withdrawn = if to == from then None else Some false
 ended_state from to _ = None
 
-abbrev pub ended_ids : TrailRow → ℕ → Bool → Option (List ℕ) → Option (List ℕ) → List QuoteNote
-ended_ids r to is_passed (Some request) (Some quote) = note.Ended (record { row = r.n; requester = to; request = request; quote = quote; is_passed = is_passed }) ∷ []
+abbrev pub ended_ids : TrailRow → ℕ → Bool → Option (List ℕ) → Option (List ℕ) → List Ended
+ended_ids r to is_passed (Some request) (Some quote) = record { row = r.n; requester = to; request = request; quote = quote; is_passed = is_passed } ∷ []
 ended_ids r to is_passed _ _ = []
 
-abbrev pub ended_as : TrailRow → ℕ → QuoteStatus → Option Bool → List QuoteNote
+abbrev pub ended_as : TrailRow → ℕ → QuoteStatus → Option Bool → List Ended
 ended_as r to s None = []
 ended_as r to s (Some is_passed) = ended_ids r to is_passed s.request_id s.quote_id
 
-abbrev pub ended_what : TrailRow → ℕ → ℕ → ReplyBody → List QuoteNote
+abbrev pub ended_what : TrailRow → ℕ → ℕ → ReplyBody → List Ended
 ended_what r from to (what.QuoteStatus s) = ended_as r to s (ended_state from to s.state)
 ended_what r from to _ = []
 
-abbrev pub ended_by : TrailRow → ℕ → Reply → List QuoteNote
+abbrev pub ended_by : TrailRow → ℕ → Reply → List Ended
 ended_by r from x = ended_what r from x.to x.what
 
 -- at a row, by the replies to its message
-abbrev pub ended_at : TrailRow → Option Taken → List Reply → List QuoteNote
+abbrev pub ended_at : TrailRow → Option Taken → List Reply → List Ended
 ended_at r None replies = []
 ended_at r (Some taken) replies = flat_map (ended_by r taken.from) replies
 
@@ -110,30 +110,52 @@ abbrev pub is_hit : Option (List ℕ) → ℕ → Bool
 is_hit None quote = false
 is_hit (Some id) quote = bytes_eq (printed 81 quote) id
 
-abbrev pub fate_note : HitAt → Quoted → Option Fate → List QuoteNote
-fate_note x q None = []
-fate_note x q (Some f) = note.Fate (record { row = x.row; quote = q.quote; maker = q.maker; is_hit = is_hit x.quote q.quote; fate = f }) ∷ []
+-- the newest report of the end of a quote that was withdrawn or passed
 
-abbrev pub fate_said : Market → History → HitAt → Asked → ℕ → EventKind → List QuoteNote
-fate_said m h x a to (said.Quoted q) = if is_to a to q.request then fate_note x q (fate_at m h a x.moment q.quote) else []
-fate_said m h x a to _ = []
+abbrev pub is_end_of : Asked → ℕ → Ended → Bool
+is_end_of a quote e = is_to a e.requester e.request && bytes_eq (printed 81 quote) e.quote
+
+abbrev pub end_of : Asked → ℕ → Ended → Option Ended
+end_of a quote e = if is_end_of a quote e then Some e else None
+
+abbrev pub or : Option Ended → Option Ended → Option Ended
+or None other = other
+or (Some e) other = Some e
+
+abbrev pub newest : (Ended → Option Ended) → List Ended → Option Ended
+newest pick [] = None
+newest pick (e ∷ es) = or (newest pick es) (pick e)
+
+abbrev pub end_with : Asked → ℕ → List Ended → Fate → Option Ended
+end_with a quote ended fate.Withdrawn = newest (end_of a quote) ended
+end_with a quote ended fate.Live = None
+end_with a quote ended fate.Replaced = None
+end_with a quote ended fate.RunOut = None
+
+abbrev pub fate_note : HitAt → Asked → List Ended → Quoted → Option Fate → List QuoteFate
+fate_note x a ended q None = []
+fate_note x a ended q (Some f) = record { row = x.row; quote = q.quote; maker = q.maker; is_hit = is_hit x.quote q.quote; fate = f; end = end_with a q.quote ended f } ∷ []
+
+abbrev pub fate_said : Market → History → HitAt → Asked → List Ended → ℕ → EventKind → List QuoteFate
+fate_said m h x a ended to (said.Quoted q) = if is_to a to q.request then fate_note x a ended q (fate_at m h a x.moment q.quote) else []
+fate_said m h x a ended to _ = []
 
 -- of a quote that the requester had been sent, if an event is of one
-abbrev pub fate_of : Market → History → HitAt → Asked → EvidenceEvent → List QuoteNote
-fate_of m h x a w = fate_said m h x a w.to w.said
+abbrev pub fate_of : Market → History → HitAt → Asked → List Ended → EvidenceEvent → List QuoteFate
+fate_of m h x a ended w = fate_said m h x a ended w.to w.said
 
-abbrev pub fates_asked : Market → History → HitAt → List EvidenceEvent → EventKind → List QuoteNote
-fates_asked m h x words (said.Asked a) = flat_map (fate_of m h x a) words
-fates_asked m h x words _ = []
+abbrev pub fates_asked : Market → History → HitAt → List EvidenceEvent → List Ended → EventKind → List QuoteFate
+fates_asked m h x words ended (said.Asked a) = flat_map (fate_of m h x a ended) words
+fates_asked m h x words ended _ = []
 
-abbrev pub fates_found : Market → History → HitAt → List EvidenceEvent → Option EvidenceEvent → List QuoteNote
-fates_found m h x words None = []
-fates_found m h x words (Some w) = fates_asked m h x words w.said
+abbrev pub fates_found : Market → History → HitAt → List EvidenceEvent → List Ended → Option EvidenceEvent → List QuoteFate
+fates_found m h x words ended None = []
+fates_found m h x words ended (Some w) = fates_asked m h x words ended w.said
 
 -- of each quote of a room
-abbrev pub fates_in : Market → History → HitAt → List EvidenceEvent → Option ℕ → List QuoteNote
-fates_in m h x words None = []
-fates_in m h x words (Some room) = fates_found m h x words (find (is_sought (Request room)) words)
+abbrev pub fates_in : Market → History → HitAt → List EvidenceEvent → List Ended → Option ℕ → List QuoteFate
+fates_in m h x words ended None = []
+fates_in m h x words ended (Some room) = fates_found m h x words ended (find (is_sought (Request room)) words)
 
 -- the quote that a message responds to
 abbrev pub responded : App → Option (List ℕ)
@@ -152,7 +174,7 @@ abbrev pub taken_in : Input → Option Taken
 taken_in (Message taken t) = Some taken
 taken_in (Tick t) = None
 
--- the notes at a row, after these events
-abbrev pub notes_at : Market → History → ℕ → List EvidenceEvent → TrailRow → Input → List QuoteNote
-notes_at m h number words r i =
-    fates_in m h (hit_at r (taken_in i)) words (room_after number None (answer_input m h i).replies) ++ ended_at r (taken_in i) (answer_input m h i).replies
+-- at a row, after these events and ends: where the trade with a number is made there in a room, what had become of each
+-- quote of the room
+abbrev pub fates_at : Market → History → ℕ → List EvidenceEvent → List Ended → TrailRow → Input → List QuoteFate
+fates_at m h number words ended r i = fates_in m h (hit_at r (taken_in i)) words ended (room_after number None (answer_input m h i).replies)

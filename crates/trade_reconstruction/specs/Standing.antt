@@ -1,6 +1,7 @@
 -- Orders that rested before the filled one when the entering order came: those of its side that come before it, by
 -- better price and then by earlier entry, in the book that the venue shows for the instrument (17 CFR 37.9(a)(3)).
-use Rattle.std.specs.Prelude.{ℕ, ◌==◌, List, [], ◌∷◌, ◌++◌, length, Option, Some, None, if◌then◌else◌}
+use Rattle.std.specs.Prelude.{ℕ, ◌==◌, Bool, true, List, [], ◌∷◌, ◌++◌, length, Option, Some, None, if◌then◌else◌}
+use Rattle.std.specs.List.{list_any}
 use Rattle.fix_dictionary.specs.declared.messages.App.TheVariants.{MarketDataRequest}
 use Rattle.instruments.specs.Listing.{instrument_of, is_unknown_instrument}
 use Rattle.venue_rules.specs.declared.replies.FilledReport.{FilledReport}
@@ -78,6 +79,29 @@ stood_met m h row moment (Some met) = stood_words row moment met (prices_of m h 
 -- what rested before the order that the trade with a number filled, where these replies report the trade
 abbrev pub stood_at : Market → History → ℕ → ℕ → ℕ → List Reply → List EvidenceEvent
 stood_at m h number row moment replies = stood_met m h row moment (met_after number None replies)
+
+-- The trades that replies report, each once, out of those that are watched: one, or all.
+
+abbrev pub is_watched : Option ℕ → ℕ → Bool
+is_watched None number = true
+is_watched (Some watched) number = watched == number
+
+abbrev pub watched_in : Option ℕ → Option ℕ → Option ℕ
+watched_in watch None = None
+watched_in watch (Some number) = if is_watched watch number then Some number else None
+
+abbrev pub trade_what : ReplyBody → Option ℕ
+trade_what (what.OrderFilled f) = Some f.trade
+trade_what (what.RoomTraded r) = Some r.trade
+trade_what _ = None
+
+abbrev pub with_number : List ℕ → Option ℕ → List ℕ
+with_number numbers None = numbers
+with_number numbers (Some number) = if list_any (λ n. n == number) numbers then numbers else numbers ++ number ∷ []
+
+abbrev pub numbers_after : Option ℕ → List ℕ → List Reply → List ℕ
+numbers_after watch numbers [] = numbers
+numbers_after watch numbers (r ∷ rs) = numbers_after watch (with_number numbers (watched_in watch (trade_what r.what))) rs
 
 -- The market data request.
 

@@ -5,6 +5,7 @@ ghost use Rattle.venue_rules.specs.Book.{is_same_link};
 ghost use Rattle.trade_reconstruction.specs.Lines.{apart_line, are_linked, book_lines, both_lines, entries_linked, entry_lines, held_line, hold_lines, link_id, link_line, linked_line, linked_text, named_line, order_id_line, order_line, order_terms, original_line, orders_lines, price_if, side_text, sides_line, sides_lines, together_lines};
 
 use crate::entry::{Both, Entry, entry_of, hold_of};
+use crate::events::Events;
 use crate::evidence_event::{EventKind, EvidenceEvent, Linked};
 use crate::finding::{Query, filled_order};
 use crate::rested::append_standing;
@@ -69,7 +70,6 @@ fn append_order_id(
 ) -> Result<(), AllocError>
     ensures { OnOk result (text.new.items ≡ text.old.items ++ order_id_line rows.now participants.now entry.now) }
 {
-    let name = name_at(participants, entry.to);
     append_id(
         text,
         b"O",
@@ -77,7 +77,7 @@ fn append_order_id(
         b" has the ClOrdID ",
         &entry.entered.id,
     )?;
-    append_sent_row(text, rows, name, entry.row)
+    append_sent_row(text, rows, participants, entry.row)
 }
 
 /// Appends an order, and its identifier.
@@ -152,7 +152,6 @@ fn append_held(
 {
     match &word.said {
         EventKind::Held(held) => {
-            let name = name_at(participants, word.to);
             append_number(text, b"O", order)?;
             append(
                 text,
@@ -163,7 +162,7 @@ fn append_held(
             )?;
             append_number(text, b" for ", held.delay)?;
             append_moment(text, b" ms from ", word.moment)?;
-            append_sent_row(text, rows, name, word.row)
+            append_sent_row(text, rows, participants, word.row)
         }
         _ => Ok(()),
     }
@@ -174,7 +173,7 @@ fn append_hold(
     text: &mut Vec<u8>,
     participants: &Participants,
     rows: &[TrailRow],
-    words: &[EvidenceEvent],
+    words: &Events,
     entry: &Entry,
 ) -> Result<(), AllocError>
     ensures { OnOk result (text.new.items ≡ text.old.items ++ hold_lines rows.now participants.now words.now entry.now) }
@@ -195,7 +194,7 @@ fn append_entry(
     text: &mut Vec<u8>,
     participants: &Participants,
     rows: &[TrailRow],
-    words: &[EvidenceEvent],
+    words: &Events,
     entry: &Entry,
 ) -> Result<(), AllocError>
     ensures { OnOk result (text.new.items ≡ text.old.items ++ entry_lines rows.now participants.now words.now entry.now) }
@@ -307,14 +306,13 @@ fn append_sides_of(
 {
     match &hold.said {
         EventKind::Held(held) => {
-            let name = name_at(participants, hold.to);
             append_number(text, b"O", both.resting.entered.order)?;
             append_number(text, b" and O", both.entering.entered.order)?;
             append(
                 text,
                 &[b" are the two sides of cross ", held.cross.as_slice()],
             )?;
-            append_sent_row(text, rows, name, hold.row)
+            append_sent_row(text, rows, participants, hold.row)
         }
         _ => Ok(()),
     }
@@ -325,7 +323,7 @@ fn append_sides(
     text: &mut Vec<u8>,
     participants: &Participants,
     rows: &[TrailRow],
-    words: &[EvidenceEvent],
+    words: &Events,
     both: &Both,
 ) -> Result<(), AllocError>
     ensures { OnOk result (text.new.items ≡ text.old.items ++ sides_lines rows.now participants.now words.now both.now) }
@@ -352,12 +350,13 @@ fn append_together(
     text: &mut Vec<u8>,
     participants: &Participants,
     rows: &[TrailRow],
-    words: &[EvidenceEvent],
+    words: &Events,
+    stood: &[EvidenceEvent],
     both: &Both,
 ) -> Result<(), AllocError>
-    ensures { OnOk result (text.new.items ≡ text.old.items ++ together_lines rows.now participants.now words.now both.now) }
+    ensures { OnOk result (text.new.items ≡ text.old.items ++ together_lines rows.now participants.now words.now stood.now both.now) }
 {
-    append_standing(alloc, text, words)?;
+    append_standing(alloc, text, words, stood)?;
     append_pair(
         text,
         participants,
@@ -376,14 +375,15 @@ fn append_both(
     text: &mut Vec<u8>,
     participants: &Participants,
     rows: &[TrailRow],
-    words: &[EvidenceEvent],
+    words: &Events,
+    stood: &[EvidenceEvent],
     both: &Both,
 ) -> Result<(), AllocError>
-    ensures { OnOk result (text.new.items ≡ text.old.items ++ both_lines rows.now participants.now words.now both.now) }
+    ensures { OnOk result (text.new.items ≡ text.old.items ++ both_lines rows.now participants.now words.now stood.now both.now) }
 {
     append_entry(alloc, text, participants, rows, words, &both.resting)?;
     append_entry(alloc, text, participants, rows, words, &both.entering)?;
-    append_together(alloc, text, participants, rows, words, both)
+    append_together(alloc, text, participants, rows, words, stood, both)
 }
 
 /// Appends the lines of two orders.
@@ -393,12 +393,13 @@ fn append_orders(
     text: &mut Vec<u8>,
     participants: &Participants,
     rows: &[TrailRow],
-    words: &[EvidenceEvent],
+    words: &Events,
+    stood: &[EvidenceEvent],
     resting: u64,
     entering: u64,
     row: u64,
 ) -> Result<(), AllocError>
-    ensures { OnOk result (text.new.items ≡ text.old.items ++ orders_lines rows.now participants.now words.now resting entering row) }
+    ensures { OnOk result (text.new.items ≡ text.old.items ++ orders_lines rows.now participants.now words.now stood.now resting entering row) }
 {
     match entry_of(words, resting) {
         None => Ok(()),
@@ -410,7 +411,7 @@ fn append_orders(
                     entering,
                     row,
                 };
-                append_both(alloc, text, participants, rows, words, &both)
+                append_both(alloc, text, participants, rows, words, stood, &both)
             }
         },
     }
@@ -424,11 +425,12 @@ pub(crate) fn append_book(
     text: &mut Vec<u8>,
     participants: &Participants,
     rows: &[TrailRow],
-    words: &[EvidenceEvent],
+    words: &Events,
+    stood: &[EvidenceEvent],
     trade: u64,
     row: u64,
 ) -> Result<(), AllocError>
-    ensures { OnOk result (text.new.items ≡ text.old.items ++ book_lines rows.now participants.now words.now trade row) }
+    ensures { OnOk result (text.new.items ≡ text.old.items ++ book_lines rows.now participants.now words.now stood.now trade row) }
 {
     match filled_order(words, &Query::Fill(trade)) {
         None => Ok(()),
@@ -441,6 +443,7 @@ pub(crate) fn append_book(
                     participants,
                     rows,
                     words,
+                    stood,
                     resting,
                     entering,
                     row,

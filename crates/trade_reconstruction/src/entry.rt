@@ -4,6 +4,7 @@ ghost use Rattle.std.specs.Prelude.{◌≡◌, find, option_map};
 ghost use Rattle.trade_reconstruction.specs.Lines.{entry_in, entry_moment, entry_of, held_until, is_sought};
 ghost use Rattle.trade_reconstruction.specs.declared.finding.Query.TheVariants.{HeldSide, Order};
 
+use crate::events::Events;
 use crate::evidence_event::{Entered, EventKind, EvidenceEvent};
 use crate::finding::{Query, find_word};
 use participants::Who;
@@ -31,7 +32,7 @@ pub struct Both {
 
 /// The event that a participant's order was held, if it was.
 pub(crate) fn hold_of<'a>(
-    words: &'a [EvidenceEvent],
+    words: &'a Events,
     to: Who,
     entered: &Entered,
 ) -> Option<&'a EvidenceEvent>
@@ -51,7 +52,7 @@ fn held_moment(hold: &EvidenceEvent) -> Moment
 }
 
 /// The moment at which an order entered.
-fn entry_moment(words: &[EvidenceEvent], word: &EvidenceEvent, entered: &Entered) -> Moment
+fn entry_moment(words: &Events, word: &EvidenceEvent, entered: &Entered) -> Moment
     ensures { result ≡ entry_moment words.now word.now entered.now }
 {
     if !entered.at_tick {
@@ -63,7 +64,7 @@ fn entry_moment(words: &[EvidenceEvent], word: &EvidenceEvent, entered: &Entered
     }
 }
 
-fn entry_in(words: &[EvidenceEvent], word: &EvidenceEvent) -> Option<Entry>
+fn entry_in(words: &Events, word: &EvidenceEvent) -> Option<Entry>
     ensures { result ≡ entry_in words.now word.now }
 {
     match &word.said {
@@ -78,7 +79,7 @@ fn entry_in(words: &[EvidenceEvent], word: &EvidenceEvent) -> Option<Entry>
 }
 
 /// The entry of the order with this number, if it is found.
-pub(crate) fn entry_of(words: &[EvidenceEvent], order: u64) -> Option<Entry>
+pub(crate) fn entry_of(words: &Events, order: u64) -> Option<Entry>
     ensures { result ≡ entry_of words.now (find (is_sought (Order order)) words.now) }
 {
     match find_word(words, &Query::Order(order)) {

@@ -7,6 +7,7 @@ use crate::evidence_event::{
     Asked, Entered, EventKind, EvidenceEvent, Filled, Held, Hit, Linked, Quoted, RestedBefore,
     RestedCount, Shown, SnapshotSent,
 };
+use crate::pushing::push_word;
 use crate::trigger::{Crossed, Trigger};
 use fix_dictionary::{Amount, Identifier, Price, Quantity, Side};
 use participants::Who;
@@ -209,39 +210,6 @@ fn held_in(trigger: &Trigger, what: &ReplyBody) -> Option<EventKind>
     match what {
         ReplyBody::OrderEntered(report) => held_by(trigger, report),
         _ => None,
-    }
-}
-
-/// Appends an event.
-pub(crate) fn push_word(
-    words: &mut Vec<EvidenceEvent>,
-    word: EvidenceEvent,
-) -> Result<(), AllocError>
-    ensures { OnOk result (words.new.items ≡ words.old.items ++ word ∷ []) }
-{
-    // Types of an event's content, named here because the proof of the push needs each.
-    let _asked: Option<Asked> = None;
-    let _pictured: Option<SnapshotSent> = None;
-    let _shown: Option<Shown> = None;
-    let _quoted: Option<Quoted> = None;
-    let _hit: Option<Hit> = None;
-    let _entered: Option<Entered> = None;
-    let _linked: Option<Linked> = None;
-    let _held: Option<Held> = None;
-    let _filled: Option<Filled> = None;
-    let _stood: Option<RestedBefore> = None;
-    let _counted: Option<RestedCount> = None;
-    let _said: Option<EventKind> = None;
-    let _name: Option<Identifier> = None;
-    let _price: Option<Price> = None;
-    let _side: Option<Side> = None;
-    let _quantity: Option<Quantity> = None;
-    let _amount: Option<Amount> = None;
-    let _moment: Option<Moment> = None;
-    let _who: Option<Who> = None;
-    match words.push(word) {
-        Ok(()) => Ok(()),
-        Err(_) => Err(AllocError),
     }
 }
 

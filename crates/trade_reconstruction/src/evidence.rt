@@ -1,6 +1,6 @@
 //! The evidence for a trade, written as lines.
 
-ghost use Rattle.std.specs.Prelude.{◌≡◌, ◌++◌, ◌≤◌, All, length, IfErr, OnOk, IfOk, option_map};
+ghost use Rattle.std.specs.Prelude.{◌≡◌, ◌++◌, ◌≤◌, true, All, length, IfErr, OnOk, IfOk, option_map};
 ghost use Rattle.std.specs.Io.KnownBytes.{Appends, Keeps};
 ghost use Rattle.instruments.specs.Listing.{delay_of, symbol_of};
 ghost use Rattle.venue_rules.specs.Facts.{History, no_history};
@@ -8,21 +8,24 @@ ghost use Rattle.venue_core.specs.Plan.{most_items};
 ghost use Rattle.venue_core.specs.Replay.{IsItem};
 ghost use Rattle.venue_core.specs.VenueFacts.{IsHistory};
 ghost use Rattle.trade_reconstruction.specs.Lines.{delay_line, delay_lines, evidence, last_lines, place_lines, trade_line, trade_row};
-ghost use Rattle.trade_reconstruction.specs.NoteLines.{note_lines};
-ghost use Rattle.trade_reconstruction.specs.Emitted.{HasNoTrade, IsEvidence, EmitsTrade, UnlessWriting, numbered_in, trade_numbered};
+ghost use Rattle.trade_reconstruction.specs.NoteLines.{fate_lines};
+ghost use Rattle.trade_reconstruction.specs.Emitted.{HasNoTrade, IsEvidence, EmitsTrade, UnlessWriting, evidence_by, numbered_in, trade_numbered};
+ghost use Rattle.trade_reconstruction.specs.Notes.{are_aligned};
 ghost use Rattle.trade_reconstruction.specs.declared.evidence.EvidenceFault.TheVariants.{Memory, NoTrade, Output};
 
 use crate::book::append_book;
+use crate::events::Events;
 use crate::evidence_event::EvidenceEvent;
 use crate::finding::{Query, row_of};
-use crate::gathering::gather;
+use crate::gathering::{Day, gather};
 use crate::laws::{
     each_book_trade_has_its_orders, each_room_trade_has_its_request, each_trade_has_its_row,
 };
-use crate::noted::append_notes;
-use crate::quote_note::QuoteNote;
+use crate::noted::append_fates;
+use crate::notes::{are_aligned, fates_for, narrowed, stood_for};
+use crate::quote_note::QuoteFate;
 use crate::room::append_room;
-use crate::sent::append_row;
+use crate::sent::{append_row, append_row_moment};
 use instruments::Instruments;
 use participants::Participants;
 use std::alloc::{AllocError, Global};
@@ -55,7 +58,7 @@ impl From<AllocError> for EvidenceFault {
 }
 
 /// The row at which a trade was made.
-fn trade_row(words: &[EvidenceEvent], trade: &TradeFact) -> u64
+fn trade_row(words: &Events, trade: &TradeFact) -> u64
     ensures { result ≡ trade_row words.now trade.now }
 {
     match trade.room {
@@ -64,20 +67,22 @@ fn trade_row(words: &[EvidenceEvent], trade: &TradeFact) -> u64
     }
 }
 
-/// Appends the line of the trade itself.
+/// Appends the line of the trade itself, with the moment at which it was made.
 fn append_trade(
     alloc: Global,
     text: &mut Vec<u8>,
     participants: &Participants,
     instruments: &Instruments,
+    rows: &[TrailRow],
     trade: &TradeFact,
     row: u64,
 ) -> Result<(), AllocError>
-    ensures { OnOk result (text.new.items ≡ text.old.items ++ trade_line (record { participants = participants.now; instruments = instruments.now }) trade.now row) }
+    ensures { OnOk result (text.new.items ≡ text.old.items ++ trade_line (record { participants = participants.now; instruments = instruments.now }) rows.now trade.now row) }
 {
     append_number(text, b"trade T", trade.number)?;
     append(text, &[b" "])?;
     append_deal(alloc, text, participants, instruments, trade)?;
+    append_row_moment(text, rows, row)?;
     append_row(text, row)
 }
 
@@ -141,13 +146,14 @@ fn append_last(
     text: &mut Vec<u8>,
     participants: &Participants,
     instruments: &Instruments,
+    rows: &[TrailRow],
     trade: &TradeFact,
     row: u64,
 ) -> Result<(), AllocError>
-    ensures { OnOk result (text.new.items ≡ text.old.items ++ last_lines (record { participants = participants.now; instruments = instruments.now }) trade.now row) }
+    ensures { OnOk result (text.new.items ≡ text.old.items ++ last_lines (record { participants = participants.now; instruments = instruments.now }) rows.now trade.now row) }
 {
     append_delay_if(text, instruments, trade, row)?;
-    append_trade(alloc, text, participants, instruments, trade, row)
+    append_trade(alloc, text, participants, instruments, rows, trade, row)
 }
 
 /// Appends the lines about a trade's request or orders.
@@ -156,14 +162,24 @@ fn append_place(
     text: &mut Vec<u8>,
     participants: &Participants,
     rows: &[TrailRow],
-    words: &[EvidenceEvent],
+    words: &Events,
+    stood: &[EvidenceEvent],
     trade: &TradeFact,
     row: u64,
 ) -> Result<(), AllocError>
-    ensures { OnOk result (text.new.items ≡ text.old.items ++ place_lines rows.now participants.now words.now trade.now row) }
+    ensures { OnOk result (text.new.items ≡ text.old.items ++ place_lines rows.now participants.now words.now stood.now trade.now row) }
 {
     match trade.room {
-        None => append_book(alloc, text, participants, rows, words, trade.number, row),
+        None => append_book(
+            alloc,
+            text,
+            participants,
+            rows,
+            words,
+            stood,
+            trade.number,
+            row,
+        ),
         Some(room) => append_room(alloc, text, participants, rows, words, room),
     }
 }
@@ -175,18 +191,63 @@ fn evidence_of(
     participants: &Participants,
     instruments: &Instruments,
     rows: &[TrailRow],
-    words: &[EvidenceEvent],
-    notes: &[QuoteNote],
+    words: &Events,
+    stood: &[EvidenceEvent],
+    fates: &[QuoteFate],
     trade: &TradeFact,
 ) -> Result<Vec<u8>, AllocError>
-    ensures { IfOk result (λ text. text.items ≡ evidence (record { participants = participants.now; instruments = instruments.now }) rows.now words.now (note_lines words.now notes.now trade.now) trade.now) }
+    ensures { IfOk result (λ text. text.items ≡ evidence (record { participants = participants.now; instruments = instruments.now }) rows.now words.now stood.now (fate_lines fates.now) trade.now) }
 {
     let row = trade_row(words, trade);
     let mut text = Vec::new(alloc);
-    append_place(alloc, &mut text, participants, rows, words, trade, row)?;
-    append_notes(&mut text, words, notes, trade)?;
-    append_last(alloc, &mut text, participants, instruments, trade, row)?;
+    append_place(
+        alloc,
+        &mut text,
+        participants,
+        rows,
+        words,
+        stood,
+        trade,
+        row,
+    )?;
+    append_fates(&mut text, fates)?;
+    append_last(
+        alloc,
+        &mut text,
+        participants,
+        instruments,
+        rows,
+        trade,
+        row,
+    )?;
     Ok(text)
+}
+
+/// The evidence for a trade of a day, out of what is noted of trades.
+pub(crate) fn evidence_for(
+    alloc: Global,
+    venue: &Venue,
+    rows: &[TrailRow],
+    day: &Day,
+    is_aligned: bool,
+    trade: &TradeFact,
+) -> Result<Vec<u8>, AllocError>
+    requires aligned { is_aligned ≡ true → are_aligned day.now.notes.items ≡ true }
+    ensures { IfOk result (λ text. text.items ≡ evidence_by venue.now.market rows.now day.now.words day.now.notes.items trade.now) }
+{
+    let notes = narrowed(&day.notes, is_aligned, trade.number);
+    let stood = stood_for(alloc, notes, trade.number)?;
+    let fates = fates_for(alloc, notes, trade.number)?;
+    evidence_of(
+        alloc,
+        venue.participants(),
+        venue.instruments(),
+        rows,
+        &day.words,
+        &stood,
+        &fates,
+        trade,
+    )
 }
 
 /// The trade with this number, counted from 1.
@@ -224,20 +285,12 @@ fn evidence_in(
     each_room_trade_has_its_request();
     each_book_trade_has_its_orders();
     each_trade_has_its_row();
-    let mut notes = Vec::new(alloc);
-    let words = gather(alloc, venue, &mut notes, rows, number)?;
+    let day = gather(alloc, venue, rows, Some(number))?;
     let Some(trade) = trade_numbered(venue, number) else {
         return Err(EvidenceFault::NoTrade);
     };
-    Ok(evidence_of(
-        alloc,
-        venue.participants(),
-        venue.instruments(),
-        rows,
-        &words,
-        &notes,
-        trade,
-    )?)
+    let is_aligned = are_aligned(&day.notes);
+    Ok(evidence_for(alloc, venue, rows, &day, is_aligned, trade)?)
 }
 
 fn write_text<W: Write>(text: &[u8], writer: &mut W) -> Result<(), EvidenceFault>

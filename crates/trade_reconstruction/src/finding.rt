@@ -1,9 +1,13 @@
 //! Search for the first event of some content.
 
 ghost use Rattle.std.specs.Prelude.{◌≡◌, find, option_map};
-ghost use Rattle.trade_reconstruction.specs.Lines.{enters, fills, fills_at, fills_other, hits, holds, is_asked, is_entry, is_sought, link_in, link_of, order_in, order_of, row_of, trade_in, trade_of};
+ghost use Rattle.std.specs.List.{flat_map};
+ghost use Rattle.trade_reconstruction.specs.Indexed.{at};
+ghost use Rattle.trade_reconstruction.specs.Lines.{enters, fills, fills_at, fills_other, hits, holds, is_asked, is_entry, is_sought, key_of, link_in, link_of, order_in, order_of, row_of, trade_in, trade_of};
 
+use crate::events::Events;
 use crate::evidence_event::{EventKind, EvidenceEvent, Linked};
+use crate::key::{Key, name_key};
 use fix_dictionary::Identifier;
 use participants::Who;
 
@@ -115,16 +119,63 @@ fn is_sought(sought: &Query, word: &EvidenceEvent) -> bool
     }
 }
 
-/// The first of these events with the content that is searched for.
-pub fn find_word<'a>(words: &'a [EvidenceEvent], sought: &Query) -> Option<&'a EvidenceEvent>
-    ensures { option_map (λ w. w.now) result ≡ find (is_sought sought.now) words.now }
+/// A key of the events with this content.
+fn key_of(sought: &Query) -> Key
+    ensures { result ≡ key_of sought.now }
 {
-    for word in words {
-        if is_sought(sought, word) {
+    match sought {
+        Query::Request(room) => Key::First(*room),
+        Query::Order(order) => Key::First(*order),
+        Query::Fill(trade) => Key::First(*trade),
+        Query::OtherFill(trade, _) => Key::First(*trade),
+        Query::FillAt(order, _) => Key::Second(*order),
+        Query::Hit(trade) => Key::Second(*trade),
+        Query::HeldSide(who, id) => Key::First(name_key(*who, id)),
+        Query::Entry(who, id) => Key::Second(name_key(*who, id)),
+    }
+}
+
+/// The event at a place, if it has the content that is searched for.
+fn fitting<'a>(
+    words: &'a [EvidenceEvent],
+    place: usize,
+    sought: &Query,
+) -> Option<&'a EvidenceEvent>
+    ensures { option_map (λ w. w.now) result ≡ find (is_sought sought.now) (at words.now place) }
+{
+    match words.get(place) {
+        Some(word) => {
+            if is_sought(sought, word) {
+                Some(word)
+            } else {
+                None
+            }
+        }
+        None => None,
+    }
+}
+
+/// The first of the events at these places with the content that is searched for.
+fn find_at<'a>(
+    words: &'a [EvidenceEvent],
+    places: &[usize],
+    sought: &Query,
+) -> Option<&'a EvidenceEvent>
+    ensures { option_map (λ w. w.now) result ≡ find (is_sought sought.now) (flat_map (at words.now) places.now) }
+{
+    for place in places {
+        if let Some(word) = fitting(words, *place, sought) {
             return Some(word);
         }
     }
     None
+}
+
+/// The first of the events with the content that is searched for.
+pub fn find_word<'a>(words: &'a Events, sought: &Query) -> Option<&'a EvidenceEvent>
+    ensures { option_map (λ w. w.now) result ≡ find (is_sought sought.now) words.now }
+{
+    find_at(words.words(), words.places(&key_of(sought)), sought)
 }
 
 fn order_in(word: &EvidenceEvent) -> Option<u64>
@@ -137,7 +188,7 @@ fn order_in(word: &EvidenceEvent) -> Option<u64>
 }
 
 /// The order that is filled, if a fill is found.
-pub fn filled_order(words: &[EvidenceEvent], sought: &Query) -> Option<u64>
+pub fn filled_order(words: &Events, sought: &Query) -> Option<u64>
     ensures { result ≡ order_of (find (is_sought sought.now) words.now) }
 {
     match find_word(words, sought) {
@@ -156,7 +207,7 @@ fn trade_in(word: &EvidenceEvent) -> Option<u64>
 }
 
 /// The trade of the fill, if one is found.
-pub fn filling_trade(words: &[EvidenceEvent], sought: &Query) -> Option<u64>
+pub fn filling_trade(words: &Events, sought: &Query) -> Option<u64>
     ensures { result ≡ trade_of (find (is_sought sought.now) words.now) }
 {
     match find_word(words, sought) {
@@ -166,7 +217,7 @@ pub fn filling_trade(words: &[EvidenceEvent], sought: &Query) -> Option<u64>
 }
 
 /// The row of the first event with the content that is searched for, if there is one.
-pub fn row_of(words: &[EvidenceEvent], sought: &Query) -> u64
+pub fn row_of(words: &Events, sought: &Query) -> u64
     ensures { result ≡ row_of (find (is_sought sought.now) words.now) }
 {
     match find_word(words, sought) {
@@ -185,7 +236,7 @@ fn link_in(word: &EvidenceEvent) -> Option<Linked>
 }
 
 /// The link of the order that entered, if one is found.
-pub fn link_of(words: &[EvidenceEvent], sought: &Query) -> Option<Linked>
+pub fn link_of(words: &Events, sought: &Query) -> Option<Linked>
     ensures { result ≡ link_of (find (is_sought sought.now) words.now) }
 {
     match find_word(words, sought) {

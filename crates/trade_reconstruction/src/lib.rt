@@ -3,23 +3,30 @@
 #![tactic(auto)]
 
 mod book;
+mod day;
 mod entry;
 mod event_kind;
+mod events;
 mod evidence;
 mod evidence_event;
 mod finding;
 mod gathering;
+mod key;
 mod laws;
 mod noted;
+mod notes;
 mod noting;
+mod pushing;
 mod quote_note;
 mod rested;
 mod room;
 mod sent;
 mod standing;
+mod trade_notes;
 mod trigger;
 mod unrelated;
 
+pub use day::print_all_evidence;
 pub use evidence::{EvidenceFault, print_evidence};
 pub use laws::{
     each_book_trade_has_its_orders, each_message_is_that_of_its_row, each_quote_has_its_fate,

@@ -7,12 +7,15 @@ ghost use Rattle.venue_rules.specs.Run.{answer_input};
 ghost use Rattle.venue_core.specs.Plan.{most_items};
 ghost use Rattle.venue_core.specs.VenueFacts.{IsHistory};
 ghost use Rattle.venue_core.specs.State.{standing};
-ghost use Rattle.trade_reconstruction.specs.QuoteNotes.{earlier, ended_at, ended_as, ended_by, ended_state, fate_at, fate_in, fate_note, fate_of, fate_state, fate_what, fates_in, hit_at, is_hit, passes, responded, responded_in, room_after, room_what};
+ghost use Rattle.trade_reconstruction.specs.QuoteNotes.{earlier, end_of, end_with, ended_at, ended_as, ended_by, ended_state, fate_at, fate_in, fate_note, fate_of, fate_state, fate_what, fates_in, hit_at, is_end_of, is_hit, newest, passes, responded, responded_in, room_after, room_what};
 ghost use Rattle.trade_reconstruction.specs.Standing.{input_of};
 
+use crate::events::{Events, pick};
 use crate::evidence_event::{Asked, EventKind, EvidenceEvent, Quoted};
 use crate::finding::{Query, find_word};
-use crate::quote_note::{Ended, Fate, HitAt, QuoteFate, QuoteNote};
+use crate::key::{Key, name_key};
+use crate::pushing::push_quote_fate;
+use crate::quote_note::{Ended, Fate, HitAt, QuoteFate};
 use crate::room::is_to;
 use crate::standing::plan_item;
 use fix_dictionary::{App, BoxedApp, FixInt, Identifier, Item, QuoteResponse, SequenceNumber};
@@ -22,17 +25,14 @@ use std::alloc::{AllocError, Global};
 use venue_core::Venue;
 use venue_rules::{QuoteState, QuoteStatus, Reply, ReplyBody, Taken, TrailRow, printed_identifier};
 
-/// Appends a note.
-fn push_note(notes: &mut Vec<QuoteNote>, note: QuoteNote) -> Result<(), AllocError>
-    ensures { OnOk result (notes.new.items ≡ notes.old.items ++ note ∷ []) }
+/// Appends the end of a quote.
+fn push_end(ended: &mut Vec<Ended>, end: Ended) -> Result<(), AllocError>
+    ensures { OnOk result (ended.new.items ≡ ended.old.items ++ end ∷ []) }
 {
-    // Types of a note's content, named here because the proof of the push needs each.
-    let _ended: Option<Ended> = None;
-    let _fate: Option<QuoteFate> = None;
-    let _kind: Option<Fate> = None;
+    // Types of an end's content, named here because the proof of the push needs each.
     let _name: Option<Identifier> = None;
     let _who: Option<Who> = None;
-    match notes.push(note) {
+    match ended.push(end) {
         Ok(()) => Ok(()),
         Err(_) => Err(AllocError),
     }
@@ -68,25 +68,25 @@ fn ended_state(from: Who, to: Who, state: &QuoteState) -> Option<bool>
 
 /// Appends that a quote ended, with the requester's identifier of its request and its own.
 fn push_ids(
-    notes: &mut Vec<QuoteNote>,
+    ended: &mut Vec<Ended>,
     row: &TrailRow,
     to: Who,
     status: &QuoteStatus,
     is_passed: bool,
 ) -> Result<(), AllocError>
-    ensures { OnOk result (notes.new.items ≡ notes.old.items ++ ended_as row.now to status.now (Some is_passed)) }
+    ensures { OnOk result (ended.new.items ≡ ended.old.items ++ ended_as row.now to status.now (Some is_passed)) }
 {
     match status.request_id {
         Some(request) => match status.quote_id {
-            Some(quote) => push_note(
-                notes,
-                QuoteNote::Ended(Ended {
+            Some(quote) => push_end(
+                ended,
+                Ended {
                     row: row.n,
                     requester: to,
                     request,
                     quote,
                     is_passed,
-                }),
+                },
             ),
             None => Ok(()),
         },
@@ -95,60 +95,60 @@ fn push_ids(
 }
 
 fn push_status(
-    notes: &mut Vec<QuoteNote>,
+    ended: &mut Vec<Ended>,
     row: &TrailRow,
     from: Who,
     to: Who,
     status: &QuoteStatus,
 ) -> Result<(), AllocError>
-    ensures { OnOk result (notes.new.items ≡ notes.old.items ++ ended_as row.now to status.now (ended_state from to status.now.state)) }
+    ensures { OnOk result (ended.new.items ≡ ended.old.items ++ ended_as row.now to status.now (ended_state from to status.now.state)) }
 {
     match ended_state(from, to, &status.state) {
-        Some(is_passed) => push_ids(notes, row, to, status, is_passed),
+        Some(is_passed) => push_ids(ended, row, to, status, is_passed),
         None => Ok(()),
     }
 }
 
 /// Appends that a quote ended, if a reply reports it to the requester.
 fn push_ended_by(
-    notes: &mut Vec<QuoteNote>,
+    ended: &mut Vec<Ended>,
     row: &TrailRow,
     from: Who,
     reply: &Reply,
 ) -> Result<(), AllocError>
-    ensures { OnOk result (notes.new.items ≡ notes.old.items ++ ended_by row.now from reply.now) }
+    ensures { OnOk result (ended.new.items ≡ ended.old.items ++ ended_by row.now from reply.now) }
 {
     match &reply.what {
-        ReplyBody::QuoteStatus(status) => push_status(notes, row, from, reply.to, status),
+        ReplyBody::QuoteStatus(status) => push_status(ended, row, from, reply.to, status),
         _ => Ok(()),
     }
 }
 
 fn push_ended_of(
-    notes: &mut Vec<QuoteNote>,
+    ended: &mut Vec<Ended>,
     row: &TrailRow,
     from: Who,
     replies: &[Reply],
 ) -> Result<(), AllocError>
-    ensures { OnOk result (notes.new.items ≡ notes.old.items ++ flat_map (ended_by row.now from) replies.now) }
+    ensures { OnOk result (ended.new.items ≡ ended.old.items ++ flat_map (ended_by row.now from) replies.now) }
 {
     for reply in replies {
-        push_ended_by(notes, row, from, reply)?;
+        push_ended_by(ended, row, from, reply)?;
     }
     Ok(())
 }
 
 /// Appends which quotes ended at a row, by the replies to its message.
 pub(crate) fn push_ended(
-    notes: &mut Vec<QuoteNote>,
+    ended: &mut Vec<Ended>,
     row: &TrailRow,
     taken: &Option<Taken>,
     replies: &[Reply],
 ) -> Result<(), AllocError>
-    ensures { OnOk result (notes.new.items ≡ notes.old.items ++ ended_at row.now taken.now replies.now) }
+    ensures { OnOk result (ended.new.items ≡ ended.old.items ++ ended_at row.now taken.now replies.now) }
 {
     match taken {
-        Some(taken) => push_ended_of(notes, row, taken.from, replies),
+        Some(taken) => push_ended_of(ended, row, taken.from, replies),
         None => Ok(()),
     }
 }
@@ -319,24 +319,68 @@ fn is_hit(hit: &Option<Identifier>, quote: u64) -> bool
     }
 }
 
+/// Whether the end of a quote is that of this one.
+fn is_end_of(asked: &Asked, quote: u64, end: &Ended) -> bool
+    ensures { result ≡ is_end_of asked.now quote end.now }
+{
+    is_to(asked, end.requester, &end.request) && printed_identifier(b'Q', quote).is(&end.quote)
+}
+
+fn end_of(asked: &Asked, quote: u64, end: &Ended) -> Option<Ended>
+    ensures { result ≡ end_of asked.now quote end.now }
+{
+    if is_end_of(asked, quote, end) {
+        Some(*end)
+    } else {
+        None
+    }
+}
+
+/// The newest report of the end of a quote.
+fn newest_end(ended: &[Ended], asked: &Asked, quote: u64) -> Option<Ended>
+    ensures { result ≡ newest (end_of asked.now quote) ended.now }
+{
+    for at in (0..ended.len()).rev() {
+        if let Some(end) = end_of(asked, quote, &ended[at]) {
+            return Some(end);
+        }
+    }
+    None
+}
+
+/// The report that a quote was withdrawn or passed, if it was.
+fn end_with(ended: &[Ended], asked: &Asked, quote: u64, fate: Fate) -> Option<Ended>
+    ensures { result ≡ end_with asked.now quote ended.now fate }
+{
+    match fate {
+        Fate::Withdrawn => newest_end(ended, asked, quote),
+        Fate::Live => None,
+        Fate::Replaced => None,
+        Fate::RunOut => None,
+    }
+}
+
 fn push_fate_note(
-    notes: &mut Vec<QuoteNote>,
+    fates: &mut Vec<QuoteFate>,
     hit: &HitAt,
+    asked: &Asked,
+    ended: &[Ended],
     quoted: &Quoted,
     fate: Option<Fate>,
 ) -> Result<(), AllocError>
-    ensures { OnOk result (notes.new.items ≡ notes.old.items ++ fate_note hit.now quoted.now fate) }
+    ensures { OnOk result (fates.new.items ≡ fates.old.items ++ fate_note hit.now asked.now ended.now quoted.now fate) }
 {
     match fate {
-        Some(fate) => push_note(
-            notes,
-            QuoteNote::Fate(QuoteFate {
+        Some(fate) => push_quote_fate(
+            fates,
+            QuoteFate {
                 row: hit.row,
                 quote: quoted.quote,
                 maker: quoted.maker,
                 is_hit: is_hit(&hit.quote, quoted.quote),
                 fate,
-            }),
+                end: end_with(ended, asked, quoted.quote, fate),
+            },
         ),
         None => Ok(()),
     }
@@ -346,40 +390,42 @@ fn push_fate_note(
 fn push_fate(
     alloc: Global,
     venue: &mut Venue,
-    notes: &mut Vec<QuoteNote>,
+    fates: &mut Vec<QuoteFate>,
     hit: &HitAt,
     asked: &Asked,
+    ended: &[Ended],
     quoted: &Quoted,
 ) -> Result<(), AllocError>
     requires few { venue.old.items ≤ most_items }
     ensures market { venue.new.market ≡ venue.old.market }
     ensures day { standing venue.new.day ≡ standing venue.old.day }
     ensures items { venue.new.items ≡ venue.old.items }
-    ensures noted { (h : History) → IsHistory venue.old h → OnOk result (notes.new.items ≡ notes.old.items ++ fate_note hit.now quoted.now (fate_at venue.old.market h asked.now hit.now.moment quoted.now.quote)) }
+    ensures noted { (h : History) → IsHistory venue.old h → OnOk result (fates.new.items ≡ fates.old.items ++ fate_note hit.now asked.now ended.now quoted.now (fate_at venue.old.market h asked.now hit.now.moment quoted.now.quote)) }
 {
     let fate = fate_at(alloc, venue, asked, hit.moment, quoted.quote)?;
-    push_fate_note(notes, hit, quoted, fate)
+    push_fate_note(fates, hit, asked, ended, quoted, fate)
 }
 
 /// Appends what had become of a quote that the requester had been sent, if an event is of one.
 fn push_fate_of(
     alloc: Global,
     venue: &mut Venue,
-    notes: &mut Vec<QuoteNote>,
+    fates: &mut Vec<QuoteFate>,
     hit: &HitAt,
     asked: &Asked,
+    ended: &[Ended],
     word: &EvidenceEvent,
 ) -> Result<(), AllocError>
     requires few { venue.old.items ≤ most_items }
     ensures market { venue.new.market ≡ venue.old.market }
     ensures day { standing venue.new.day ≡ standing venue.old.day }
     ensures items { venue.new.items ≡ venue.old.items }
-    ensures noted { (h : History) → IsHistory venue.old h → OnOk result (notes.new.items ≡ notes.old.items ++ fate_of venue.old.market h hit.now asked.now word.now) }
+    ensures noted { (h : History) → IsHistory venue.old h → OnOk result (fates.new.items ≡ fates.old.items ++ fate_of venue.old.market h hit.now asked.now ended.now word.now) }
 {
     match &word.said {
         EventKind::Quoted(quoted) => {
             if is_to(asked, word.to, &quoted.request) {
-                push_fate(alloc, venue, notes, hit, asked, quoted)
+                push_fate(alloc, venue, fates, hit, asked, ended, quoted)
             } else {
                 Ok(())
             }
@@ -392,43 +438,68 @@ fn push_fate_of(
 fn push_fates_asked(
     alloc: Global,
     venue: &mut Venue,
-    notes: &mut Vec<QuoteNote>,
+    fates: &mut Vec<QuoteFate>,
     hit: &HitAt,
     asked: &Asked,
+    ended: &[Ended],
     words: &[EvidenceEvent],
 ) -> Result<(), AllocError>
     requires few { venue.old.items ≤ most_items }
     ensures market { venue.new.market ≡ venue.old.market }
     ensures day { standing venue.new.day ≡ standing venue.old.day }
     ensures items { venue.new.items ≡ venue.old.items }
-    ensures noted { (h : History) → IsHistory venue.old h → OnOk result (notes.new.items ≡ notes.old.items ++ flat_map (fate_of venue.old.market h hit.now asked.now) words.now) }
+    ensures noted { (h : History) → IsHistory venue.old h → OnOk result (fates.new.items ≡ fates.old.items ++ flat_map (fate_of venue.old.market h hit.now asked.now ended.now) words.now) }
 {
     for word in words {
-        push_fate_of(alloc, venue, notes, hit, asked, word)?;
+        push_fate_of(alloc, venue, fates, hit, asked, ended, word)?;
     }
     Ok(())
+}
+
+/// Appends what had become of each quote of a request, which are found by its key.
+fn push_fates_found(
+    alloc: Global,
+    venue: &mut Venue,
+    fates: &mut Vec<QuoteFate>,
+    hit: &HitAt,
+    asked: &Asked,
+    ended: &[Ended],
+    words: &Events,
+) -> Result<(), AllocError>
+    requires few { venue.old.items ≤ most_items }
+    ensures market { venue.new.market ≡ venue.old.market }
+    ensures day { standing venue.new.day ≡ standing venue.old.day }
+    ensures items { venue.new.items ≡ venue.old.items }
+    ensures noted { (h : History) → IsHistory venue.old h → OnOk result (fates.new.items ≡ fates.old.items ++ flat_map (fate_of venue.old.market h hit.now asked.now ended.now) words.now) }
+{
+    let key = Key::First(name_key(asked.requester, &asked.request));
+    let picked = pick(alloc, words, &key)?;
+    push_fates_asked(alloc, venue, fates, hit, asked, ended, &picked)
 }
 
 /// Appends what had become of each quote of a room.
 fn push_fates_in(
     alloc: Global,
     venue: &mut Venue,
-    notes: &mut Vec<QuoteNote>,
+    fates: &mut Vec<QuoteFate>,
     hit: &HitAt,
-    words: &[EvidenceEvent],
+    words: &Events,
+    ended: &[Ended],
     room: u64,
 ) -> Result<(), AllocError>
     requires few { venue.old.items ≤ most_items }
     ensures market { venue.new.market ≡ venue.old.market }
     ensures day { standing venue.new.day ≡ standing venue.old.day }
     ensures items { venue.new.items ≡ venue.old.items }
-    ensures noted { (h : History) → IsHistory venue.old h → OnOk result (notes.new.items ≡ notes.old.items ++ fates_in venue.old.market h hit.now words.now (Some room)) }
+    ensures noted { (h : History) → IsHistory venue.old h → OnOk result (fates.new.items ≡ fates.old.items ++ fates_in venue.old.market h hit.now words.now ended.now (Some room)) }
 {
     let Some(word) = find_word(words, &Query::Request(room)) else {
         return Ok(());
     };
     match &word.said {
-        EventKind::Asked(asked) => push_fates_asked(alloc, venue, notes, hit, asked, words),
+        EventKind::Asked(asked) => {
+            push_fates_found(alloc, venue, fates, hit, asked, ended, words)
+        }
         _ => Ok(()),
     }
 }
@@ -438,8 +509,9 @@ fn push_fates_in(
 pub(crate) fn push_fates(
     alloc: Global,
     venue: &mut Venue,
-    notes: &mut Vec<QuoteNote>,
-    words: &[EvidenceEvent],
+    fates: &mut Vec<QuoteFate>,
+    words: &Events,
+    ended: &[Ended],
     row: &TrailRow,
     taken: &Option<Taken>,
     number: u64,
@@ -448,10 +520,10 @@ pub(crate) fn push_fates(
     ensures market { venue.new.market ≡ venue.old.market }
     ensures day { standing venue.new.day ≡ standing venue.old.day }
     ensures items { venue.new.items ≡ venue.old.items }
-    ensures noted { (h : History) → IsHistory venue.old h → OnOk result (notes.new.items ≡ notes.old.items ++ fates_in venue.old.market h (hit_at row.now taken.now) words.now (room_after number None (answer_input venue.old.market h (input_of taken.now row.now.moment)).replies)) }
+    ensures noted { (h : History) → IsHistory venue.old h → OnOk result (fates.new.items ≡ fates.old.items ++ fates_in venue.old.market h (hit_at row.now taken.now) words.now ended.now (room_after number None (answer_input venue.old.market h (input_of taken.now row.now.moment)).replies)) }
 {
     match room_at(venue, taken, row.moment, number)? {
-        Some(room) => push_fates_in(alloc, venue, notes, &hit_at(row, taken), words, room),
+        Some(room) => push_fates_in(alloc, venue, fates, &hit_at(row, taken), words, ended, room),
         None => Ok(()),
     }
 }

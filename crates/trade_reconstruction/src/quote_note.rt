@@ -39,13 +39,8 @@ pub struct QuoteFate {
     /// the trade was made by a hit of this quote
     pub is_hit: bool,
     pub fate: Fate,
-}
-
-/// A note.
-#[derive(Clone, Copy)]
-pub enum QuoteNote {
-    Ended(Ended),
-    Fate(QuoteFate),
+    /// of one that was withdrawn or passed, the report of it
+    pub end: Option<Ended>,
 }
 
 /// The row and the moment of a hit, and the quote that the message named (117).

@@ -3,6 +3,7 @@
 ghost use Rattle.std.specs.Prelude.{◌≡◌, ◌++◌, OnOk};
 ghost use Rattle.trade_reconstruction.specs.Lines.{counted_line, filled_text, filler_of, standing_line, standing_lines, stood_line, stood_side};
 
+use crate::events::Events;
 use crate::evidence_event::{EventKind, EvidenceEvent, RestedBefore, RestedCount};
 use crate::finding::{Query, filling_trade};
 use crate::sent::append_row;
@@ -20,7 +21,7 @@ fn stood_side(side: Side) -> &'static [u8]
 }
 
 /// The trade at this row that filled an order, if one did.
-fn filler_of(words: &[EvidenceEvent], order: u64, row: u64) -> Option<u64>
+fn filler_of(words: &Events, order: u64, row: u64) -> Option<u64>
     ensures { result ≡ filler_of words.now order row }
 {
     filling_trade(words, &Query::FillAt(order, row))
@@ -38,7 +39,7 @@ fn append_filled(text: &mut Vec<u8>, trade: Option<u64>) -> Result<(), AllocErro
 fn append_stood(
     alloc: Global,
     text: &mut Vec<u8>,
-    words: &[EvidenceEvent],
+    words: &Events,
     word: &EvidenceEvent,
     stood: &RestedBefore,
 ) -> Result<(), AllocError>
@@ -73,7 +74,7 @@ fn append_counted(
 fn append_word(
     alloc: Global,
     text: &mut Vec<u8>,
-    words: &[EvidenceEvent],
+    words: &Events,
     word: &EvidenceEvent,
 ) -> Result<(), AllocError>
     ensures { OnOk result (text.new.items ≡ text.old.items ++ standing_line words.now word.now) }
@@ -89,11 +90,12 @@ fn append_word(
 pub(crate) fn append_standing(
     alloc: Global,
     text: &mut Vec<u8>,
-    words: &[EvidenceEvent],
+    words: &Events,
+    stood: &[EvidenceEvent],
 ) -> Result<(), AllocError>
-    ensures { OnOk result (text.new.items ≡ text.old.items ++ standing_lines words.now) }
+    ensures { OnOk result (text.new.items ≡ text.old.items ++ standing_lines words.now stood.now) }
 {
-    for word in words {
+    for word in stood {
         append_word(alloc, text, words, word)?;
     }
     Ok(())

@@ -3,10 +3,12 @@
 ghost use Rattle.std.specs.Prelude.{◌≡◌, ◌++◌, OnOk, codes, decimal};
 ghost use Rattle.std.specs.List.{flat_map};
 ghost use Rattle.sef_moment.specs.Utc.{utc_text};
-ghost use Rattle.trade_reconstruction.specs.Lines.{asked_lines, asked_side, at_text, hit_line, hit_side, id_text, is_to, others, other_line, pair_line, pictured_line, price_or_none, quote_id_line, quote_line, quote_terms, relation, request_id_line, request_line, request_terms, response_text, room_found, room_lines, room_word, row_text, shown_line, shown_side, three_if, three_line, three_text};
+ghost use Rattle.trade_reconstruction.specs.Lines.{answered_word, asked_lines, asked_side, asked_word, at_text, hit_line, hit_side, hit_word, id_text, is_to, others, other_line, pair_line, pictured_line, price_or_none, quote_id_line, quote_line, quote_terms, relation, request_id_line, request_line, request_terms, response_text, room_found, room_lines, row_text, shown_line, shown_side, three_if, three_line, three_text, words_lines};
 
+use crate::events::{Events, pick};
 use crate::evidence_event::{Asked, EventKind, EvidenceEvent, Hit, Quoted, Shown, SnapshotSent};
 use crate::finding::{Query, find_word, is_asked};
+use crate::key::{Key, name_key};
 use crate::sent::{append_row, append_sent_row};
 use crate::unrelated::{Three, recipients_of, three_of};
 use fix_dictionary::{Identifier, Price, Side};
@@ -129,7 +131,6 @@ fn append_request_id(
 ) -> Result<(), AllocError>
     ensures { OnOk result (text.new.items ≡ text.old.items ++ request_id_line rows.now participants.now word.now asked.now) }
 {
-    let name = name_at(participants, asked.requester);
     append_id(
         text,
         b"R",
@@ -137,7 +138,7 @@ fn append_request_id(
         b" has the QuoteReqID ",
         &asked.request,
     )?;
-    append_sent_row(text, rows, name, word.row)
+    append_sent_row(text, rows, participants, word.row)
 }
 
 /// Appends a request, and its identifier.
@@ -288,16 +289,17 @@ fn append_quote_terms(
 /// Appends the maker's own identifier of its quote.
 fn append_quote_id(
     text: &mut Vec<u8>,
+    participants: &Participants,
     rows: &[TrailRow],
     word: &EvidenceEvent,
     quoted: &Quoted,
 ) -> Result<(), AllocError>
-    ensures { OnOk result (text.new.items ≡ text.old.items ++ quote_id_line rows.now word.now quoted.now quoted.now.id) }
+    ensures { OnOk result (text.new.items ≡ text.old.items ++ quote_id_line rows.now participants.now word.now quoted.now quoted.now.id) }
 {
     match &quoted.id {
         Some(id) => {
             append_id(text, b"Q", quoted.quote, b" has the QuoteID ", id)?;
-            append_sent_row(text, rows, quoted.maker.as_slice(), word.row)
+            append_sent_row(text, rows, participants, word.row)
         }
         None => Ok(()),
     }
@@ -307,14 +309,15 @@ fn append_quote_id(
 fn append_quote(
     alloc: Global,
     text: &mut Vec<u8>,
+    participants: &Participants,
     rows: &[TrailRow],
     word: &EvidenceEvent,
     quoted: &Quoted,
 ) -> Result<(), AllocError>
-    ensures { OnOk result (text.new.items ≡ text.old.items ++ quote_line rows.now word.now quoted.now) }
+    ensures { OnOk result (text.new.items ≡ text.old.items ++ quote_line rows.now participants.now word.now quoted.now) }
 {
     append_quote_terms(alloc, text, word, quoted)?;
-    append_quote_id(text, rows, word, quoted)
+    append_quote_id(text, participants, rows, word, quoted)
 }
 
 fn hit_side(side: Side) -> &'static [u8]
@@ -354,7 +357,7 @@ fn append_hit(
     append_price(alloc, text, hit.price)?;
     append_response(text, &hit.response)?;
     append_moment(text, b" at ", word.moment)?;
-    append_sent_row(text, rows, name, word.row)
+    append_sent_row(text, rows, participants, word.row)
 }
 
 /// Whether an event is addressed to the requester, about its request.
@@ -364,18 +367,16 @@ pub(crate) fn is_to(asked: &Asked, to: Who, request: &Identifier) -> bool
     to.place() == asked.requester.place() && request.is(&asked.request)
 }
 
-/// Appends the lines of an event, if it is about this request.
-#[tactic(auto, unfolding(crate::specs::Lines::room_word))]
-fn append_word(
-    alloc: Global,
+/// Appends that somebody was asked, if an event is of this room's request.
+#[tactic(auto, unfolding(crate::specs::Lines::asked_word))]
+fn append_asked_word(
     text: &mut Vec<u8>,
     participants: &Participants,
-    rows: &[TrailRow],
     words: &[EvidenceEvent],
     asked: &Asked,
     word: &EvidenceEvent,
 ) -> Result<(), AllocError>
-    ensures { OnOk result (text.new.items ≡ text.old.items ++ room_word rows.now participants.now words.now asked.now word.now) }
+    ensures { OnOk result (text.new.items ≡ text.old.items ++ asked_word participants.now words.now asked.now word.now) }
 {
     match &word.said {
         EventKind::Asked(other) => {
@@ -385,6 +386,23 @@ fn append_word(
                 Ok(())
             }
         }
+        _ => Ok(()),
+    }
+}
+
+/// Appends what the requester was sent, if an event is about its request.
+#[tactic(auto, unfolding(crate::specs::Lines::answered_word))]
+fn append_answered_word(
+    alloc: Global,
+    text: &mut Vec<u8>,
+    participants: &Participants,
+    rows: &[TrailRow],
+    asked: &Asked,
+    word: &EvidenceEvent,
+) -> Result<(), AllocError>
+    ensures { OnOk result (text.new.items ≡ text.old.items ++ answered_word rows.now participants.now asked.now word.now) }
+{
+    match &word.said {
         EventKind::SnapshotSent(pictured) => {
             if is_to(asked, word.to, &pictured.request) {
                 append_pictured(text, word, pictured)
@@ -401,11 +419,28 @@ fn append_word(
         }
         EventKind::Quoted(quoted) => {
             if is_to(asked, word.to, &quoted.request) {
-                append_quote(alloc, text, rows, word, quoted)
+                append_quote(alloc, text, participants, rows, word, quoted)
             } else {
                 Ok(())
             }
         }
+        _ => Ok(()),
+    }
+}
+
+/// Appends the requester's hit, if an event is of one in its room.
+#[tactic(auto, unfolding(crate::specs::Lines::hit_word))]
+fn append_hit_word(
+    alloc: Global,
+    text: &mut Vec<u8>,
+    participants: &Participants,
+    rows: &[TrailRow],
+    asked: &Asked,
+    word: &EvidenceEvent,
+) -> Result<(), AllocError>
+    ensures { OnOk result (text.new.items ≡ text.old.items ++ hit_word rows.now participants.now asked.now word.now) }
+{
+    match &word.said {
         EventKind::Hit(hit) => {
             if hit.room == asked.room && word.to.place() == asked.requester.place() {
                 append_hit(alloc, text, participants, rows, word, hit)
@@ -413,11 +448,7 @@ fn append_word(
                 Ok(())
             }
         }
-        EventKind::Entered(_) => Ok(()),
-        EventKind::Held(_) => Ok(()),
-        EventKind::Filled(_) => Ok(()),
-        EventKind::RestedBefore(_) => Ok(()),
-        EventKind::RestedCount(_) => Ok(()),
+        _ => Ok(()),
     }
 }
 
@@ -470,20 +501,98 @@ fn append_three(
     append_three_if(text, participants, asked.requester, &three, word.row)
 }
 
-fn append_words(
+fn append_all_asked(
+    text: &mut Vec<u8>,
+    participants: &Participants,
+    words: &[EvidenceEvent],
+    asked: &Asked,
+) -> Result<(), AllocError>
+    ensures { OnOk result (text.new.items ≡ text.old.items ++ flat_map (asked_word participants.now words.now asked.now) words.now) }
+{
+    for word in words {
+        append_asked_word(text, participants, words, asked, word)?;
+    }
+    Ok(())
+}
+
+fn append_answered(
     alloc: Global,
     text: &mut Vec<u8>,
     participants: &Participants,
     rows: &[TrailRow],
-    words: &[EvidenceEvent],
     asked: &Asked,
+    words: &[EvidenceEvent],
 ) -> Result<(), AllocError>
-    ensures { OnOk result (text.new.items ≡ text.old.items ++ flat_map (room_word rows.now participants.now words.now asked.now) words.now) }
+    ensures { OnOk result (text.new.items ≡ text.old.items ++ flat_map (answered_word rows.now participants.now asked.now) words.now) }
 {
     for word in words {
-        append_word(alloc, text, participants, rows, words, asked, word)?;
+        append_answered_word(alloc, text, participants, rows, asked, word)?;
     }
     Ok(())
+}
+
+fn append_hits(
+    alloc: Global,
+    text: &mut Vec<u8>,
+    participants: &Participants,
+    rows: &[TrailRow],
+    asked: &Asked,
+    words: &[EvidenceEvent],
+) -> Result<(), AllocError>
+    ensures { OnOk result (text.new.items ≡ text.old.items ++ flat_map (hit_word rows.now participants.now asked.now) words.now) }
+{
+    for word in words {
+        append_hit_word(alloc, text, participants, rows, asked, word)?;
+    }
+    Ok(())
+}
+
+/// Appends the lines of a request, of events in its room and of those to the requester.
+fn append_request_answer(
+    alloc: Global,
+    text: &mut Vec<u8>,
+    participants: &Participants,
+    rows: &[TrailRow],
+    in_room: &[EvidenceEvent],
+    to_requester: &[EvidenceEvent],
+    word: &EvidenceEvent,
+    asked: &Asked,
+) -> Result<(), AllocError>
+    ensures { OnOk result (text.new.items ≡ text.old.items ++ (request_line rows.now participants.now word.now asked.now ++ (three_line participants.now in_room.now word.now asked.now
+        ++ (flat_map (asked_word participants.now in_room.now asked.now) in_room.now ++ (flat_map (answered_word rows.now participants.now asked.now) to_requester.now ++ flat_map (hit_word rows.now participants.now asked.now) in_room.now))))) }
+{
+    append_request(text, participants, rows, word, asked)?;
+    append_three(alloc, text, participants, in_room, word, asked)?;
+    append_all_asked(text, participants, in_room, asked)?;
+    append_answered(alloc, text, participants, rows, asked, to_requester)?;
+    append_hits(alloc, text, participants, rows, asked, in_room)
+}
+
+/// Appends the lines of a request, whose events are found by its room and by its key.
+fn append_of(
+    alloc: Global,
+    text: &mut Vec<u8>,
+    participants: &Participants,
+    rows: &[TrailRow],
+    words: &Events,
+    word: &EvidenceEvent,
+    asked: &Asked,
+) -> Result<(), AllocError>
+    ensures { OnOk result (text.new.items ≡ text.old.items ++ (request_line rows.now participants.now word.now asked.now ++ (three_line participants.now words.now word.now asked.now ++ words_lines rows.now participants.now words.now asked.now))) }
+{
+    let in_room = pick(alloc, words, &Key::First(asked.room))?;
+    let key = Key::First(name_key(asked.requester, &asked.request));
+    let to_requester = pick(alloc, words, &key)?;
+    append_request_answer(
+        alloc,
+        text,
+        participants,
+        rows,
+        &in_room,
+        &to_requester,
+        word,
+        asked,
+    )
 }
 
 /// Appends the lines of a room, from the first event of its request on.
@@ -492,16 +601,14 @@ fn append_found(
     text: &mut Vec<u8>,
     participants: &Participants,
     rows: &[TrailRow],
-    words: &[EvidenceEvent],
+    words: &Events,
     word: &EvidenceEvent,
 ) -> Result<(), AllocError>
     ensures { OnOk result (text.new.items ≡ text.old.items ++ room_found rows.now participants.now words.now word.now) }
 {
     match &word.said {
         EventKind::Asked(asked) => {
-            append_request(text, participants, rows, word, asked)?;
-            append_three(alloc, text, participants, words, word, asked)?;
-            append_words(alloc, text, participants, rows, words, asked)
+            append_of(alloc, text, participants, rows, words, word, asked)
         }
         _ => Ok(()),
     }
@@ -514,7 +621,7 @@ pub(crate) fn append_room(
     text: &mut Vec<u8>,
     participants: &Participants,
     rows: &[TrailRow],
-    words: &[EvidenceEvent],
+    words: &Events,
     room: u64,
 ) -> Result<(), AllocError>
     ensures { OnOk result (text.new.items ≡ text.old.items ++ room_lines rows.now participants.now words.now room) }

@@ -4,7 +4,8 @@ ghost use Rattle.std.specs.Prelude.{◌≡◌};
 ghost use Rattle.instruments.specs.Listing.{delay_of, instrument_of};
 ghost use Rattle.trade_reconstruction.specs.EventKinds.{trigger_in, link_at, link_known};
 
-use crate::evidence_event::{EvidenceEvent, Linked};
+use crate::events::Events;
+use crate::evidence_event::Linked;
 use crate::finding::{Query, link_of};
 use fix_dictionary::{App, Identifier, Price};
 use instruments::Instruments;
@@ -69,7 +70,7 @@ fn link_at(row: u64, link: Option<Identifier>) -> Option<Linked>
 }
 
 /// The link of the order that a participant entered under an identifier (11), if any.
-fn link_known(words: &[EvidenceEvent], who: Who, id: Identifier) -> Option<Linked>
+fn link_known(words: &Events, who: Who, id: Identifier) -> Option<Linked>
     ensures { result ≡ link_known words.now who id }
 {
     link_of(words, &Query::Entry(who, id))
@@ -79,7 +80,7 @@ fn link_known(words: &[EvidenceEvent], who: Who, id: Identifier) -> Option<Linke
 #[tactic(auto, unfolding(crate::specs::EventKinds::trigger_in))]
 pub fn trigger_in(
     instruments: &Instruments,
-    words: &[EvidenceEvent],
+    words: &Events,
     row: u64,
     from: Who,
     app: &App,

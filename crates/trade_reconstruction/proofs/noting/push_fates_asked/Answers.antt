@@ -18,6 +18,6 @@ loop-word-preserved c =
       e.items ∙ before.2,
       λ h stands.
           e.noted h (subst (λ (p : VenueFacts). IsStanding p h) (sym before.1) stands)
-          ∙ (λ k. before.3 h stands k ++ fate_of (before.0 k) h a.hit.now a.asked.now c.word-item.result)
-          ∙ one_more (fate_of a.venue.now.market h a.hit.now a.asked.now) a.notes.now.items a.words.now c.loop-word.word-index c.word-item.result c.loop-word-test.true c.word-item.is,
+          ∙ (λ k. before.3 h stands k ++ fate_of (before.0 k) h a.hit.now a.asked.now a.ended.now c.word-item.result)
+          ∙ one_more (fate_of a.venue.now.market h a.hit.now a.asked.now a.ended.now) a.fates.now.items a.words.now c.loop-word.word-index c.word-item.result c.loop-word-test.true c.word-item.is,
     )

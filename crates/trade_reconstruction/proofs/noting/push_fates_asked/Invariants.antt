@@ -9,4 +9,4 @@ use Rattle.trade_reconstruction.proofs.noting.push_fates_asked.Given as goal
 abbrev pub invariant-loop-word : goal.invariant-loop-word
 invariant-loop-word l =
     (l.venue.market ≡ l.fn.venue.market) × (standing l.venue.day ≡ standing l.fn.venue.day) × (l.venue.items ≡ l.fn.venue.items)
-    × ((h : History) → IsHistory l.fn.venue h → l.notes.items ≡ l.fn.notes.items ++ flat_map (fate_of l.fn.venue.market h l.hit l.asked) (take l.word-index l.words))
+    × ((h : History) → IsHistory l.fn.venue h → l.fates.items ≡ l.fn.fates.items ++ flat_map (fate_of l.fn.venue.market h l.hit l.asked l.ended) (take l.word-index l.words))

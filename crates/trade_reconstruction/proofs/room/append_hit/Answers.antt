@@ -1,7 +1,7 @@
-use Rattle.std.proofs.Common.{◌++◌, ◌∙◌, codes}
+use Rattle.std.proofs.Common.{codes}
 use Rattle.std.proofs.lemmas.Result.{on_ok_weaker}
 use Rattle.fix_fields.specs.Forms.{price_text}
-use Rattle.trade_reconstruction.specs.Lines.{at_text, response_text, sent_row}
+use Rattle.trade_reconstruction.specs.Lines.{at_text, response_text}
 use Rattle.trade_reconstruction.proofs.Appends.{eight}
 use Rattle.trade_reconstruction.proofs.room.append_hit.Goals as goal
 
@@ -12,5 +12,5 @@ returns c =
     on_ok_weaker c.append_sent_row.result
     (λ e. eight _ _ _ _ _ _ _ _ (codes "hit of quote ") _ _ (codes " by ") _ _ _ _ (price_text x.price) (response_text x.response) (at_text w.moment) _ c.in_ok-append.ensures c.as_slice.ensures.value c.in_ok-append-2.ensures c.name_at-name.ensures c.in_ok-append-3.ensures c.hit_side-side.ensures
     c.in_ok-append_price.ensures c.in_ok-append_response.ensures c.in_ok-append_moment.ensures
-    (e ∙ (λ k. c.append_moment.new.text.items ++ sent_row c.args.rows.now (c.name_at-name.ensures k) w.row)))
+    e)
     c.append_sent_row.ensures

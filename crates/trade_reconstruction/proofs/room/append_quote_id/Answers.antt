@@ -5,4 +5,4 @@ use Rattle.trade_reconstruction.proofs.room.append_quote_id.Goals as goal
 pub returns-in_ok-append_id-in-Some : goal.returns-in_ok-append_id-in-Some
 returns-in_ok-append_id-in-Some c =
     rw c.in-Some.is
-    (on_ok_weaker c.append_sent_row.result (λ e. e ∙ simp (c.in_ok-append_id-in-Some.ensures, c.as_slice.ensures.value, append_assoc)) c.append_sent_row.ensures)
+    (on_ok_weaker c.append_sent_row.result (λ e. e ∙ simp (c.in_ok-append_id-in-Some.ensures, append_assoc)) c.append_sent_row.ensures)

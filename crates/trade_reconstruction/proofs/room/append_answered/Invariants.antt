@@ -1,0 +1,7 @@
+use Rattle.std.proofs.Common.{◌≡◌, ◌++◌, take}
+use Rattle.std.specs.List.{flat_map}
+use Rattle.trade_reconstruction.specs.Lines.{answered_word}
+use Rattle.trade_reconstruction.proofs.room.append_answered.Given as goal
+
+abbrev pub invariant-loop-word : goal.invariant-loop-word
+invariant-loop-word l = l.text.items ≡ l.fn.text.items ++ flat_map (answered_word l.rows l.participants l.asked) (take l.word-index l.words)

@@ -1,7 +1,0 @@
-use Rattle.std.proofs.Common.{◌≡◌, ◌++◌, take}
-use Rattle.std.specs.List.{flat_map}
-use Rattle.trade_reconstruction.specs.Lines.{room_word}
-use Rattle.trade_reconstruction.proofs.room.append_words.Given as goal
-
-abbrev pub invariant-loop-word : goal.invariant-loop-word
-invariant-loop-word l = l.text.items ≡ l.fn.text.items ++ flat_map (room_word l.rows l.participants l.words l.asked) (take l.word-index l.words)
