@@ -23,6 +23,7 @@ MODES = {
     "trades": ["TRAIL"],
     "trades, table": ["--csv", "TRAIL"],
     "evidence of the first": ["TRAIL", "--trade", "T1"],
+    "evidence of all": ["TRAIL", "--trade", "all"],
     "answers": ["TRAIL", "--answers"],
     "answers, table": ["TRAIL", "--answers", "--csv"],
     "answers, JSON": ["TRAIL", "--answers", "--json"],

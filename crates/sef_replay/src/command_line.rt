@@ -197,6 +197,7 @@ const EXAMPLES: &str = "Examples:
   sef_replay day.trail                 each trade of the day: T1 book IRS5Y 60 @ 2.5 buyer ALPHA seller BETA
   sef_replay day.trail --csv           the same, for a spreadsheet
   sef_replay day.trail --trade T1      the evidence for this trade, a fact a line
+  sef_replay day.trail --trade all     the same for each trade of the day, one after the other
   sef_replay day.trail --why 12        why the message of row 12 was refused, and when it would pass
   sef_replay day.trail --answers       each message and each reply to it, as FIX has it and in words
   sef_replay day.trail --answers --to BETA      what BETA is owed: each message once, in order, with its row
@@ -269,7 +270,7 @@ fn with_trade<'a>(alloc: Global, command: Command<'a>) -> Result<Command<'a>, Al
     let trade = Arg::new(alloc, "trade")
         .long("trade")
         .value_name("TRADE")
-        .help("Prints the evidence for this trade alone, as T1")
+        .help("Prints the evidence for this trade, as T1, or for all")
         .action(ArgAction::Set);
     command.arg(trade)
 }
@@ -511,7 +512,7 @@ fn task_at(
             Ok(Task::Ask { path, words })
         }
         Mode::Trade => {
-            let words = AskedWords::Evidence(required_word(alloc, given, "trade")?);
+            let words = evidence_in(alloc, given)?;
             Ok(Task::Ask { path, words })
         }
         Mode::Why => {
@@ -530,6 +531,17 @@ fn required_word(alloc: Global, given: &ArgMatches<'_>, name: &str) -> Result<St
     match given.get_str(name) {
         Some(word) => String::from_str(alloc, word),
         None => Ok(String::new(alloc)),
+    }
+}
+
+/// The evidence for one trade, or for all.
+fn evidence_in(alloc: Global, given: &ArgMatches<'_>) -> Result<AskedWords, AllocError> {
+    let word = required_word(alloc, given, "trade")?;
+    if word.as_str() == "all" {
+        drop(word);
+        Ok(AskedWords::Evidences)
+    } else {
+        Ok(AskedWords::Evidence(word))
     }
 }
 

@@ -82,7 +82,7 @@ fn absence_of(unknown: Unknown) -> &'static str {
 /// Why a word is refused: how such a one is written.
 fn form_of(unknown: Unknown) -> &'static str {
     match unknown {
-        Unknown::Trade => "a trade is written as T3",
+        Unknown::Trade => "a trade is written as T3, each of the day as all",
         Unknown::Recipient | Unknown::Sender => "a name has 1 to 64 characters",
         Unknown::Instrument => "a symbol has 1 to 64 characters",
         Unknown::Row => "a row is written as 12, the rows from 12 to 15 as 12-15",
@@ -135,7 +135,7 @@ fn word_for(words: &AskedWords, unknown: Unknown) -> Option<&str> {
         AskedWords::Why(word) => Some(word.as_str()),
         AskedWords::Digest(Some(word)) => Some(word.as_str()),
         AskedWords::Against(desk, _) => Some(desk.as_str()),
-        AskedWords::Table | AskedWords::Digest(None) => None,
+        AskedWords::Table | AskedWords::Evidences | AskedWords::Digest(None) => None,
         AskedWords::Book(words, _) => book_word(words, unknown),
         AskedWords::Rests(words, _) => rests_word(words, unknown),
         AskedWords::Answers(words, _) => narrowing_word(words, unknown),

@@ -4,11 +4,11 @@ use Rattle.std.specs.Prelude.{ℕ, List, Option, None, Some, if◌then◌else◌
 use Rattle.venue_rules.specs.Market.{Market}
 use Rattle.trail_digest.specs.Trail.{Trail}
 use Rattle.refusal_causes.specs.Printed.{EmitsWhy}
-use Rattle.trade_reconstruction.specs.Emitted.{EmitsTrade}
+use Rattle.trade_reconstruction.specs.Emitted.{EmitsTrade, EmitsTrades}
 use Rattle.trade_table.specs.Table.{BeginsTable, EmitsTable}
 use Rattle.trail_questions.specs.declared.fault.Unknown.{Unknown}
 use Rattle.trail_questions.specs.declared.question.Question.{Question}
-use Rattle.trail_questions.specs.declared.question.Question.TheVariants.{Against, Answers, Book, Digest, Evidence, Rests, Table, Why}
+use Rattle.trail_questions.specs.declared.question.Question.TheVariants.{Against, Answers, Book, Digest, Evidence, Evidences, Rests, Table, Why}
 use Rattle.trail_digest.specs.declared.head.HeadForm.{HeadForm}
 use Rattle.trail_digest.specs.declared.head.HeadForm.TheVariants.{Line}
 use Rattle.trail_questions.specs.Against.{AgreesWith, DiffersFrom, IsUnknownDesk}
@@ -27,6 +27,7 @@ EmitsAnswer Table m trail before after = EmitsTable m trail.rows before after
 EmitsAnswer (Against desk log) m trail before after = AgreesWith desk log.now m trail.rows before after
 EmitsAnswer (Digest row) m trail before after = EmitsDigest trail row before after
 EmitsAnswer (Evidence number) m trail before after = EmitsTrade m trail.rows number before after
+EmitsAnswer Evidences m trail before after = EmitsTrades m trail.rows before after
 EmitsAnswer (Why number) m trail before after = EmitsWhy m trail.rows number before after
 EmitsAnswer (Book b form) m trail before after = EmitsBookAfter b form m trail.rows before after
 EmitsAnswer (Rests r form) m trail before after = EmitsRestsAfter r form m trail.rows before after
@@ -38,6 +39,7 @@ BeginsAnswer Table m trail before after = BeginsTable m trail.rows before after
 BeginsAnswer (Against desk log) m trail before after = ⊥
 BeginsAnswer (Digest row) m trail before after = ⊥
 BeginsAnswer (Evidence number) m trail before after = ⊥
+BeginsAnswer Evidences m trail before after = ⊥
 BeginsAnswer (Why number) m trail before after = ⊥
 BeginsAnswer (Book b form) m trail before after = ⊥
 BeginsAnswer (Rests r form) m trail before after = ⊥
@@ -49,6 +51,7 @@ DiffersAnswer Table m trail before after = ⊥
 DiffersAnswer (Against desk log) m trail before after = DiffersFrom desk log.now m trail.rows before after
 DiffersAnswer (Digest row) m trail before after = ⊥
 DiffersAnswer (Evidence number) m trail before after = ⊥
+DiffersAnswer Evidences m trail before after = ⊥
 DiffersAnswer (Why number) m trail before after = ⊥
 DiffersAnswer (Book b form) m trail before after = ⊥
 DiffersAnswer (Rests r form) m trail before after = ⊥
@@ -60,6 +63,7 @@ IsUnknownAsked Table m trail what = IsNever what
 IsUnknownAsked (Against desk log) m trail what = IsUnknownDesk desk log.now m what
 IsUnknownAsked (Digest row) m trail what = IsUnknownRow trail row what
 IsUnknownAsked (Evidence number) m trail what = IsUnknownTrade number m trail.rows what
+IsUnknownAsked Evidences m trail what = IsNever what
 IsUnknownAsked (Why number) m trail what = IsUnknownWhy number trail.rows what
 IsUnknownAsked (Book b form) m trail what = IsUnknownBook b m trail.rows what
 IsUnknownAsked (Rests r form) m trail what = IsUnknownRests r m trail.rows what
@@ -68,6 +72,7 @@ IsUnknownAsked (Answers n form) m trail what = IsUnknownAnswer n m trail.rows wh
 -- the head above an answer that is made whole before it is written
 abbrev pub head_of : Question → Option HeadForm
 head_of (Evidence number) = Some Line
+head_of Evidences = Some Line
 head_of (Why number) = Some Line
 head_of (Against desk log) = Some Line
 head_of (Book b form) = book_head form

@@ -9,7 +9,7 @@ use Rattle.trail_questions.specs.declared.fault.Unknown.TheVariants.{Instrument,
 use Rattle.trail_questions.specs.declared.question.Question.{Question}
 use Rattle.trail_questions.specs.declared.question.Question.TheVariants as question
 use Rattle.trail_questions.specs.declared.words.AskedWords.{AskedWords}
-use Rattle.trail_questions.specs.declared.words.AskedWords.TheVariants.{Against, Answers, Book, Digest, Evidence, Rests, Table, Why}
+use Rattle.trail_questions.specs.declared.words.AskedWords.TheVariants.{Against, Answers, Book, Digest, Evidence, Evidences, Rests, Table, Why}
 use Rattle.trail_questions.specs.declared.words.BookWords.{BookWords}
 use Rattle.trail_questions.specs.declared.words.NarrowingWords.{NarrowingWords}
 use Rattle.trail_questions.specs.declared.rests.RestsAfter.{RestsAfter}
@@ -84,6 +84,7 @@ Spells Table q = q ≡ question.Table
 Spells (Against desk log) q = IsAgainst (string_bytes desk) log.items q
 Spells (Digest word) q = (row : Option ℕ) × (q ≡ question.Digest row) × SpellsNumber (codes "") (option_map string_bytes word) row
 Spells (Evidence word) q = (n : ℕ) × (q ≡ question.Evidence n) × (string_bytes word ≡ codes "T" ++ decimal n)
+Spells Evidences q = q ≡ question.Evidences
 Spells (Why word) q = (n : ℕ) × (q ≡ question.Why n) × (string_bytes word ≡ decimal n)
 Spells (Book w form) q = (b : BookAfter) × (q ≡ question.Book b form) × SpellsBook w b
 Spells (Rests w form) q = (r : RestsAfter) × (q ≡ question.Rests r form) × SpellsRests w r
@@ -98,6 +99,7 @@ IsMisspelt (Digest word) Row = IsNoNumber (codes "") (option_map string_bytes wo
 IsMisspelt (Digest word) _ = ⊥
 IsMisspelt (Evidence word) Trade = IsNoNumber (codes "T") (Some (string_bytes word))
 IsMisspelt (Evidence word) _ = ⊥
+IsMisspelt Evidences what = ⊥
 IsMisspelt (Why word) Row = IsNoNumber (codes "") (Some (string_bytes word))
 IsMisspelt (Why word) _ = ⊥
 IsMisspelt (Book w form) what = IsMisspeltBook w what

@@ -1,10 +1,10 @@
-//! The evidence for a trade.
+//! The evidence for a trade, or for all.
 
 ghost use Rattle.std.specs.Prelude.{◌≤◌, All, length, IfErr, OnOk};
-ghost use Rattle.trade_reconstruction.specs.Emitted.{EmitsTrade};
+ghost use Rattle.trade_reconstruction.specs.Emitted.{EmitsTrade, EmitsTrades};
 ghost use Rattle.venue_core.specs.Plan.{most_items};
 ghost use Rattle.venue_core.specs.Replay.{IsItem};
-ghost use Rattle.trail_questions.specs.Ending.{Fails, market_of};
+ghost use Rattle.trail_questions.specs.Ending.{Fails, IsNever, market_of};
 ghost use Rattle.trail_questions.specs.Evidence.{IsUnknownTrade};
 
 use crate::fault::{AskedFault, Unknown};
@@ -12,7 +12,8 @@ use instruments::Instruments;
 use participants::Participants;
 use std::alloc::Global;
 use std::io::Write;
-use trade_reconstruction::{EvidenceFault, print_evidence};
+use trade_blotter::PrintFault;
+use trade_reconstruction::{EvidenceFault, print_all_evidence, print_evidence};
 use venue_rules::TrailRow;
 
 /// Prints the evidence for the trade with this number.
@@ -34,5 +35,25 @@ pub(crate) fn print_evidence_for<W: Write>(
         Err(EvidenceFault::Memory) => Err(AskedFault::Memory),
         Err(EvidenceFault::Output) => Err(AskedFault::Output),
         Err(EvidenceFault::NoTrade) => Err(AskedFault::Unknown(Unknown::Trade)),
+    }
+}
+
+/// Prints the evidence for each trade of the day.
+pub(crate) fn print_evidence_for_all<W: Write>(
+    alloc: Global,
+    participants: Participants,
+    instruments: Instruments,
+    rows: &[TrailRow],
+    writer: &mut W,
+) -> Result<(), AskedFault>
+    requires kept { All IsItem rows.now }
+    requires few { length rows.now ≤ most_items }
+    ensures emitted { OnOk result (EmitsTrades (market_of participants instruments) rows.now (W.contents writer.old) (W.contents writer.new)) }
+    ensures failed { IfErr result (Fails ⊥ ⊥ IsNever (W.contents writer.old) (W.contents writer.new)) }
+{
+    match print_all_evidence(alloc, participants, instruments, rows, writer) {
+        Ok(()) => Ok(()),
+        Err(PrintFault::Memory) => Err(AskedFault::Memory),
+        Err(PrintFault::Output) => Err(AskedFault::Output),
     }
 }

@@ -14,7 +14,7 @@ use crate::against::print_against;
 use crate::answers::{Narrowing, is_sought, print_narrowed};
 use crate::book::{BookAfter, book_head, print_book_after};
 use crate::digest::print_digest_at;
-use crate::evidence::print_evidence_for;
+use crate::evidence::{print_evidence_for, print_evidence_for_all};
 use crate::fault::AskedFault;
 use crate::headed::head_form;
 use crate::rests::{RestsAfter, print_rests_after};
@@ -36,6 +36,8 @@ pub enum Question<'a> {
     Table,
     /// The evidence for the trade with this number.
     Evidence(u64),
+    /// The evidence for each trade.
+    Evidences,
     /// Why the message of the row with this number was refused.
     Why(u64),
     /// The venue's answers.
@@ -56,7 +58,8 @@ fn head_of(question: &Question<'_>) -> Option<HeadForm>
     ensures { result ≡ head_of question.now }
 {
     match question {
-        Question::Evidence(_) | Question::Why(_) | Question::Against(_, _) => Some(HeadForm::Line),
+        Question::Evidence(_) | Question::Evidences | Question::Why(_) | Question::Against(_, _) =>
+            Some(HeadForm::Line),
         Question::Book(_, form) | Question::Rests(_, form) => book_head(*form),
         Question::Answers(narrowing, form) => {
             if is_sought(narrowing) {
@@ -90,6 +93,9 @@ fn print_answer<W: Write>(
         Question::Table => print_table_of(alloc, participants, instruments, rows, writer),
         Question::Evidence(number) => {
             print_evidence_for(alloc, participants, instruments, rows, *number, writer)
+        }
+        Question::Evidences => {
+            print_evidence_for_all(alloc, participants, instruments, rows, writer)
         }
         Question::Why(number) => {
             print_why_at(alloc, participants, instruments, rows, *number, writer)

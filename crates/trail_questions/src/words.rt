@@ -45,6 +45,8 @@ pub enum AskedWords {
     Table,
     /// `--trade T3`
     Evidence(String),
+    /// `--trade all`
+    Evidences,
     /// `--why 12`
     Why(String),
     /// `--answers`
@@ -195,6 +197,7 @@ pub fn question_of<'a>(words: &'a AskedWords) -> Result<Question<'a>, Unknown>
             Some(number) => Ok(Question::Evidence(number)),
             None => Err(Unknown::Trade),
         },
+        AskedWords::Evidences => Ok(Question::Evidences),
         AskedWords::Why(word) => match plain_number(word) {
             Some(number) => Ok(Question::Why(number)),
             None => Err(Unknown::Row),
