@@ -1,8 +1,7 @@
 //! Names in order of arrival, with an index sorted by name.
-ghost use Rattle.std.specs.Prelude.{◌≡◌, ℕ, ◌+◌, ◌≤◌, ◌<◌, ◌^◌, [], ◌∷◌, ◌++◌, length, map, slice_index, IfOk, Bool};
-ghost use Rattle.std.specs.List.{list_any, remove};
-ghost use Rattle.std.specs.Vec.{vec_capacity, vec_len};
-ghost use Rattle.client_ids.specs.ClientIds.{closed, is_of, IsFirst, IsIndex, answer_at, answer_behind};
+ghost use Rattle.std.specs.Prelude.{◌≡◌, ℕ, ◌+◌, ◌≤◌, ◌<◌, ◌^◌, [], ◌∷◌, ◌++◌, length, IfOk, Bool};
+ghost use Rattle.std.specs.List.{list_any};
+ghost use Rattle.client_ids.specs.ClientIds.{is_of, IsFirst, IsIndex, answer_at, answer_behind};
 ghost use Rattle.client_ids.specs.Search.{IsPlace};
 
 use crate::client_id::{ClientId, hash_key};
@@ -60,39 +59,6 @@ fn behind(names: &[ClientId], index: &[u32], name: &ClientId) -> usize
     };
     let (at, _) = search(&mut probe, name.who, &name.id);
     at
-}
-
-// The index position of a place.
-fn spot(index: &[u32], place: u32) -> usize
-    requires { (i : ℕ) × (i < length index.now) × (slice_index index.now i ≡ place) }
-    ensures within { result < length index.now }
-    ensures here { slice_index index.now result ≡ place }
-{
-    for (at, found) in index.iter().enumerate() {
-        if *found == place {
-            return at;
-        }
-    }
-    0
-}
-
-// A place, after the removal of another.
-fn closed(gone: u32, place: u32) -> u32
-    ensures { result ≡ closed gone place }
-{
-    if gone < place { place - 1 } else { place }
-}
-
-// Decrements the places after a removed one.
-fn close_up(index: &mut Vec<u32>, gone: u32)
-    ensures items { index.new.items ≡ map (closed gone) index.old.items }
-    ensures len { vec_len index.new ≡ vec_len index.old }
-    ensures capacity { vec_capacity index.new ≡ vec_capacity index.old }
-{
-    for at in 0..index.len() {
-        let place = index[at];
-        index[at] = closed(gone, place);
-    }
 }
 
 impl IdIndex {
@@ -157,17 +123,5 @@ impl IdIndex {
         let at = behind(&self.names, &self.index, &name);
         self.names.push_reserved(name);
         let _inserted = self.index.insert(at, place as u32);
-    }
-
-    /// Removes the name at a place; later places decrease by 1.
-    pub fn remove(&mut self, place: usize)
-        requires { place < length self.old.names }
-        ensures names { self.new.names ≡ remove self.old.names place }
-        ensures headroom { self.old.headroom ≤ self.new.headroom }
-    {
-        let at = spot(&self.index, place as u32);
-        let _place = self.index.remove(at);
-        close_up(&mut self.index, place as u32);
-        let _name = self.names.remove(place);
     }
 }
