@@ -9,6 +9,8 @@ pub mod Sentences
 pub mod Figures
 -- what each sentence says, by the rules' tests
 pub mod Meanings
+-- whether a link alone is why
+pub mod Linking
 -- what is printed
 pub mod Printed
 -- a row of the sample day

@@ -7,6 +7,7 @@
 --       refused for cause 7 of 8: it would trade with a linked order that entered less than the instrument's delay ..
 --           instrument BASIS1Y
 --           causes 1 to 6 do not hold
+--           ClOrdLinkID (583) L1 alone links it with such an order: without it this cause would not hold
 --           it would trade with O8 of GAMMA, who is related to the sender
 --           the last linked order that it would trade with entered at 20250303-14:30:40.000, 999 ms before;
 --           BASIS1Y asks for 1000 ms
@@ -42,6 +43,7 @@ use Rattle.message_words.specs.Parts.{Part, parts_text, words_alone}
 use Rattle.message_words.specs.RowLines.{came_parts, clock_parts, reply_parts}
 use Rattle.message_words.specs.Words.{words}
 use Rattle.row_replay.specs.Inputs.{AreOf}
+use Rattle.refusal_causes.specs.Linking.{link_lines}
 use Rattle.refusal_causes.specs.declared.fault.WhyFault.{WhyFault}
 use Rattle.refusal_causes.specs.declared.fault.WhyFault.TheVariants as fault
 use Rattle.refusal_causes.specs.declared.figures.Figures.{Figures}
@@ -207,7 +209,7 @@ passing_lines file listed who t passes (first ∷ rest) = known_lines file liste
 
 abbrev pub passing_text : Market → History → Input → Option ℕ → List ℕ
 passing_text m h i None = []
-passing_text m h (Message taken t) (Some passes) = passing_lines m.participants m.instruments taken.from t passes (answer m h taken passes).replies
+passing_text m h (Message taken t) (Some passes) = link_lines m h taken t ++ passing_lines m.participants m.instruments taken.from t passes (answer m h taken passes).replies
 passing_text m h (Tick t) (Some passes) = []
 
 -- The whole text, of a row and its input after a history.

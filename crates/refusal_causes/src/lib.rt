@@ -4,6 +4,7 @@
 mod fault;
 mod figures;
 mod laws;
+mod linking;
 mod passing;
 mod places;
 mod printing;

@@ -11,8 +11,10 @@ ghost use Rattle.venue_core.specs.Plan.{most_items};
 ghost use Rattle.venue_core.specs.State.{standing};
 ghost use Rattle.venue_core.specs.VenueFacts.{IsHistory};
 ghost use Rattle.row_replay.specs.Inputs.{input_of};
+ghost use Rattle.refusal_causes.specs.Linking.{link_lines};
 ghost use Rattle.refusal_causes.specs.Printed.{is_number, known_lines, linked_lines, linked_parts, met_lines, met_number, met_order, met_said, met_what, passing_lines, passing_parts, passing_text, relation, then_lines, then_number, then_said, then_symbol};
 
+use crate::linking::append_link;
 use fix_dictionary::Identifier;
 use instruments::Instruments;
 use message_words::{Part, Value, append_parts, bytes, number, words_of};
@@ -399,6 +401,26 @@ fn append_message_passing(
     Ok(())
 }
 
+/// Appends which link alone is the cause, if one is; and from when on it no longer holds.
+fn append_linked_passing(
+    alloc: Global,
+    text: &mut Vec<u8>,
+    venue: &mut Venue,
+    taken: &Taken,
+    moment: Moment,
+    passes: Moment,
+) -> Result<(), AllocError>
+    requires few { venue.old.items ≤ most_items }
+    ensures market { venue.new.market ≡ venue.old.market }
+    ensures day { standing venue.new.day ≡ standing venue.old.day }
+    ensures items { venue.new.items ≡ venue.old.items }
+    ensures text { (h : History) → IsHistory venue.old h → OnOk result (text.new.items ≡ text.old.items ++ (link_lines venue.old.market h taken.now moment
+        ++ passing_lines venue.old.market.participants venue.old.market.instruments taken.now.from moment passes (answer venue.old.market h taken.now passes).replies)) }
+{
+    append_link(alloc, text, venue, taken, moment)?;
+    append_message_passing(alloc, text, venue, taken, moment, passes)
+}
+
 /// Appends from when on the cause of a message no longer holds, if it ends by time alone.
 pub(crate) fn append_passing(
     alloc: Global,
@@ -419,6 +441,6 @@ pub(crate) fn append_passing(
     };
     match taken {
         None => Ok(()),
-        Some(taken) => append_message_passing(alloc, text, venue, taken, moment, passes),
+        Some(taken) => append_linked_passing(alloc, text, venue, taken, moment, passes),
     }
 }

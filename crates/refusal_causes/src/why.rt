@@ -34,7 +34,7 @@ pub struct Why {
 }
 
 /// Whether a message would be refused at a moment for a cause that ends by time alone.
-fn waits_at(venue: &mut Venue, taken: &Taken, moment: Moment) -> Result<bool, AllocError>
+pub(crate) fn waits_at(venue: &mut Venue, taken: &Taken, moment: Moment) -> Result<bool, AllocError>
     requires few { venue.old.items ≤ most_items }
     ensures market { venue.new.market ≡ venue.old.market }
     ensures day { standing venue.new.day ≡ standing venue.old.day }
