@@ -20,7 +20,7 @@ use Rattle.audit_trail.specs.Open.{Opened, OpenFault}
 use Rattle.audit_trail.specs.Rows.{delays_in, rows_in}
 use Rattle.audit_trail.specs.declared.files.Files.{Files}
 use Rattle.sef_replay.specs.declared.failure.Failure.{Failure}
-use Rattle.sef_replay.specs.declared.failure.Failure.TheVariants.{Stopped, CommandLine, Trail as TrailRefused, Unknown as UnknownNamed, Differs}
+use Rattle.sef_replay.specs.declared.failure.Failure.TheVariants.{Stopped, CommandLine, Trail as TrailRefused, Unknown as UnknownNamed, File, Differs}
 use Rattle.sef_replay.specs.declared.failure.Stop.{Stop}
 use Rattle.sef_replay.specs.declared.failure.Stop.TheVariants as stop
 use Rattle.sef_replay.specs.Day.{AreKept, UnlessPrinting}
@@ -125,6 +125,7 @@ failure_of question before after old opened last files delays last_n last_moment
 failure_of question before after old opened last files delays last_n last_moment (TrailRefused number) found kept why clean = absurd why
 failure_of question before after old opened last files delays last_n last_moment (UnknownNamed what) found kept why clean =
     asked_of (λ m t. IsUnknownAsked question m t what) old opened last files delays last_n last_moment found kept why clean
+failure_of question before after old opened last files delays last_n last_moment File found kept why clean = absurd why
 failure_of question before after old opened last files delays last_n last_moment Differs found kept why clean =
     asked_of (λ m t. DiffersAsked question m t before after) old opened last files delays last_n last_moment found kept why clean
 

@@ -12,7 +12,7 @@ use Rattle.audit_trail.specs.Open.{IsVersionThree, OpenFault}
 use Rattle.audit_trail.specs.Rows.{delays_in, rows_in}
 use Rattle.audit_trail.specs.declared.files.Files.{Files}
 use Rattle.sef_replay.specs.declared.failure.Failure.{Failure}
-use Rattle.sef_replay.specs.declared.failure.Failure.TheVariants.{Stopped, CommandLine, Trail as TrailRefused, Unknown as UnknownNamed, Differs}
+use Rattle.sef_replay.specs.declared.failure.Failure.TheVariants.{Stopped, CommandLine, Trail as TrailRefused, Unknown as UnknownNamed, File, Differs}
 use Rattle.sef_replay.specs.Day.{AreKept}
 use Rattle.sef_replay.specs.Failures.{trail_failure}
 
@@ -44,6 +44,7 @@ IsRefusalKept question before after files delays rows (Stopped cause) = ⊤
 IsRefusalKept question before after files delays rows CommandLine = ⊥
 IsRefusalKept question before after files delays rows (TrailRefused number) = ⊥
 IsRefusalKept question before after files delays rows (UnknownNamed what) = OfRows (λ m trail. IsUnknownAsked question m trail what) files delays rows
+IsRefusalKept question before after files delays rows File = ⊥
 IsRefusalKept question before after files delays rows Differs = OfRows (λ m trail. DiffersAsked question m trail before after) files delays rows
 
 -- the program ends so for a reason: a number is that of a fault of the database as a trail, what is unknown is not
@@ -53,4 +54,5 @@ IsAskedFailureOf question before after db (Stopped cause) = ⊤
 IsAskedFailureOf question before after db CommandLine = ⊥
 IsAskedFailureOf question before after db (TrailRefused n) = (fault : TrailFault) × OpenFault None db fault × (trail_failure fault ≡ TrailRefused n)
 IsAskedFailureOf question before after db (UnknownNamed what) = OfTrail (λ m trail. IsUnknownAsked question m trail what) db
+IsAskedFailureOf question before after db File = ⊥
 IsAskedFailureOf question before after db Differs = OfTrail (λ m trail. DiffersAsked question m trail before after) db

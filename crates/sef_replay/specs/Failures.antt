@@ -9,7 +9,7 @@ use Rattle.venue_rules.specs.declared.trail.TrailFault.TheVariants as trail
 use Rattle.trail_questions.specs.declared.fault.AskedFault.{AskedFault}
 use Rattle.trail_questions.specs.declared.fault.AskedFault.TheVariants as asked
 use Rattle.sef_replay.specs.declared.failure.Failure.{Failure}
-use Rattle.sef_replay.specs.declared.failure.Failure.TheVariants.{Stopped, CommandLine, Trail as TrailRefused, Unknown as UnknownNamed, Differs}
+use Rattle.sef_replay.specs.declared.failure.Failure.TheVariants.{Stopped, CommandLine, Trail as TrailRefused, Unknown as UnknownNamed, File, Differs}
 use Rattle.sef_replay.specs.declared.failure.Stop.{Stop}
 use Rattle.sef_replay.specs.declared.failure.Stop.TheVariants as stop
 
@@ -19,6 +19,7 @@ status_of (Stopped cause) = 1
 status_of CommandLine = 2
 status_of (TrailRefused number) = 3
 status_of (UnknownNamed what) = 3
+status_of File = 3
 status_of Differs = 4
 
 -- the end of the program where a trail has this fault

@@ -6,4 +6,5 @@ pub mod Asked
 pub mod Reports
 pub mod Copied
 pub mod Compared
+pub mod Under
 pub mod Answered

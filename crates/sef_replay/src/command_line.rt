@@ -31,6 +31,11 @@ pub enum Task {
         desk: String,
         log: String,
     },
+    /// `TRAIL --with FILE`
+    With {
+        path: String,
+        file: String,
+    },
     /// `--compare TRAIL OTHER`
     Compare {
         path: String,
@@ -51,6 +56,7 @@ enum Mode {
     Book,
     Rests,
     Against,
+    With,
     Digest,
     Compare,
 }
@@ -98,6 +104,7 @@ fn mode_word(mode: Mode) -> &'static str {
         Mode::Book => "--book",
         Mode::Rests => "--rests",
         Mode::Against => "--against",
+        Mode::With => "--with",
         Mode::Digest => "--digest",
         Mode::Compare => "--compare",
     }
@@ -209,6 +216,7 @@ const EXAMPLES: &str = "Examples:
   sef_replay day.trail --book IRS5Y --row 7     the same after row 7
   sef_replay day.trail --rests         what rests or is held at the end of the day, for each participant; --to BETA for one
   sef_replay day.trail --against messages.log --desk BETA    whether BETA's log has what it was owed, in order
+  sef_replay day.trail --with other.toml       the same rows under another file: answers that differ, trades lost and gained
   sef_replay day.trail --digest        the number of rows, and the digest of the trail's content; with --row, up to a row
   sef_replay --compare A B             whether two trails are the same, the first row that differs, and which answers do
   sef_replay --migrate day.trail       of a trail of an older version, which is changed for good: copy it before
@@ -216,8 +224,8 @@ const EXAMPLES: &str = "Examples:
 The files are read whole and not written, but for --migrate: media that cannot be written, a copy without a log, and the
 trail of a venue that runs can be read. docs/COMPLIANCE.md explains what is printed.
 
-Status: 0 done, and of --compare and --against, all is the same; 4 it is not, as is printed, also where one is the first
-part of the other; 1 stopped; 2 the command line, 3 a trail or what was asked for is refused, as a second line says.";
+Status: 0 done, and of --compare, --against and --with, all is the same; 4 it is not, as is printed, also where one is
+the first part of the other; 1 stopped; 2 the command line, 3 a trail or what was asked for is refused, as a second line says.";
 
 /// An argument without a value.
 fn flag<'a>(alloc: Global, name: &'a str, help: &'a str) -> Arg<'a> {
@@ -356,6 +364,15 @@ fn with_against<'a>(alloc: Global, command: Command<'a>) -> Result<Command<'a>, 
     command.arg(option(alloc, "desk", "NAME", "The participant whose log it is"))
 }
 
+fn with_other_file<'a>(alloc: Global, command: Command<'a>) -> Result<Command<'a>, AllocError> {
+    command.arg(option(
+        alloc,
+        "with",
+        "FILE",
+        "Answers the rows by the participants or the instruments of this file, and prints what differs",
+    ))
+}
+
 fn with_digest<'a>(alloc: Global, command: Command<'a>) -> Result<Command<'a>, AllocError> {
     command.arg(flag(
         alloc,
@@ -384,6 +401,7 @@ fn with_questions<'a>(alloc: Global, command: Command<'a>) -> Result<Command<'a>
         "Prints what rests or is held, for each participant",
     ))?;
     let command = with_against(alloc, command)?;
+    let command = with_other_file(alloc, command)?;
     with_digest(alloc, command)
 }
 
@@ -445,6 +463,7 @@ fn mode_given(given: &ArgMatches<'_>) -> Result<Mode, Misfit> {
     let mode = and_mode(mode, given.get_str("book").is_some(), Mode::Book);
     let mode = and_mode(mode, given.get_flag("rests"), Mode::Rests);
     let mode = and_mode(mode, given.get_str("against").is_some(), Mode::Against);
+    let mode = and_mode(mode, given.get_str("with").is_some(), Mode::With);
     let mode = and_mode(mode, given.get_flag("digest"), Mode::Digest);
     and_mode(mode, given.get_flag("compare"), Mode::Compare)
 }
@@ -495,6 +514,10 @@ fn task_at(
             let desk = required_word(alloc, given, "desk")?;
             Ok(Task::Against { path, desk, log })
         }
+        Mode::With => Ok(Task::With {
+            path,
+            file: required_word(alloc, given, "with")?,
+        }),
         Mode::Compare => Ok(Task::Compare {
             path,
             other: required_word(alloc, given, "other")?,

@@ -35,7 +35,7 @@ pub enum ComparedFailure {
 }
 
 /// The day of the trail that these bytes hold. They are read in memory: no file is opened.
-fn day_of(alloc: Global, copied: Copied, seed: u64) -> Result<ReadDay, Failure>
+pub(crate) fn day_of(alloc: Global, copied: Copied, seed: u64) -> Result<ReadDay, Failure>
     ensures read { IfOk result (λ day. IsDayOver copied.log.items copied.db.items (read_side day)) }
     ensures items { IfOk result (λ day. All IsItem day.day.rows.items) }
     ensures few { IfOk result (λ day. length day.day.rows.items ≤ most_items) }

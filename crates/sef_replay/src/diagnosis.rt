@@ -1,11 +1,14 @@
-//! A second look at a refused trail, for the line below the refusal.
+//! A second look at a refused trail or file, for the line below the refusal.
 
+use crate::reading::read_day;
+use crate::replaying::KeptDay;
 use audit_trail::Trail;
 use instruments::Instruments;
-use participants::Participants;
+use participants::{Participants, Who};
 use sqlite::types::ValueRef;
 use sqlite::{Alter, Connection, Row};
 use std::alloc::{AllocError, Global};
+use trail_comparison::RulesFault;
 use trail_decoder::integer_at;
 use venue_rules::TrailFault;
 
@@ -151,4 +154,134 @@ fn first_line(alloc: Global, n: i64, before: i64) -> Result<String, AllocError> 
 
 fn other_line(alloc: Global, n: i64) -> Result<String, AllocError> {
     format!(in alloc; "row {n}: its n, who, number, era, moment or text is none that a venue keeps")
+}
+
+/// A line on what a file has otherwise than a database's trail; none where an allocation fails.
+pub fn other_rules_line<S: Alter + Drop>(
+    alloc: Global,
+    conn: Connection<S>,
+    text: &[u8],
+    fault: RulesFault,
+) -> Option<String> {
+    let (day, conn) = match read_day(alloc, conn) {
+        Ok(read) => read,
+        Err((_, conn)) => {
+            drop(conn);
+            return None;
+        }
+    };
+    drop(conn);
+    let line = rules_line(alloc, &day.day, text, fault);
+    drop(day);
+    match line {
+        Ok(line) => line,
+        Err(_) => None,
+    }
+}
+
+fn rules_line(
+    alloc: Global,
+    own: &KeptDay,
+    text: &[u8],
+    fault: RulesFault,
+) -> Result<Option<String>, AllocError> {
+    match fault {
+        RulesFault::Memory => Ok(None),
+        RulesFault::NoFile(participants, instruments) => {
+            let line = format!(in alloc;
+                "no participant file ({participants}), and no instrument file ({instruments})"
+            )?;
+            Ok(Some(line))
+        }
+        RulesFault::Venue => participants_line(alloc, &own.participants, text, None),
+        RulesFault::Participant(place) => {
+            participants_line(alloc, &own.participants, text, Some(place))
+        }
+        RulesFault::Instrument(place) => instruments_line(alloc, &own.instruments, text, place),
+    }
+}
+
+/// A line on the venue, or on the participant at a place, by its name in both.
+fn participants_line(
+    alloc: Global,
+    own: &Participants,
+    text: &[u8],
+    place: Option<usize>,
+) -> Result<Option<String>, AllocError> {
+    let other = match Participants::read(alloc, text) {
+        Ok(other) => other,
+        Err(_) => return Ok(None),
+    };
+    let line = match place {
+        Some(place) => names_line(
+            alloc,
+            "participant",
+            place,
+            participant_at(own, place),
+            participant_at(&other, place),
+        ),
+        None => venue_line(alloc, own.venue(), other.venue()),
+    };
+    drop(other);
+    line
+}
+
+fn instruments_line(
+    alloc: Global,
+    own: &Instruments,
+    text: &[u8],
+    place: usize,
+) -> Result<Option<String>, AllocError> {
+    let other = match Instruments::read(alloc, text) {
+        Ok(other) => other,
+        Err(_) => return Ok(None),
+    };
+    let line = names_line(
+        alloc,
+        "instrument",
+        place,
+        symbol_at(own, place),
+        symbol_at(&other, place),
+    );
+    drop(other);
+    line
+}
+
+/// The name at a place; "none" past the last.
+fn participant_at(participants: &Participants, place: usize) -> &[u8] {
+    if place < participants.len() {
+        participants.name(Who::of(place as u32))
+    } else {
+        b"none"
+    }
+}
+
+/// The symbol at a place; "none" past the last.
+fn symbol_at(instruments: &Instruments, place: usize) -> &[u8] {
+    if place < instruments.len() {
+        instruments.get(place as u32).symbol.as_slice()
+    } else {
+        b"none"
+    }
+}
+
+fn venue_line(alloc: Global, own: &[u8], other: &[u8]) -> Result<Option<String>, AllocError> {
+    let own = String::from_utf8_lossy(alloc, own)?;
+    let other = String::from_utf8_lossy(alloc, other)?;
+    let line = format!(in alloc; "the venue: {own} in the trail, {other} in the file")?;
+    Ok(Some(line))
+}
+
+fn names_line(
+    alloc: Global,
+    what: &str,
+    place: usize,
+    own: &[u8],
+    other: &[u8],
+) -> Result<Option<String>, AllocError> {
+    let number = place as u64 + 1;
+    let own = String::from_utf8_lossy(alloc, own)?;
+    let other = String::from_utf8_lossy(alloc, other)?;
+    let line = format!(in alloc; "{what} {number}: {own} in the trail, {other} in the file")?;
+    Ok(Some(line))
 }

@@ -42,6 +42,9 @@ pub enum Failure {
     /// Status 3.
     #[error("{0} refused")]
     Unknown(Unknown),
+    /// Status 3: the file under which rows were to be answered.
+    #[error("file refused")]
+    File,
     /// Status 4: the answer was printed, and it is that what was compared differs.
     #[error("compared, and not the same")]
     Differs,
@@ -57,6 +60,7 @@ impl Failure {
             Failure::CommandLine => 2,
             Failure::Trail(_) => 3,
             Failure::Unknown(_) => 3,
+            Failure::File => 3,
             Failure::Differs => 4,
         }
     }

@@ -18,6 +18,7 @@ mod reading;
 mod refused;
 mod replaying;
 mod report;
+mod under;
 
 pub use answering::{WordsFailure, print_words};
 pub use asking::print_asked;
@@ -25,7 +26,7 @@ use command_line::{Task, task_given};
 pub use comparing::{ComparedFailure, print_compared};
 pub use copied::{Copied, print_copied};
 use copying::{copied_from, file_at};
-use diagnosis::fault_line;
+use diagnosis::{fault_line, other_rules_line};
 pub use failure::{Failure, Stop};
 use file::is_database;
 pub use form::Form;
@@ -39,7 +40,9 @@ use std::alloc::Global;
 use std::io::Write;
 use std::process::ExitCode;
 use trail_bytes::open_bytes;
+use trail_comparison::RulesFault;
 use trail_questions::{AskedWords, NoLog, Unknown, question_of};
+pub use under::{UnderFailure, print_under_file};
 
 /// The seed of a store in memory, which keeps nothing that somebody could foresee.
 const SEED: u64 = 0;
@@ -153,6 +156,65 @@ fn compare(rt: &HostRuntime, path: &str, other: &str) -> Result<(), Refused> {
     }
 }
 
+/// A file that is not there is none under which rows are answered.
+fn other_file_at(rt: &HostRuntime, file: &str) -> Result<Vec<u8>, Refused> {
+    match file_at(rt, file) {
+        Ok(text) => Ok(text),
+        Err(
+            Refused {
+                failure: Failure::Trail(_),
+                reason,
+            },
+        ) => Err(Refused {
+            failure: Failure::File,
+            reason,
+        }),
+        Err(refused) => Err(refused),
+    }
+}
+
+/// The refusal of a file, with a line on what it has otherwise than the trail at a path.
+fn of_other_file(
+    rt: &HostRuntime,
+    path: &str,
+    file: &str,
+    text: &[u8],
+    fault: RulesFault,
+) -> Refused {
+    let copied = match copied_from(rt, path) {
+        Ok(copied) => copied,
+        Err(_) => return Refused::of_file(rt.alloc(), Failure::File, file),
+    };
+    let line = match open_bytes(
+        rt.alloc(),
+        copied.log.as_slice(),
+        copied.db.as_slice(),
+        SEED,
+    ) {
+        Ok(conn) => other_rules_line(rt.alloc(), conn, text, fault),
+        Err(_) => None,
+    };
+    drop(copied);
+    match line {
+        Some(line) => Refused::of_word(rt.alloc(), Failure::File, file, &line),
+        None => Refused::of_file(rt.alloc(), Failure::File, file),
+    }
+}
+
+/// Prints how the answers to the rows of the trail at a path differ under the file at another.
+fn answer_under(rt: &HostRuntime, path: &str, file: &str) -> Result<(), Refused> {
+    let text = other_file_at(rt, file)?;
+    let copied = trail_at(rt, path)?;
+    match print_under_file(rt.alloc(), copied, SEED, &text, &mut rt.stdout()) {
+        Ok(()) => Ok(()),
+        Err(UnderFailure::OfTrail(failure)) => Err(with_fault(rt, path, failure)),
+        Err(UnderFailure::OfFile(fault)) => Err(of_other_file(rt, path, file, &text, fault)),
+        Err(UnderFailure::Differ) => Err(Refused::from(Failure::Differs)),
+        Err(UnderFailure::Memory) => Err(Refused::from(Failure::Stopped(Stop::Memory))),
+        Err(UnderFailure::Output) => Err(Refused::from(Failure::Stopped(Stop::Output))),
+    }
+}
+
 // Generic over the store, so that the contracts of `print_migrated` are passed on in one call.
 fn migrate_and_close<S: Alter + Drop, W: Write>(
     alloc: Global,
@@ -192,6 +254,7 @@ fn run(rt: &HostRuntime) -> Result<(), Refused> {
         Task::Migrate { path } => migrate(rt, &path, Form::Lines),
         Task::Ask { path, words } => ask(rt, &path, &words),
         Task::Against { path, desk, log } => ask_against(rt, &path, desk, &log),
+        Task::With { path, file } => answer_under(rt, &path, &file),
         Task::Compare { path, other } => compare(rt, &path, &other),
         Task::Help => Ok(()),
     }

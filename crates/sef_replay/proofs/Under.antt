@@ -1,0 +1,52 @@
+-- The rows of a trail under another file.
+use Rattle.std.proofs.Common.{◌≡◌, ◌≢◌, ◌⊎◌, inl, inr, ℕ, List, Option, ap, refl, sym, subst, ◌∙◌}
+use Rattle.std.specs.Io.KnownBytes.{Keeps}
+use Rattle.instruments.specs.declared.instruments.Instrument.{Instrument}
+use Rattle.participants.specs.ParticipantFile.{ParticipantFile}
+use Rattle.trail_comparison.specs.Comparison.{market_of}
+use Rattle.trail_comparison.specs.Rules.{IsRefused}
+use Rattle.trail_comparison.specs.declared.rules.RulesFault.{RulesFault}
+use Rattle.trail_comparison.specs.declared.rules.RulesFault.TheVariants as fault
+use Rattle.trail_digest.specs.Comparison.{Side}
+use Rattle.trail_digest.specs.Trail.{Trail}
+use Rattle.venue_rules.specs.Market.{Market}
+use Rattle.sef_replay.specs.declared.copied.Copied.{Copied}
+use Rattle.sef_replay.specs.declared.reading.ReadDay.{ReadDay}
+use Rattle.sef_replay.specs.declared.under.UnderFailure.{UnderFailure}
+use Rattle.sef_replay.specs.declared.under.UnderFailure.TheVariants.{OfTrail, OfFile, Differ, Memory, Output}
+use Rattle.sef_replay.specs.Compared.{IsDayOver, read_side}
+use Rattle.sef_replay.specs.Day.{AreKept, ReadsInstruments, ReadsParticipants}
+use Rattle.sef_replay.specs.Under.{FailsSideUnder, FailsUnderFile, file_failure}
+
+-- what was read of a trail is read by its files
+pub day_is_kept : (log db : List ℕ) (r : ReadDay) → IsDayOver log db (read_side r) → AreKept r.files r.delays.items r.day.participants r.day.instruments
+day_is_kept log db r is = record {
+  participants = by_text (λ (text : List ℕ) (m : Market). ReadsParticipants text m.participants) (ap (λ (t : Trail). t.participants) trail) kept.participants;
+  instruments = by_text (λ (text : List ℕ) (m : Market). ReadsInstruments text r.delays.items m.instruments) (ap (λ (t : Trail). t.instruments) trail)
+      (subst (λ (ds : List ℕ). ReadsInstruments is.day.files.instruments ds is.day.day.market.instruments) (sym (ap (λ (t : Trail). t.delays) trail)) kept.instruments);
+}
+  where
+    kept = is.day.day.kept
+    trail = is.day.day.so.1
+
+    by_text : (So : List ℕ → Market → Type 0) {lent text : List ℕ} → lent ≡ text → So text is.day.day.market → So lent (market_of (read_side r))
+    by_text So {lent} {text} same so =
+        subst (λ (t : List ℕ). So t (market_of (read_side r))) (sym same) (subst (λ (m : Market). So text m) (sym is.day.day.so.0) so)
+
+-- a file is refused for its fault
+pub refused_file : (side : Side) (text : List ℕ) (before after : Option (List ℕ)) (why : RulesFault) → IsRefused text (market_of side) why → Keeps before after
+    → FailsSideUnder side text before after (file_failure why)
+refused_file side text before after fault.Memory refused keeps = inl keeps
+refused_file side text before after (fault.NoFile one other) refused keeps = (refused, (λ is. absurd (cc)), keeps)
+refused_file side text before after fault.Venue refused keeps = (refused, (λ is. absurd (cc)), keeps)
+refused_file side text before after (fault.Participant k) refused keeps = (refused, (λ is. absurd (cc)), keeps)
+refused_file side text before after (fault.Instrument k) refused keeps = (refused, (λ is. absurd (cc)), keeps)
+
+-- what fails of a trail that was read
+pub failed_under : (copied : Copied) (side : Side) (text : List ℕ) (before after : Option (List ℕ)) (failure : UnderFailure) → IsDayOver copied.log.items copied.db.items side
+    → FailsSideUnder side text before after failure → FailsUnderFile copied text before after failure
+failed_under copied side text before after (OfTrail failure) day fails = absurd fails
+failed_under copied side text before after (OfFile why) day fails = record { side = side; day = day; fails = fails }
+failed_under copied side text before after Differ day fails = record { side = side; day = day; fails = fails }
+failed_under copied side text before after Memory day fails = record { side = side; day = day; fails = fails }
+failed_under copied side text before after Output day fails = record { side = side; day = day; fails = fails }
