@@ -1,15 +1,14 @@
 -- Numbers that are said to be missing are missing.
-use Rattle.std.proofs.Common.{◌≡◌, ◌⊎◌, inl, inr, ℕ, zero, suc, ◌+◌, ◌<◌, ◌≤◌, ◌==◌, ◌&&◌, ◌||◌, Bool, true, false, List, [], ◌∷◌, ◌++◌, length, Option, None, Some, if◌then◌else◌, refl, sym, subst, ap, ◌∙◌, arith}
-use Rattle.std.specs.Prelude.{All, nat_le, nat_lt}
+use Rattle.std.proofs.Common.{◌≡◌, ◌⊎◌, inl, inr, ℕ, zero, suc, ◌+◌, ◌<◌, ◌≤◌, ◌==◌, ◌&&◌, ◌||◌, Bool, true, false, List, [], ◌∷◌, ◌++◌, length, Option, None, Some, if◌then◌else◌, append-nil, refl, sym, subst, ap, ◌∙◌, arith}
+use Rattle.std.specs.Prelude.{nat_le, nat_lt}
 use Rattle.std.specs.Bool.{Decides}
 use Rattle.std.specs.List.{list_any}
 use Rattle.std.proofs.lemmas.Bool.{false≢true}
-use Rattle.std.proofs.lemmas.List.Elements.{All-append, All-cons, All-nil}
 use Rattle.std.proofs.lemmas.Bool.Decides.{nat_tests, Decides-and, Decides-eqb, Decides-ltb, leb_tells}
 use Rattle.desk_log.specs.declared.missing.Missing.{Missing}
 use Rattle.desk_log.specs.declared.numbered.Numbered.{Numbered}
 use Rattle.desk_log.specs.declared.numbered.Place.{Place}
-use Rattle.desk_log.specs.Missing.{AreMissing, GapsAreMissing, MissingAreMissing, due_behind, first_missing, first_of, gaps_from, gaps_in, has, if_before, is_above, is_before, is_era, is_there, led_on, lesser, missing_from, missing_on, missing_to, nearer, nearest, place_from, with_rest}
+use Rattle.desk_log.specs.Missing.{AreGaps, AreGapsBetween, AreMissing, GapsAreMissing, MissingAreMissing, due_behind, first_missing, first_of, gaps_from, gaps_in, has, if_before, is_above, is_before, is_era, is_there, led_on, lesser, missing_from, missing_on, missing_to, nearer, nearest, place_from, with_rest}
 use Rattle.desk_log.specs.Numbered.{Logged}
 
 decides_le : (a b : ℕ) → Decides (nat_le a b) (a ≤ b)
@@ -254,9 +253,6 @@ missing_are_missing fs p m made = from_first fs p m (first_missing p.era fs (len
 
 -- and so are those of each gap
 
-abbrev IsGap : List Numbered → Missing → Type 0
-IsGap fs m = (from : Place) × AreMissing fs from m
-
 kept : (later : Option Logged) (o : Option Missing) (m : Missing) → if_before o later ≡ Some m → o ≡ Some m
 kept later None m e = absurd (cc)
 kept later (Some x) m e = by (is_before x later) e
@@ -265,21 +261,35 @@ kept later (Some x) m e = by (is_before x later) e
     by true e = e
     by false e = absurd (cc)
 
-each_in : (fs : List Numbered) (later : Option Logged) (times : ℕ) (p : Place) → All (IsGap fs) (gaps_in fs later times p)
-each_in fs later zero p = All-nil (IsGap fs)
+each_in : (fs : List Numbered) (later : Option Logged) (times : ℕ) (p : Place) → AreGaps fs p (gaps_in fs later times p)
+each_in fs later zero p = tt
 each_in fs later (suc k) p = by (if_before (missing_from fs p) later) refl (each_in fs later k)
   where
-    by : (o : Option Missing) → if_before (missing_from fs p) later ≡ o → ((q : Place) → All (IsGap fs) (gaps_in fs later k q)) → All (IsGap fs) (with_rest o (gaps_in fs later k))
-    by None e rec = All-nil (IsGap fs)
-    by (Some m) e rec =
-        All-cons (IsGap fs) m (gaps_in fs later k (record { era = m.era; number = m.next })) (p, missing_are_missing fs p m (kept later (missing_from fs p) m e)) (rec (record { era = m.era; number = m.next }))
+    by : (o : Option Missing) → if_before (missing_from fs p) later ≡ o → ((q : Place) → AreGaps fs q (gaps_in fs later k q)) → AreGaps fs p (with_rest o (gaps_in fs later k))
+    by None e rec = tt
+    by (Some m) e rec = (missing_are_missing fs p m (kept later (missing_from fs p) m e), rec (record { era = m.era; number = m.next }))
 
 pub gaps_are_missing : GapsAreMissing
-gaps_are_missing fs earlier later = by (is_era (place_from earlier).era later)
+gaps_are_missing fs earlier later = by (is_era (place_from earlier).era later) refl
   where
-    first : All (IsGap fs) (gaps_from fs later (place_from earlier))
+    first : AreGaps fs (place_from earlier) (gaps_from fs later (place_from earlier))
     first = each_in fs later (length fs + 1) (place_from earlier)
 
-    by : (b : Bool) → All (IsGap fs) (if b then gaps_from fs later (place_from earlier) else (gaps_from fs later (place_from earlier) ++ gaps_from fs later (first_of later)))
-    by true = first
-    by false = All-append (IsGap fs) (gaps_from fs later (place_from earlier)) (gaps_from fs later (first_of later)) first (each_in fs later (length fs + 1) (first_of later))
+    by : (b : Bool) → is_era (place_from earlier).era later ≡ b
+        → AreGapsBetween fs earlier later (if b then gaps_from fs later (place_from earlier) else (gaps_from fs later (place_from earlier) ++ gaps_from fs later (first_of later)))
+    by true e = record {
+      one = gaps_from fs later (place_from earlier);
+      two = [];
+      both = sym (append-nil (gaps_from fs later (place_from earlier)));
+      first = first;
+      second = tt;
+      same_era = λ _. refl;
+    }
+    by false e = record {
+      one = gaps_from fs later (place_from earlier);
+      two = gaps_from fs later (first_of later);
+      both = refl;
+      first = first;
+      second = each_in fs later (length fs + 1) (first_of later);
+      same_era = λ same. absurd (false≢true (sym e ∙ same));
+    }

@@ -1,5 +1,5 @@
 -- The numbers that no frame of a log has, from the one to the other, in an era.
-use Rattle.std.specs.Prelude.{◌≡◌, ◌≤◌, ◌<◌, ◌+◌, ◌==◌, ◌&&◌, not, ◌||◌, ℕ, zero, suc, Bool, true, false, nat_le, nat_lt, List, [], ◌∷◌, ◌++◌, All, length, Option, Some, None, if◌then◌else◌}
+use Rattle.std.specs.Prelude.{◌≡◌, ◌≤◌, ◌<◌, ◌+◌, ◌==◌, ◌&&◌, not, ◌||◌, ℕ, zero, suc, Bool, true, false, nat_le, nat_lt, List, [], ◌∷◌, ◌++◌, length, Option, Some, None, if◌then◌else◌}
 use Rattle.std.specs.List.{list_any}
 use Rattle.desk_log.specs.declared.missing.Missing.{Missing}
 use Rattle.desk_log.specs.declared.numbered.Numbered.{Numbered}
@@ -105,6 +105,19 @@ pub record AreMissing (fs : List Numbered) (from : Place) (m : Missing) : Type 0
 abbrev pub MissingAreMissing : Type 0
 MissingAreMissing = (fs : List Numbered) (from : Place) (m : Missing) → missing_from fs from ≡ Some m → AreMissing fs from m
 
--- So of each of the numbers that are said to be missing between two messages.
+-- So of one after another: each from where the one before it leads.
+abbrev pub AreGaps : List Numbered → Place → List Missing → Type 0
+AreGaps fs p [] = Unit {0}
+AreGaps fs p (m ∷ ms) = AreMissing fs p m × AreGaps fs (record { era = m.era; number = m.next }) ms
+
+-- Between two messages: from the earlier one on, and from 1 on in the era of the later one, if it is another.
+pub record AreGapsBetween (fs : List Numbered) (earlier later : Option Logged) (gaps : List Missing) : Type 0 where
+  pub one : List Missing
+  pub two : List Missing
+  pub both : gaps ≡ one ++ two
+  pub first : AreGaps fs (place_from earlier) one
+  pub second : AreGaps fs (first_of later) two
+  pub same_era : is_era (place_from earlier).era later ≡ true → two ≡ []
+
 abbrev pub GapsAreMissing : Type 0
-GapsAreMissing = (fs : List Numbered) (earlier later : Option Logged) → All (λ m. (from : Place) × AreMissing fs from m) (gaps_between fs earlier later)
+GapsAreMissing = (fs : List Numbered) (earlier later : Option Logged) → AreGapsBetween fs earlier later (gaps_between fs earlier later)

@@ -3,7 +3,7 @@
 --
 --       the frames from SEF to BETA were sent from 20250303-14:29:50.000 to 20250303-14:30:41.000;
 --         the trail's rows are of 20250303-14:30:00.000 to 20250303-14:30:41.000
---       12 of these application messages were sent before the first row: the log begins before the trail
+--       12 of these application messages were sent before the first row: the log may begin before the trail
 --       the log begins after the first row: what was owed before may stand in an earlier log
 --       the log ends before the last row: what was owed after may stand in a later log
 use Rattle.std.specs.Prelude.{ℕ, ◌-◌, ◌==◌, Bool, false, nat_lt, List, [], ◌∷◌, ◌++◌, length, slice_get, Option, Some, None, Result, Ok, Err, if◌then◌else◌, decimal, codes}
@@ -80,8 +80,8 @@ span_said from to log rows = sent_said from to log ++ taken_said rows
 abbrev pub early_said : ℕ → List ℕ
 early_said n =
     if n == 0 then [] else
-    (if n == 1 then codes "one of these application messages was sent before the first row: the log begins before the trail\n" else
-    joined (decimal n ∷ codes " of these application messages were sent before the first row: the log begins before the trail\n" ∷ []))
+    (if n == 1 then codes "one of these application messages was sent before the first row: the log may begin before the trail\n" else
+    joined (decimal n ∷ codes " of these application messages were sent before the first row: the log may begin before the trail\n" ∷ []))
 
 abbrev pub late_said : Bool → List ℕ
 late_said late = if late then codes "the log begins after the first row: what was owed before may stand in an earlier log\n" else []

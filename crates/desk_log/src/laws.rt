@@ -4,7 +4,7 @@ ghost use Rattle.desk_log.specs.Lines.{TextsAreLines};
 ghost use Rattle.desk_log.specs.Missing.{GapsAreMissing, MissingAreMissing};
 
 /// Numbers that are said to be missing are in no frame of their era; those before them are, from where the search
-/// began; and the next is a frame's own. So each of the gaps that are printed.
+/// began; and the next is a frame's own. So of one gap after another, as they are printed.
 pub fn missing_are_missing()
     ensures first { MissingAreMissing }
     ensures each { GapsAreMissing }

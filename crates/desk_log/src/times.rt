@@ -163,7 +163,7 @@ fn append_early(out: &mut Vec<u8>, count: usize) -> Result<(), AllocError>
     }
     if count == 1 {
         return out.extend_from_slice(
-            b"one of these application messages was sent before the first row: the log begins before the trail\n",
+            b"one of these application messages was sent before the first row: the log may begin before the trail\n",
         );
     }
     append_parts(
@@ -171,7 +171,7 @@ fn append_early(out: &mut Vec<u8>, count: usize) -> Result<(), AllocError>
         &[
             Part::Number(count as u64),
             Part::Bytes(
-                b" of these application messages were sent before the first row: the log begins before the trail\n",
+                b" of these application messages were sent before the first row: the log may begin before the trail\n",
             ),
         ],
     )

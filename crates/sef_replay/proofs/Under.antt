@@ -38,6 +38,8 @@ pub refused_file : (side : Side) (text : List ℕ) (before after : Option (List 
     → FailsSideUnder side text before after (file_failure why)
 refused_file side text before after fault.Memory refused keeps = inl keeps
 refused_file side text before after (fault.NoFile one other) refused keeps = (refused, (λ is. absurd (cc)), keeps)
+refused_file side text before after (fault.BadParticipants one) refused keeps = (refused, (λ is. absurd (cc)), keeps)
+refused_file side text before after (fault.BadInstruments one) refused keeps = (refused, (λ is. absurd (cc)), keeps)
 refused_file side text before after fault.Venue refused keeps = (refused, (λ is. absurd (cc)), keeps)
 refused_file side text before after (fault.Participant k) refused keeps = (refused, (λ is. absurd (cc)), keeps)
 refused_file side text before after (fault.Instrument k) refused keeps = (refused, (λ is. absurd (cc)), keeps)

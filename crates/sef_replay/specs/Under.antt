@@ -8,6 +8,7 @@ use Rattle.trail_digest.specs.declared.head.HeadForm.TheVariants.{Line}
 use Rattle.trail_comparison.specs.Comparison.{market_of}
 use Rattle.trail_comparison.specs.Rules.{AreOther, IsRefused}
 use Rattle.trail_comparison.specs.Under.{EmitsUnder, IsBegun}
+use Rattle.trail_comparison.specs.declared.rules.Parts.{Parts}
 use Rattle.trail_comparison.specs.declared.rules.RulesFault.{RulesFault}
 use Rattle.trail_comparison.specs.declared.rules.RulesFault.TheVariants as fault
 use Rattle.sef_replay.specs.declared.copied.Copied.{Copied}
@@ -18,24 +19,28 @@ use Rattle.sef_replay.specs.Copied.{FailsOver}
 
 -- Behind the head of the trail: how the answers to its rows differ, and the trades. The text is that of the other file.
 pub record EmitsSideUnder (same : Bool) (side : Side) (text : List ℕ) (before after : Option (List ℕ)) : Type 0 where
+  pub parts : Parts
   pub other : Market
-  pub of_file : AreOther text (market_of side) other
+  pub of_file : AreOther parts text (market_of side) other
   pub mid : Option (List ℕ)
   pub headed : Appends before mid (head_text Line side.trail)
-  pub emits : EmitsUnder same (market_of side) other side.trail.rows mid after
+  pub emits : EmitsUnder parts same (market_of side) other side.trail.rows mid after
 
 -- or the head, and a first part
 pub record BeginsSideUnder (side : Side) (text : List ℕ) (before after : Option (List ℕ)) : Type 0 where
+  pub parts : Parts
   pub other : Market
-  pub of_file : AreOther text (market_of side) other
+  pub of_file : AreOther parts text (market_of side) other
   pub mid : Option (List ℕ)
   pub headed : Appends before mid (head_text Line side.trail)
-  pub begins : IsBegun (market_of side) other side.trail.rows mid after
+  pub begins : IsBegun parts (market_of side) other side.trail.rows mid after
 
 -- the failure where the rows cannot be answered under a file
 abbrev pub file_failure : RulesFault → UnderFailure
 file_failure fault.Memory = Memory
 file_failure (fault.NoFile one other) = OfFile (fault.NoFile one other)
+file_failure (fault.BadParticipants why) = OfFile (fault.BadParticipants why)
+file_failure (fault.BadInstruments why) = OfFile (fault.BadInstruments why)
 file_failure fault.Venue = OfFile fault.Venue
 file_failure (fault.Participant k) = OfFile (fault.Participant k)
 file_failure (fault.Instrument k) = OfFile (fault.Instrument k)

@@ -193,6 +193,14 @@ fn rules_line(
             )?;
             Ok(Some(line))
         }
+        RulesFault::BadParticipants(why) => {
+            let line = format!(in alloc; "its participants: {why}")?;
+            Ok(Some(line))
+        }
+        RulesFault::BadInstruments(why) => {
+            let line = format!(in alloc; "its instruments: {why}")?;
+            Ok(Some(line))
+        }
         RulesFault::Venue => participants_line(alloc, &own.participants, text, None),
         RulesFault::Participant(place) => {
             participants_line(alloc, &own.participants, text, Some(place))

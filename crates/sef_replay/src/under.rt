@@ -1,6 +1,6 @@
 //! The rows of a trail under another file, from the bytes of both.
 
-ghost use Rattle.std.specs.Prelude.{◌≡◌, ◌≤◌, All, length, IfErr, IfOk, OnOk};
+ghost use Rattle.std.specs.Prelude.{◌≡◌, ◌≤◌, ℕ, All, List, length, IfErr, IfOk, OnOk};
 ghost use Rattle.trail_comparison.specs.Comparison.{market_of};
 ghost use Rattle.trail_comparison.specs.Rules.{AreOther, IsRefused};
 ghost use Rattle.trail_comparison.specs.Under.{market_of_rules};
@@ -19,7 +19,7 @@ use crate::reading::ReadDay;
 use crate::replaying::KeptDay;
 use std::alloc::Global;
 use std::io::Write;
-use trail_comparison::{ComparisonFault, Rules, RulesFault, other_rules, print_under};
+use trail_comparison::{ComparisonFault, OtherRules, Rules, RulesFault, other_rules, print_under};
 use trail_digest::{Contents, DigestFault, HeadForm, print_head};
 
 /// Why the answers to the rows of a trail are not said to be the same under a file.
@@ -54,9 +54,9 @@ fn rules_again(alloc: Global, day: &ReadDay) -> Result<Rules, Stop>
 }
 
 /// The rules of a file, for the rows of a day.
-fn rules_in(alloc: Global, day: &ReadDay, text: &[u8]) -> Result<Rules, RulesFault>
+fn rules_in(alloc: Global, day: &ReadDay, text: &[u8]) -> Result<OtherRules, RulesFault>
     requires kept { AreKept day.now.files day.now.delays.items day.now.day.participants day.now.day.instruments }
-    ensures other { IfOk result (λ other. AreOther text.now (market_of (read_side day.now)) (market_of_rules other)) }
+    ensures other { IfOk result (λ other. AreOther other.parts text.now (market_of (read_side day.now)) (market_of_rules other.rules)) }
     ensures refused { IfErr result (λ fault. IsRefused text.now (market_of (read_side day.now)) fault) }
 {
     match rules_again(alloc, day) {
@@ -75,6 +75,10 @@ fn file_failure(fault: RulesFault) -> UnderFailure
         RulesFault::NoFile(participants, instruments) => {
             UnderFailure::OfFile(RulesFault::NoFile(participants, instruments))
         }
+        RulesFault::BadParticipants(why) => {
+            UnderFailure::OfFile(RulesFault::BadParticipants(why))
+        }
+        RulesFault::BadInstruments(why) => UnderFailure::OfFile(RulesFault::BadInstruments(why)),
         RulesFault::Venue => UnderFailure::OfFile(RulesFault::Venue),
         RulesFault::Participant(place) => UnderFailure::OfFile(RulesFault::Participant(place)),
         RulesFault::Instrument(place) => UnderFailure::OfFile(RulesFault::Instrument(place)),
@@ -85,13 +89,13 @@ fn file_failure(fault: RulesFault) -> UnderFailure
 fn print_both<W: Write>(
     alloc: Global,
     day: ReadDay,
-    other: Rules,
+    other: OtherRules,
     writer: &mut W,
 ) -> Result<(), UnderFailure>
     requires items { All IsItem day.day.rows.items }
     requires few { length day.day.rows.items ≤ most_items }
-    ensures emitted { (text : List ℕ) → AreOther text (market_of (read_side day)) (market_of_rules other) → OnOk result (EmitsSideUnder true (read_side day) text (W.contents writer.old) (W.contents writer.new)) }
-    ensures failed { (text : List ℕ) → AreOther text (market_of (read_side day)) (market_of_rules other) → IfErr result (FailsSideUnder (read_side day) text (W.contents writer.old) (W.contents writer.new)) }
+    ensures emitted { (text : List ℕ) → AreOther other.parts text (market_of (read_side day)) (market_of_rules other.rules) → OnOk result (EmitsSideUnder true (read_side day) text (W.contents writer.old) (W.contents writer.new)) }
+    ensures failed { (text : List ℕ) → AreOther other.parts text (market_of (read_side day)) (market_of_rules other.rules) → IfErr result (FailsSideUnder (read_side day) text (W.contents writer.old) (W.contents writer.new)) }
 {
     let ReadDay {
         files,

@@ -10,6 +10,7 @@ use Rattle.venue_rules.specs.Run.{run}
 use Rattle.venue_core.specs.State.{State}
 use Rattle.venue_core.specs.VenueFacts.{IsHistory}
 use Rattle.row_replay.specs.Laws.{AreTheirs}
+use Rattle.trail_comparison.specs.declared.rules.Parts.{Parts}
 use Rattle.trail_comparison.specs.Differences.{AreReplayed, BeginsRows, count_line, differences, differences_text}
 use Rattle.trail_comparison.specs.Trades.{trades_text}
 use Rattle.trail_comparison.specs.Under.{EmitsRuns, EmitsUnder, IsBegun, head, run_trades}
@@ -36,8 +37,8 @@ are_compared law m n rs count s t text before mid after done last written =
           (Appends-trans before mid after _ _ done.written (subst (Appends mid after) ended written));
     }
 
-pub behind_head : (same : Bool) (m n : Market) (rs : List TrailRow) (before mid after : Option (List ℕ)) → Appends before mid head → EmitsRuns same m n rs mid after → EmitsUnder same m n rs before after
-behind_head same m n rs before mid after written runs = record { mid = mid; head_written = written; runs = runs }
+pub behind_head : (parts : Parts) (same : Bool) (m n : Market) (rs : List TrailRow) (before mid after : Option (List ℕ)) → Appends before mid (head parts) → EmitsRuns same m n rs mid after → EmitsUnder parts same m n rs before after
+behind_head parts same m n rs before mid after written runs = record { mid = mid; head_written = written; runs = runs }
 
-pub begun_behind : (m n : Market) (rs : List TrailRow) (before mid after : Option (List ℕ)) → Appends before mid head → BeginsRows m n rs mid after → IsBegun m n rs before after
-begun_behind m n rs before mid after written begins = inr (record { mid = mid; written = written; begins = begins })
+pub begun_behind : (parts : Parts) (m n : Market) (rs : List TrailRow) (before mid after : Option (List ℕ)) → Appends before mid (head parts) → BeginsRows m n rs mid after → IsBegun parts m n rs before after
+begun_behind parts m n rs before mid after written begins = inr (record { mid = mid; written = written; begins = begins })

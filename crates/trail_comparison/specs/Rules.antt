@@ -1,13 +1,18 @@
 -- The participants and instruments of another file, for the rows of a trail: who sent a row, and what it is about, has
--- to be the same; which participants are related, and each instrument's figures, may be others.
+-- to be the same; which participants are related, and each instrument's figures, may be others. What the file lacks stays
+-- the trail's own.
 use Rattle.std.specs.Prelude.{◌≡◌, ◌≢◌, ◌⊎◌, ℕ, ◌<◌, max, List, length, Ok}
 use Rattle.instruments.specs.declared.instruments.Instrument.{Instrument}
 use Rattle.instruments.specs.Listing.{symbol_of}
 use Rattle.instruments.specs.Reading as instruments
+use Rattle.instruments.specs.declared.fault.FileFault.TheVariants as of_instruments
 use Rattle.participants.specs.ParticipantFile.{ParticipantFile}
 use Rattle.participants.specs.Reading as participants
 use Rattle.participants.specs.Relations.{name_of}
+use Rattle.participants.specs.declared.fault.FileFault.TheVariants as of_participants
 use Rattle.venue_rules.specs.Market.{Market}
+use Rattle.trail_comparison.specs.declared.rules.Parts.{Parts}
+use Rattle.trail_comparison.specs.declared.rules.Parts.TheVariants.{Both, Instruments, Participants}
 use Rattle.trail_comparison.specs.declared.rules.RulesFault.{RulesFault}
 use Rattle.trail_comparison.specs.declared.rules.RulesFault.TheVariants as fault
 
@@ -34,11 +39,11 @@ pub record AreInstruments (text : List ℕ) (own other : List Instrument) : Type
   pub read : instruments.Reads text (Ok other)
   pub symbols : SameSymbols own other
 
--- each is of the file or the trail's own, and one at least is of the file
-pub record AreOther (text : List ℕ) (own other : Market) : Type 0 where
-  pub participants : AreParticipants text own.participants other.participants ⊎ (other.participants ≡ own.participants)
-  pub instruments : AreInstruments text own.instruments other.instruments ⊎ (other.instruments ≡ own.instruments)
-  pub either : AreParticipants text own.participants other.participants ⊎ AreInstruments text own.instruments other.instruments
+-- these parts are of the file; it lacks the other, which is the trail's own
+abbrev pub AreOther : Parts → (text : List ℕ) → (own other : Market) → Type 0
+AreOther Both text own other = AreParticipants text own.participants other.participants × AreInstruments text own.instruments other.instruments
+AreOther Participants text own other = AreParticipants text own.participants other.participants × (other.instruments ≡ own.instruments) × instruments.IsFaultOf text of_instruments.Missing
+AreOther Instruments text own other = AreInstruments text own.instruments other.instruments × (other.participants ≡ own.participants) × participants.IsFaultOf text of_participants.Missing
 
 -- why not
 
@@ -56,8 +61,14 @@ abbrev pub IsNoFile : List ℕ → RulesFault → Type 0
 IsNoFile text (fault.NoFile one other) = participants.IsFaultOf text one × instruments.IsFaultOf text other
 IsNoFile text _ = ⊥
 
+-- it reads as the one, and has a fault as the other
+abbrev pub IsBadPart : List ℕ → RulesFault → Type 0
+IsBadPart text (fault.BadParticipants why) = participants.IsFaultOf text why × ((file : List Instrument) × instruments.Reads text (Ok file))
+IsBadPart text (fault.BadInstruments why) = instruments.IsFaultOf text why × ((file : ParticipantFile) × participants.Reads text (Ok file))
+IsBadPart text _ = ⊥
+
 abbrev pub IsRefused : List ℕ → Market → RulesFault → Type 0
 IsRefused text own why =
-    (why ≡ fault.Memory) ⊎ (IsNoFile text why
+    (why ≡ fault.Memory) ⊎ (IsNoFile text why ⊎ (IsBadPart text why
     ⊎ (((file : ParticipantFile) × participants.Reads text (Ok file) × IsOtherParticipants own.participants file why)
-    ⊎ ((file : List Instrument) × instruments.Reads text (Ok file) × IsOtherInstruments own.instruments file why)))
+    ⊎ ((file : List Instrument) × instruments.Reads text (Ok file) × IsOtherInstruments own.instruments file why))))

@@ -16,5 +16,5 @@ pub use day::Day;
 pub use fault::ComparisonFault;
 pub use laws::same_is_sent_alike;
 pub use printing::print_comparison;
-pub use rules::{Rules, RulesFault, other_rules};
+pub use rules::{OtherRules, Parts, Rules, RulesFault, other_rules};
 pub use under::print_under;

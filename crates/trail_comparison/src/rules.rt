@@ -21,6 +21,22 @@ pub struct Rules {
     pub instruments: Instruments,
 }
 
+/// What of a file stands in the place of a trail's own.
+#[derive(Clone, Copy, Debug, PartialEq, Eq)]
+pub enum Parts {
+    Participants,
+    /// The instruments, with their delays.
+    Instruments,
+    Both,
+}
+
+/// The rules by which the rows of a trail are answered once more, and what of them is of a file.
+#[derive(Drop)]
+pub struct OtherRules {
+    pub parts: Parts,
+    pub rules: Rules,
+}
+
 /// Why the rows of a trail cannot be answered by a file.
 #[derive(Clone, Copy, Debug, PartialEq, Eq, Error)]
 pub enum RulesFault {
@@ -30,6 +46,12 @@ pub enum RulesFault {
     /// It is no participant file and no instrument file: its first fault as each of them.
     #[error("no participant file and no instrument file")]
     NoFile(ParticipantsFault, InstrumentsFault),
+    /// It is an instrument file, and has participants too, which have a fault.
+    #[error("the participants: {0}")]
+    BadParticipants(ParticipantsFault),
+    /// It is a participant file, and has instruments too, which have a fault.
+    #[error("the instruments: {0}")]
+    BadInstruments(InstrumentsFault),
     /// The venue has another name.
     #[error("the venue has another name")]
     Venue,
@@ -152,59 +174,93 @@ fn with_participants(
     participants: Participants,
     instruments: Result<Instruments, InstrumentsFault>,
     own: Rules,
-) -> Result<Rules, RulesFault>
-    ensures other { (text : List ℕ) → of_participants.Reads text (Ok participants) → IfOk instruments (λ file. of_instruments.Reads text (Ok file)) → IfOk result (λ other. specs.AreOther text (market_of_rules own) (market_of_rules other)) }
-    ensures refused { (text : List ℕ) → of_participants.Reads text (Ok participants) → IfOk instruments (λ file. of_instruments.Reads text (Ok file)) → IfErr result (λ fault. specs.IsRefused text (market_of_rules own) fault) }
+) -> Result<OtherRules, RulesFault>
+    ensures other { (text : List ℕ) → of_participants.Reads text (Ok participants) → IfOk instruments (λ file. of_instruments.Reads text (Ok file)) → IfErr instruments (of_instruments.IsFaultOf text)
+        → IfOk result (λ other. specs.AreOther other.parts text (market_of_rules own) (market_of_rules other.rules)) }
+    ensures refused { (text : List ℕ) → of_participants.Reads text (Ok participants) → IfOk instruments (λ file. of_instruments.Reads text (Ok file)) → IfErr instruments (of_instruments.IsFaultOf text)
+        → IfErr result (λ fault. specs.IsRefused text (market_of_rules own) fault) }
 {
     check_participants(&own.participants, &participants)?;
     match instruments {
         Ok(instruments) => {
             check_instruments(&own.instruments, &instruments)?;
-            Ok(Rules {
-                participants,
-                instruments,
+            Ok(OtherRules {
+                parts: Parts::Both,
+                rules: Rules {
+                    participants,
+                    instruments,
+                },
             })
         }
-        Err(_) => Ok(Rules {
-            participants,
-            instruments: own.instruments,
+        Err(InstrumentsFault::Missing) => Ok(OtherRules {
+            parts: Parts::Participants,
+            rules: Rules {
+                participants,
+                instruments: own.instruments,
+            },
         }),
+        Err(fault) => Err(RulesFault::BadInstruments(fault)),
     }
 }
 
-/// The rules with the instruments of a file that has no participants.
+/// The rules with the instruments of a file that is no participant file, for this fault.
 fn with_instruments(
+    fault: ParticipantsFault,
+    instruments: Instruments,
+    own: Rules,
+) -> Result<OtherRules, RulesFault>
+    ensures other { (text : List ℕ) → of_participants.IsFaultOf text fault → of_instruments.Reads text (Ok instruments)
+        → IfOk result (λ other. specs.AreOther other.parts text (market_of_rules own) (market_of_rules other.rules)) }
+    ensures refused { (text : List ℕ) → of_participants.IsFaultOf text fault → of_instruments.Reads text (Ok instruments)
+        → IfErr result (λ fault. specs.IsRefused text (market_of_rules own) fault) }
+{
+    match fault {
+        ParticipantsFault::Missing => {
+            check_instruments(&own.instruments, &instruments)?;
+            Ok(OtherRules {
+                parts: Parts::Instruments,
+                rules: Rules {
+                    participants: own.participants,
+                    instruments,
+                },
+            })
+        }
+        _ => Err(RulesFault::BadParticipants(fault)),
+    }
+}
+
+/// The rules of a file that is no participant file, for this fault.
+fn without_participants(
     fault: ParticipantsFault,
     instruments: Result<Instruments, InstrumentsFault>,
     own: Rules,
-) -> Result<Rules, RulesFault>
-    ensures other { (text : List ℕ) → IfOk instruments (λ file. of_instruments.Reads text (Ok file)) → IfOk result (λ other. specs.AreOther text (market_of_rules own) (market_of_rules other)) }
+) -> Result<OtherRules, RulesFault>
+    ensures other { (text : List ℕ) → of_participants.IsFaultOf text fault → IfOk instruments (λ file. of_instruments.Reads text (Ok file))
+        → IfOk result (λ other. specs.AreOther other.parts text (market_of_rules own) (market_of_rules other.rules)) }
     ensures refused { (text : List ℕ) → of_participants.IsFaultOf text fault → IfOk instruments (λ file. of_instruments.Reads text (Ok file)) → IfErr instruments (of_instruments.IsFaultOf text)
         → IfErr result (λ fault. specs.IsRefused text (market_of_rules own) fault) }
 {
     match instruments {
-        Ok(instruments) => {
-            check_instruments(&own.instruments, &instruments)?;
-            Ok(Rules {
-                participants: own.participants,
-                instruments,
-            })
+        Ok(instruments) => with_instruments(fault, instruments, own),
+        Err(other) => {
+            drop(own);
+            Err(RulesFault::NoFile(fault, other))
         }
-        Err(other) => Err(RulesFault::NoFile(fault, other)),
     }
 }
 
 /// The rules of a file in the place of the trail's own: of a participant file the participants, with the pairs that it
-/// has as related; of an instrument file the instruments, with its figures; of a file that is both, both. The names of
-/// the venue and of the participants, and the symbols of the instruments, have to be those of the trail, in its order.
-pub fn other_rules(alloc: Global, text: &[u8], own: Rules) -> Result<Rules, RulesFault>
-    ensures other { IfOk result (λ other. specs.AreOther text.now (market_of_rules own) (market_of_rules other)) }
+/// has as related; of an instrument file the instruments, with its figures; of a file that is both, both. A part
+/// that lacks a key stays the trail's own; another fault is refused. The names of the venue and of the participants, and
+/// the symbols of the instruments, have to be those of the trail, in its order.
+pub fn other_rules(alloc: Global, text: &[u8], own: Rules) -> Result<OtherRules, RulesFault>
+    ensures other { IfOk result (λ other. specs.AreOther other.parts text.now (market_of_rules own) (market_of_rules other.rules)) }
     ensures refused { IfErr result (λ fault. specs.IsRefused text.now (market_of_rules own) fault) }
 {
     let participants = read_participants(alloc, text)?;
     let instruments = read_instruments(alloc, text)?;
     match participants {
         Ok(participants) => with_participants(participants, instruments, own),
-        Err(fault) => with_instruments(fault, instruments, own),
+        Err(fault) => without_participants(fault, instruments, own),
     }
 }

@@ -15,7 +15,7 @@ ghost use Rattle.trail_comparison.specs.declared.fault.ComparisonFault.TheVarian
 use crate::fault::ComparisonFault;
 use crate::lines::count_line;
 use crate::replaying::{emit_rows, write_text};
-use crate::rules::Rules;
+use crate::rules::{OtherRules, Parts, Rules};
 use crate::trades::append_trades;
 use row_replay::rows_have_their_inputs;
 use std::alloc::{AllocError, Global};
@@ -65,14 +65,28 @@ fn print_runs<W: Write>(
     Ok(count == 0)
 }
 
-fn write_head<W: Write>(writer: &mut W) -> Result<(), ComparisonFault>
-    ensures written { OnOk result (Appends (W.contents writer.old) (W.contents writer.new) specs.head) }
+/// What A and B are, in a line each.
+fn head(parts: Parts) -> &'static [u8]
+    ensures { result.now ≡ specs.head parts }
+{
+    match parts {
+        Parts::Both => {
+            b"A: the rows of the trail under its own files and delays\nB: the same rows under the participants, the instruments and the delays of the other file\n"
+        }
+        Parts::Participants => {
+            b"A: the rows of the trail under its own files and delays\nB: the same rows under the participants of the other file\n"
+        }
+        Parts::Instruments => {
+            b"A: the rows of the trail under its own files and delays\nB: the same rows under the instruments and the delays of the other file\n"
+        }
+    }
+}
+
+fn write_head<W: Write>(parts: Parts, writer: &mut W) -> Result<(), ComparisonFault>
+    ensures written { OnOk result (Appends (W.contents writer.old) (W.contents writer.new) (specs.head parts)) }
     ensures unwritten { IfErr result (λ fault. fault ≡ Memory → Keeps (W.contents writer.old) (W.contents writer.new)) }
 {
-    write_text(
-        b"A: the rows of the trail under its own files\nB: the same rows under the other file\n",
-        writer,
-    )
+    write_text(head(parts), writer)
 }
 
 /// Prints how the answers to the rows of a trail differ where they are answered by other rules (B) than its own (A):
@@ -83,18 +97,19 @@ fn write_head<W: Write>(writer: &mut W) -> Result<(), ComparisonFault>
 pub fn print_under<W: Write>(
     alloc: Global,
     own: Rules,
-    other: Rules,
+    other: OtherRules,
     rows: &[TrailRow],
     writer: &mut W,
 ) -> Result<bool, ComparisonFault>
     requires kept { All IsItem rows.now }
     requires few { length rows.now ≤ most_items }
-    ensures emitted { IfOk result (λ same. specs.EmitsUnder same (specs.market_of_rules own) (specs.market_of_rules other) rows.now (W.contents writer.old) (W.contents writer.new)) }
-    ensures begun { IfErr result (λ fault. fault ≡ Memory → specs.IsBegun (specs.market_of_rules own) (specs.market_of_rules other) rows.now (W.contents writer.old) (W.contents writer.new)) }
+    ensures emitted { IfOk result (λ same. specs.EmitsUnder other.parts same (specs.market_of_rules own) (specs.market_of_rules other.rules) rows.now (W.contents writer.old) (W.contents writer.new)) }
+    ensures begun { IfErr result (λ fault. fault ≡ Memory → specs.IsBegun other.parts (specs.market_of_rules own) (specs.market_of_rules other.rules) rows.now (W.contents writer.old) (W.contents writer.new)) }
 {
     let mut venue = Venue::open(alloc, own.participants, own.instruments)?;
-    let mut second = Venue::open(alloc, other.participants, other.instruments)?;
-    write_head(writer)?;
+    let OtherRules { parts, rules } = other;
+    let mut second = Venue::open(alloc, rules.participants, rules.instruments)?;
+    write_head(parts, writer)?;
     let printed = print_runs(alloc, &mut venue, &mut second, rows, writer);
     drop(venue);
     drop(second);
