@@ -193,7 +193,11 @@ def refusals(day):
     words = ("--trail", day.trail, "--heads", "h.tmp", "--metrics")
     day.refuses("each other", metrics, 2, *words, "./h.tmp")
     day.refuses("what is written first", metrics, 2, *words, "h")
-    day.refuses("no folder", "stopped: heads", 1, "--trail", day.trail, "--heads", "absent/heads")
+    # (a trail is looked for before its heads, and one with a second name is refused)
+    absent = ("--heads", "absent/heads")
+    day.refuses("a trail with two names", "trail refused 1", 3, "--trail", day.trail, *absent)
+    os.remove(day.path("hard"))
+    day.refuses("no folder", "stopped: heads", 1, "--trail", day.trail, *absent)
     day.refuses("a folder", "stopped: heads", 1, "--trail", day.trail, "--heads", ".")
 
 
