@@ -3,7 +3,7 @@
 
 usage: operator_day.py PORT VENUE_MAIN [PART..]
 
-PORT and the next 124 are used. The parts, all of them or those that are named, run in parallel, each on venues of its
+PORT and the next 134 are used. The parts, all of them or those that are named, run in parallel, each on venues of its
 own, and at last `turns` alone:
 
 stop        a venue ends by its stop file while five clients send all they can: each message that it took was answered,
@@ -14,6 +14,8 @@ session     a session's turns are spent: its port is closed, and the others trad
 refusals    a connection that is refused or dropped is reported with its cause
 gaps        a gap is reported; one that is not filled ends the connection after 2.2 heartbeat intervals
 hour        the same after 60 seconds without heartbeats; and the metrics of each minute and of the end
+troubles    a connection that breaks, bytes that come as a line ends, counters that cannot be written and lines that are
+            left out are reported
 places      a second connection is closed, or takes the place of one that is silent
 newcomers   one that sends nothing takes no place and is closed; a client that comes after it is served at once
 stalls      a stalled venue ends no line for which bytes waited, nor gives its place away
@@ -24,6 +26,7 @@ slow        a slow consumer is reported as cut
 failing     a disk that fails is reported, and who is logged on is cut
 starts      on a full disk, or where nothing may be written, a venue stops before it listens
 unread      nobody reads standard error: the venue trades on, and ends
+lost        nobody reads standard error for a while: the events that were lost are counted
 turns       an idle venue spends at most 11 turns a second in each thread; at 50,000 messages a second, a session and
             the worker spend at most MOST_TURNS a message (what they spend is printed)
 """
@@ -35,6 +38,8 @@ import os
 import resource
 import shutil
 import signal
+import socket
+import struct
 import subprocess
 import sys
 import tempfile
@@ -50,6 +55,7 @@ from fix import (  # noqa: E402
     Files,
     StopFile,
     Venue,
+    events_of,
     expect,
     field,
     frame,
@@ -62,7 +68,7 @@ from fix import (  # noqa: E402
 )
 
 NAME = "tests/e2e/operator_day"
-PORTS = 125
+PORTS = 135
 EVENT_SECONDS = 20.0  # for an event
 IDLE_SECONDS = 10.0
 QUIET_SECONDS = 11.0  # past the ten seconds of each bound
@@ -75,6 +81,7 @@ REPORT = b"\x0135=8\x01"
 FLOOD_SECONDS = 2.0
 UNANSWERED = 500  # of a flood, so that none of its answers waits for room at its socket
 ERAS = 900
+GAPS = 1000
 QUEUED = 65_536  # replies that may wait for one participant
 STEP_CLOCK = os.path.join(ROOT, "tests", "faults", "step_clock.c")
 STOPPED = (1, "", "venue_main: stopped: trail\n")
@@ -514,6 +521,27 @@ def compare_metrics(part, found, ends):
     part.compare("turns of the worker", found.get("sef_worker_turns_left"), float(ends["worker"]["turns_left"]))
 
 
+def troubles(part):
+    with tempfile.TemporaryDirectory() as folder, part.venue("--metrics", os.path.join(folder, "absent", "prom")) as venue:
+        venue.await_start()
+        part.await_event(venue, "metrics_failed")
+        beta = logged_on(venue, "BETA")
+        beta.connection.setsockopt(socket.SOL_SOCKET, socket.SO_LINGER, struct.pack("ii", 1, 0))
+        beta.close()
+        part.await_event(venue, "line_fault", participant="BETA")
+        # (of one participant 20 lines a second are printed)
+        for _ in range(100):
+            client_of(venue, "DELTA").close()
+        part.await_event(venue, "left_out", participant="DELTA")
+        # what comes once the venue reads no more
+        alpha = logged_on(venue, "ALPHA")
+        with open(venue.stop_file.path, "w", encoding="ascii"):
+            part.await_event(venue, "stopping")
+        alpha.connection.sendall(b"x" * 1000)
+        part.await_event(venue, "passed_over", participant="ALPHA", bytes="1000")
+        part.end(venue, 0)
+
+
 def places(part):
     with part.venue() as venue:
         venue.await_start()
@@ -828,27 +856,50 @@ def refused_starts(part, folder, trail):
         os.chmod(folder, 0o755)
 
 
-def unread(part):
-    stop_file = StopFile()
-    port = part.ports.pop(0)
-    command = serve_command(part.program, Files(), port, *stop_file.words)
-    venue = subprocess.Popen(command, stdin=subprocess.DEVNULL, stdout=subprocess.PIPE, stderr=subprocess.PIPE)
-    try:
-        fcntl.fcntl(venue.stderr, fcntl.F_SETPIPE_SZ, 4096)
+class UnreadVenue:
+    """A venue whose standard error is a pipe of 4,096 bytes."""
+
+    def __init__(self, part):
+        self.stop_file = StopFile()
+        self.port = part.ports.pop(0)
+        command = serve_command(part.program, Files(), self.port, *self.stop_file.words)
+        self.process = subprocess.Popen(command, stdin=subprocess.DEVNULL, stdout=subprocess.PIPE, stderr=subprocess.PIPE)
+        fcntl.fcntl(self.process.stderr, fcntl.F_SETPIPE_SZ, 4096)
+
+    def __enter__(self):
+        return self
+
+    def __exit__(self, *_fault):
+        self.process.kill()
+        self.process.wait()
+
+    def logged_on(self, name, heartbeat=30):
+        """A client that is logged on as soon as the venue listens."""
         deadline = time.monotonic() + 20
-        beta = None
-        while beta is None:
-            with contextlib.suppress(OSError):
-                beta = Client("BETA", port + 1)
-            if time.monotonic() > deadline:
-                raise SystemExit("the venue does not listen")
-        log_on(beta)
+        while True:
+            try:
+                return logged_on(self, name, heartbeat)
+            except OSError:
+                if time.monotonic() > deadline:
+                    raise SystemExit("the venue does not listen") from None
+
+    def end(self, part, taken):
+        began = time.monotonic()
+        self.stop_file.end(self.process, 30)
+        part.print(f"ended after {time.monotonic() - began:.1f} s")
+        found = self.process.stdout.read(), self.process.returncode
+        part.compare("closing and status", found, (closed(taken)[0].encode(), 0))
+
+
+def unread(part):
+    with UnreadVenue(part) as venue:
+        beta = venue.logged_on("BETA")
         # more lines than the pipe holds
         for _ in range(15):
             for _ in range(10):
-                for k in (0, 2, 3, 4):
+                for name in ("ALPHA", "GAMMA", "DELTA", "EPSILON"):
                     with contextlib.suppress(OSError):
-                        Client(PARTICIPANTS[k], port + k).close()
+                        client_of(venue, name).close()
             time.sleep(0.2)
         slowest = 0.0
         for k in range(200):
@@ -857,18 +908,47 @@ def unread(part):
             beta.await_field("150=8", quietly=True)
             slowest = max(slowest, time.monotonic() - began)
         part.print(f"the slowest of 200 round trips: {slowest * 1000:.0f} ms")
-        began = time.monotonic()
-        stop_file.end(venue, 30)
-        part.print(f"ended after {time.monotonic() - began:.1f} s")
-        part.compare("closing and status", (venue.stdout.read(), venue.returncode), (b"closed sessions 5 taken 200\n", 0))
-    finally:
-        venue.kill()
-        venue.wait()
+        venue.end(part, 200)
+
+
+def lost(part):
+    with UnreadVenue(part) as venue:
+        clients = [venue.logged_on(name, heartbeat=0) for name in PARTICIPANTS]
+        for client in clients:
+            client.connection.sendall(gaps_that_are_filled(client, GAPS))
+        for client in clients:
+            goes_on(client, "here")
+        # (what is printed of all of them is more than the pipe holds, so that the venue's writer waits)
+        lines = []
+        reading = threading.Thread(target=lambda: lines.extend(venue.process.stderr), daemon=True)
+        reading.start()
+        wait_until(lambda: any(b" event=lost " in line for line in lines), 20, "no events were lost", 0.05)
+        venue.end(part, 0)
+        reading.join(10)
+        events = events_of(b"".join(lines).decode("ascii"))
+        for name in PARTICIPANTS:
+            counts = {kind: lost_of(events, kind, name) for kind in ("lost", "summary")}
+            expect(f"events of {name} that were lost", counts["lost"], counts["summary"])
+            part.print(f"{name}: {counts['lost']} events lost")
+
+
+def gaps_that_are_filled(client, count):
+    """Heartbeats of which one is ahead of the next, as often as this."""
+    frames = []
+    for _ in range(count):
+        due = client.number + 1
+        frames += [message("0", client.name, number, "", timestamp()) for number in (due + 1, due, due + 1)]
+        client.number = due + 1
+    return b"".join(frames)
+
+
+def lost_of(events, kind, name):
+    return sum(int(event["events_lost"]) for event in events if is_of(event, kind, {"participant": name}))
 
 
 PARTS = [
-    stop, eof, worker, session, refusals, gaps, hour, places, newcomers, stalls, logouts, clock, eras, slow, failing,
-    starts, unread,
+    stop, eof, worker, session, refusals, gaps, hour, troubles, places, newcomers, stalls, logouts, clock, eras, slow,
+    failing, starts, unread, lost,
 ]  # fmt: skip
 
 
