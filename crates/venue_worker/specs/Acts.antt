@@ -1,11 +1,11 @@
 -- The acts of a run: each call of its turns, and the effect of a refusal.
-use Rattle.std.specs.Prelude.{◌≡◌, ℕ, Bool, true, false, List, [], ◌∷◌, Ok, Err}
+use Rattle.std.specs.Prelude.{◌≡◌, ℕ, Bool, true, false, List, [], ◌∷◌, ◌++◌, Ok, Err}
 use Rattle.std.specs.declared.result.Result.{Result}
 use Rattle.venue_rules.specs.declared.trail.EventFault.{EventFault}
 use Rattle.venue_rules.specs.declared.trail.EventFault.TheVariants.{Behind, TrailRefused, Down, Due, NoMemory}
 use Rattle.venue_worker.specs.Work.{Work}
 use Rattle.venue_worker.specs.Calls.{Cuts, Delivers, Takes, Ticks}
-use Rattle.venue_worker.specs.Turns.{with_had_refusal}
+use Rattle.venue_worker.specs.Turns.{IsMomentOf, with_had_refusal}
 
 -- a turn begins, with no refusal yet; a tick at a moment; a look at a participant's seat, at a moment; a delivery to a
 -- participant
@@ -15,26 +15,31 @@ pub data Act : Type 0 where
   Looks_at : ℕ → ℕ → Act
   Delivers_to : ℕ → Act
 
--- The effect of a tick's or a look's result: `Behind`, and nothing else, has that participant cut. A cut, an allocation
--- failure and a side that was due are recorded as a refusal of the turn.
+-- The effect of a tick's or a look's result: `Behind`, and nothing else, has that participant cut. A cut and an
+-- allocation failure are recorded as a refusal of the turn; a side is due only in a turn that had one.
 abbrev pub Follows : Result Bool EventFault → Work → Work → Type 0
 Follows (Ok b) mid new = new ≡ mid
 Follows (Err (Behind j)) mid new = (cut : Work) × Cuts mid cut j × (new ≡ with_had_refusal cut true)
 Follows (Err NoMemory) mid new = new ≡ with_had_refusal mid true
-Follows (Err Due) mid new = new ≡ with_had_refusal mid true
+Follows (Err Due) mid new = (mid.had_refusal ≡ true) × (new ≡ mid)
 Follows (Err TrailRefused) mid new = new ≡ mid
 Follows (Err (Down j)) mid new = new ≡ mid
 
-abbrev pub IsActOf : Act → Work → Work → Type 0
-IsActOf Begins old new = new ≡ with_had_refusal old false
-IsActOf (Ticks_at t) old new = (r : Result Bool EventFault) × (mid : Work) × Ticks t r old mid × Follows r mid new
-IsActOf (Looks_at i t) old new = (r : Result Bool EventFault) × (mid : Work) × Takes i t r old mid × Follows r mid new
-IsActOf (Delivers_to j) old new = (moved : Bool) × Delivers old new j moved
+-- an act at such moments
+abbrev pub IsActOf : (ℕ → Type 0) → Act → Work → Work → Type 0
+IsActOf P Begins old new = new ≡ with_had_refusal old false
+IsActOf P (Ticks_at t) old new = (r : Result Bool EventFault) × (mid : Work) × P t × Ticks t r old mid × Follows r mid new
+IsActOf P (Looks_at i t) old new = (r : Result Bool EventFault) × (mid : Work) × P t × Takes i t r old mid × Follows r mid new
+IsActOf P (Delivers_to j) old new = (moved : Bool) × Delivers old new j moved
 
-abbrev pub AreActs : List Act → Work → Work → Type 0
-AreActs [] old new = new ≡ old
-AreActs (a ∷ acts) old new = (mid : Work) × IsActOf a old mid × AreActs acts mid new
+abbrev pub AreActs : (ℕ → Type 0) → List Act → Work → Work → Type 0
+AreActs P [] old new = new ≡ old
+AreActs P (a ∷ acts) old new = (mid : Work) × IsActOf P a old mid × AreActs P acts mid new
 
--- a list of such acts leads from the one to the other
-abbrev pub HasActed : Work → Work → Type 0
-HasActed old new = (acts : List Act) × AreActs acts old new
+-- a list of acts at such moments leads from the one to the other
+abbrev pub HasActed : (ℕ → Type 0) → Work → Work → Type 0
+HasActed P old new = (acts : List Act) × AreActs P acts old new
+
+-- acts at the moments that the clock answered, or at the last before one no later
+abbrev pub HasActedAt : List ℕ → List ℕ → Work → Work → Type 0
+HasActedAt answered answered' old new = (moments : List ℕ) × (answered' ≡ answered ++ moments) × HasActed (IsMomentOf old.ledger.last moments) old new

@@ -5,7 +5,7 @@ use Rattle.venue_worker.specs.Acts.{Act}
 use Rattle.venue_worker.specs.Work.{Work}
 use Rattle.venue_worker.specs.Calls.{Takes}
 use Rattle.venue_worker.proofs.Moving.{moves_takes}
-use Rattle.venue_worker.proofs.Refusals.{moves_late, fault_cut, take_unrefused, take_settles, take_others, take_done, take_behind, take_no_memory, take_named, take_stops, take_waits, met_settled, met_done, met_others, set_met, still_unmet}
+use Rattle.venue_worker.proofs.Refusals.{moves_late, take_due, fault_cut, take_unrefused, take_settles, take_others, take_done, take_behind, take_no_memory, take_named, take_stops, take_waits, met_settled, met_done, met_others, set_met, still_unmet}
 use Rattle.venue_worker.proofs.Acting.{acts_one, follows_stop, follows_wait}
 use Rattle.venue_worker.proofs.worker.Worker.take_or_retry.Goals as goal
 
@@ -25,7 +25,7 @@ returns-in-Ok g c =
       others = take_others i t (Ok b) old new d;
       done = take_done i t b old new d;
       had_refusal = λ e. still_unmet old new d.place.had_refusal e;
-      acts = acts_one (Act.Looks_at i t) old new (Ok b, new, d, refl);
+      acts = acts_one (λ x. x ≡ t) (Act.Looks_at i t) old new (Ok b, new, refl, d, refl);
     }
 
 pub cut-requires : goal.cut-requires
@@ -51,7 +51,7 @@ returns-in-Cut g c =
       others = met_others i t (Err c.in-Err.fault) old mid new d m.2;
       done = met_done i t c.in-Err.fault old mid new d m.2 (ap (λ (w : Work). w.had_refusal) c.note_refusal.ensures);
       had_refusal = λ e. set_met c.cut.new.self new c.note_refusal.ensures e;
-      acts = acts_one (Act.Looks_at i t) old new (Err (Behind c.in-Cut.j), mid, subst (λ (z : EventFault). Takes i t (Err z) old mid) f d, (c.cut.new.self, c.cut.ensures.cuts, c.note_refusal.ensures));
+      acts = acts_one (λ x. x ≡ t) (Act.Looks_at i t) old new (Err (Behind c.in-Cut.j), mid, refl, subst (λ (z : EventFault). Takes i t (Err z) old mid) f d, (c.cut.new.self, c.cut.ensures.cuts, c.note_refusal.ensures));
     }
 
 pub returns-in-Wait : goal.returns-in-Wait
@@ -71,7 +71,7 @@ returns-in-Wait g c =
       others = met_others i t (Err c.in-Err.fault) old mid new d m.2;
       done = met_done i t c.in-Err.fault old mid new d m.2 (ap (λ (w : Work). w.had_refusal) c.note_refusal-in-Wait.ensures);
       had_refusal = λ e. set_met mid new c.note_refusal-in-Wait.ensures e;
-      acts = acts_one (Act.Looks_at i t) old new (Err c.in-Err.fault, mid, d, follows_wait c.in-Err.fault mid new (sym c.in-Wait.ensures) c.note_refusal-in-Wait.ensures);
+      acts = acts_one (λ x. x ≡ t) (Act.Looks_at i t) old new (Err c.in-Err.fault, mid, refl, d, follows_wait c.in-Err.fault mid new (sym c.in-Wait.ensures) (take_due i t c.in-Err.fault old mid c.requires.settled c.look_at.ensures.kept d) c.note_refusal-in-Wait.ensures);
     }
 
 pub returns-in-Stop : goal.returns-in-Stop
@@ -89,5 +89,5 @@ returns-in-Stop g c =
       others = take_others i t (Err c.in-Err.fault) old new d;
       done = tt;
       had_refusal = λ e. still_unmet old new d.place.had_refusal e;
-      acts = acts_one (Act.Looks_at i t) old new (Err c.in-Err.fault, new, d, follows_stop c.in-Err.fault new (sym c.in-Stop.ensures));
+      acts = acts_one (λ x. x ≡ t) (Act.Looks_at i t) old new (Err c.in-Err.fault, new, refl, d, follows_stop c.in-Err.fault new (sym c.in-Stop.ensures));
     }
