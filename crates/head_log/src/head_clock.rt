@@ -27,7 +27,8 @@ impl<C: Drop, W: Drop> Drop for HeadClock<C, W> {
 impl<C: Clock, W: Write + Drop> HeadClock<C, W> {
     /// This clock, with a report of heads where they are wanted.
     pub fn new(clock: C, report: Option<HeadReport<W>>) -> HeadClock<C, W>
-        ensures { ⟦<HeadClock<C, W> as Clock>⟧.answered result ≡ C.answered clock }
+        ensures clock { ⟦<HeadClock<C, W> as Clock>⟧.answered result ≡ C.answered clock }
+        ensures report { result.report ≡ report }
     {
         HeadClock { clock, report }
     }
@@ -36,6 +37,7 @@ impl<C: Clock, W: Write + Drop> HeadClock<C, W> {
     pub fn into_report(self) -> Option<HeadReport<W>>
     where
         C: Drop,
+        ensures { result ≡ self.report }
     {
         let HeadClock { clock, report } = self;
         drop(clock);

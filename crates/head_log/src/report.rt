@@ -1,7 +1,8 @@
 //! The lines of the newest heads.
 
-ghost use Rattle.std.specs.Prelude.{◌≡◌, ◌≤◌, ◌/◌, false, IfOk, IfSome, IsTrue};
+ghost use Rattle.std.specs.Prelude.{◌≡◌, ◌⊎◌, ◌≤◌, ◌/◌, true, false, IfOk, IfSome, IsTrue};
 ghost use Rattle.std.specs.Io.KnownBytes.{Appends};
+ghost use Rattle.head_log.specs.declared.head.Head.{Head};
 ghost use Rattle.head_log.specs.Line.{closing_text, due_text};
 
 use crate::head::Head;
@@ -76,6 +77,8 @@ impl<W: Write + Drop> HeadReport<W> {
     /// Writes the line of the newest head, unless it is written, or one was in the second of this moment.
     pub(crate) fn report(&mut self, moment: Moment)
         ensures once { moment / 1_000 ≡ self.old.second → self.new.file ≡ self.old.file }
+        ensures second { (self.new.file ≡ self.old.file) ⊎ (self.new.second ≡ moment / 1_000) }
+        ensures written { self.new.has_failed ≡ false → (self.new.file ≡ self.old.file) ⊎ ((h : Head) × Appends (W.contents self.old.file.out) (W.contents self.new.file.out) (due_text self.old.file.is_torn self.old.file.last h)) }
         ensures rises { self.old.file.last ≤ self.new.file.last }
     {
         let second = moment.ms() / 1_000;
@@ -89,6 +92,8 @@ impl<W: Write + Drop> HeadReport<W> {
 
     /// Writes the line of a head in a second, unless it is written.
     fn write_at(&mut self, second: u64, head: &Head)
+        ensures second { (self.new.file ≡ self.old.file) ⊎ (self.new.second ≡ second) }
+        ensures written { self.new.has_failed ≡ false → Appends (W.contents self.old.file.out) (W.contents self.new.file.out) (due_text self.old.file.is_torn self.old.file.last head.now) }
         ensures rises { self.old.file.last ≤ self.new.file.last }
     {
         if self.file.lacks(head) {
@@ -112,6 +117,7 @@ impl<W: Write + Drop> HeadReport<W> {
 
     /// Writes the line of the newest head, unless it is written.
     pub(crate) fn report_newest(&mut self)
+        ensures written { self.new.has_failed ≡ false → (self.new.file ≡ self.old.file) ⊎ ((h : Head) × Appends (W.contents self.old.file.out) (W.contents self.new.file.out) (due_text self.old.file.is_torn self.old.file.last h)) }
         ensures rises { self.old.file.last ≤ self.new.file.last }
     {
         if let Some(head) = self.newest.get() {
@@ -124,6 +130,7 @@ impl<W: Write + Drop> HeadReport<W> {
         ensures last { IsTrue result → IfSome last (λ head. head.n ≤ self.new.file.last) }
         ensures written { IsTrue result → Appends (W.contents self.old.file.out) (W.contents self.new.file.out) (closing_text self.old.file.is_torn self.old.file.last last) }
         ensures whole { IsTrue result → self.old.has_failed ≡ false }
+        ensures missing { result ≡ false → self.new.has_failed ≡ true }
         ensures rises { self.old.file.last ≤ self.new.file.last }
     {
         if let Some(head) = last {
