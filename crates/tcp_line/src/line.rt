@@ -1,5 +1,5 @@
 //! A line over one listener and at most one connection.
-ghost use Rattle.std.specs.Prelude.{◌≡◌, ◌≢◌, ◌^◌, ◌-◌, [], ◌∷◌, ◌++◌, false, None, Some, IfSome, IsOkAnd, IfOk, IfErr, MatchResult, min};
+ghost use Rattle.std.specs.Prelude.{◌≡◌, ◌≢◌, ◌⊎◌, ◌^◌, ◌-◌, [], ◌∷◌, ◌++◌, false, None, Some, IfSome, IsOkAnd, IfOk, IfErr, MatchResult, min};
 ghost use Rattle.gateway.specs.Said.{IsWithin, Accepted, Gave, Took, Broke_off, given, faults_in};
 ghost use Rattle.tcp_line.specs.Link.{GivesAhead, HasFlushed, HasRead, IsHeard};
 
@@ -90,6 +90,7 @@ impl<T: Clock + Drop> TcpLine<T> {
     pub fn close(&mut self) -> bool
         ensures same { self.new.log ≡ self.old.log }
         ensures gone { self.new.connection ≡ None }
+        ensures newcomer { self.new.next ≡ self.old.next }
     {
         self.finish().is_ok()
     }
@@ -113,6 +114,7 @@ impl<T: Clock + Drop> TcpLine<T> {
     fn finish(&mut self) -> Result<u64, LineFault>
         ensures same { self.new.log ≡ self.old.log }
         ensures gone { self.new.connection ≡ None }
+        ensures newcomer { self.new.next ≡ self.old.next }
     {
         let Some(mut connection) = self.connection.take() else {
             return Ok(0);
@@ -128,6 +130,7 @@ impl<T: Clock + Drop> TcpLine<T> {
     pub(crate) fn end(&mut self) -> u64
         ensures same { self.new.log ≡ self.old.log }
         ensures gone { self.new.connection ≡ None }
+        ensures newcomer { self.new.next ≡ self.old.next }
     {
         self.finish().unwrap_or(0)
     }
@@ -264,6 +267,7 @@ impl<T: Clock + Drop> TcpLine<T> {
         ensures over { result ≢ Accept.Over }
         ensures same { self.new.log ≡ self.old.log }
         ensures gone { result ≢ Accept.Up → self.new.connection ≡ None }
+        ensures newcomer { IfSome self.old.next (λ next. (result ≡ Accept.Fault) ⊎ ((result ≡ Accept.Up) × (self.new.connection ≡ Some next))) }
     {
         if !self.close() {
             return Accept::Fault;

@@ -1,5 +1,5 @@
 //! The line of a venue that is served: it stops with its venue, and ends a connection that holds its participant out.
-ghost use Rattle.std.specs.Prelude.{◌≡◌, ◌^◌, ◌-◌, [], ◌∷◌, ◌++◌, true, Some, MatchResult, min};
+ghost use Rattle.std.specs.Prelude.{◌≡◌, ◌≢◌, ◌^◌, ◌-◌, [], ◌∷◌, ◌++◌, true, Some, MatchResult, min};
 ghost use Rattle.gateway.specs.Said.{IsWithin, Accepted, Gave, Took, Broke_off, given, faults_in};
 ghost use Rattle.tcp_line.specs.Endings.{GaveNothing};
 ghost use Rattle.tcp_line.specs.Link.{IsHeard};
@@ -202,7 +202,9 @@ impl<T: Clock + Drop> ServedLine<T> {
     fn end(&mut self, end: LineEnd) -> Read
         ensures same { self.new.log ≡ self.old.log }
         ensures unread { self.new.line.log ≡ self.old.line.log }
+        ensures newcomer { self.new.line.next ≡ self.old.line.next }
         ensures within { IsWithin result }
+        ensures ended { result ≡ Read.Ended }
     {
         self.shared.watch.set_end(end);
         let passed_over = self.line.end();
@@ -229,6 +231,7 @@ impl<T: Clock + Drop> ServedLine<T> {
         ensures within { IsWithin result }
         ensures same { self.new.log ≡ self.old.log }
         ensures ends { result ≡ Read.Ended → GaveNothing self.old.line.log self.new.line.log }
+        ensures gave { result ≢ Read.Ended → self.new.line.log ≡ self.old.line.log ++ Gave (given result buffer.new) ∷ [] }
     {
         // (The clock is asked only where the system is.)
         if self.line.is_ahead() {
@@ -249,6 +252,7 @@ impl<T: Clock + Drop> ServedLine<T> {
     // What a read that gave nothing answers.
     fn after_quiet(&mut self) -> Read
         ensures within { IsWithin result }
+        ensures quiet { result ≢ Read.Ended → result ≡ Read.Quiet }
         ensures same { self.new.log ≡ self.old.log }
         ensures unread { self.new.line.log ≡ self.old.line.log }
     {
