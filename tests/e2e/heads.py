@@ -28,7 +28,6 @@ from two_clients import trade  # noqa: E402
 
 LINE_SECONDS = 5.0  # until the last row has its line
 KILLED_AFTER = 2.5  # seconds of orders
-COMMAND_LINE = "venue_main: command line refused: "
 
 
 def compared(what, found, expected):
@@ -178,15 +177,19 @@ def refusals(day):
     print("-- refused before a port listens", flush=True)
     os.symlink(day.trail, day.path("link"))
     os.link(day.trail, day.path("hard"))
-    day.refuses("no trail", "command line refused: --heads without --trail", 2, "--heads", "heads")
-    heads = "command line refused: --heads names another file of the venue"
-    metrics = "command line refused: --metrics names another file of the venue"
+    day.refuses("no trail", "command line refused\n  --heads without --trail", 2, "--heads", "heads")
+    heads = "command line refused\n  --heads names another file of the venue"
+    metrics = "command line refused\n  --metrics names another file of the venue"
     for name in ("day.trail", "./day.trail", "link", "hard", "day.trail-wal", "day.trail-probe", day.trail, "stop"):
         words = ("--trail", day.trail, "--stop-file", "stop")
         day.refuses(f"heads {os.path.basename(name)}", heads, 2, *words, "--heads", name)
         day.refuses(f"metrics {os.path.basename(name)}", metrics, 2, *words, "--metrics", name)
-    for name in ("new.trail", "../" + os.path.basename(day.folder) + "/new.trail"):
+    links = {"early": "new.trail", "earlier": "./early", "log": day.path("new.trail-wal"), "written.tmp": "new.trail"}
+    for link, target in links.items():
+        os.symlink(target, day.path(link))
+    for name in ("new.trail", "../" + os.path.basename(day.folder) + "/new.trail", "early", "earlier", "log"):
         day.refuses("heads of a trail to be made", heads, 2, "--trail", "new.trail", "--heads", name)
+    day.refuses("metrics of a trail to be made", metrics, 2, "--trail", "new.trail", "--metrics", "written")
     for name in (day.files.participants, day.files.instruments):
         day.refuses("heads a file", heads, 2, "--trail", day.trail, "--heads", name)
         day.refuses("metrics a file", metrics, 2, "--metrics", name)

@@ -25,13 +25,13 @@ pub enum Failure {
     #[error("command line refused")]
     CommandLine,
     /// Status 2: heads of no trail.
-    #[error("command line refused: --heads without --trail")]
+    #[error("command line refused\n  --heads without --trail")]
     HeadsWithoutTrail,
     /// Status 2: the file of heads is another file of the venue.
-    #[error("command line refused: --heads names another file of the venue")]
+    #[error("command line refused\n  --heads names another file of the venue")]
     SharedHeads,
     /// Status 2: so is the file of counters.
-    #[error("command line refused: --metrics names another file of the venue")]
+    #[error("command line refused\n  --metrics names another file of the venue")]
     SharedMetrics,
     /// Status 3: the number of the participant file's fault.
     #[error("participants refused {0}")]

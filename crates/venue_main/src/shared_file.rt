@@ -12,6 +12,9 @@ use std::fs;
 use std::os::unix::fs::MetadataExt;
 use std::path::Path;
 
+/// The most links that are followed.
+const MAX_LINKS: u32 = 40;
+
 /// Refuses heads of no trail, and a file of heads or of counters that is another file of the venue: the participants,
 /// the instruments, the trail, its log or its probe, the stop file, or each other.
 pub fn refuse_shared(
@@ -135,8 +138,28 @@ fn is_same_node(rt: &HostRuntime, one: &str, other: &str) -> bool {
     }
 }
 
-/// The path with its folder's links followed, where that is there.
+/// The path with its links followed, also where what they lead to is not there, and those of its folder, where that is.
 fn place_of(rt: &HostRuntime, path: &str) -> Result<String, AllocError> {
+    let mut place = String::from_str(rt.alloc(), path)?;
+    for _ in 0..MAX_LINKS {
+        let Ok(target) = fs::read_link(rt, &place) else {
+            break;
+        };
+        place = behind(rt, &place, &target.into_string())?;
+    }
+    in_folder(rt, &place)
+}
+
+/// The path that a link at this path leads to.
+fn behind(rt: &HostRuntime, link: &str, target: &str) -> Result<String, AllocError> {
+    match Path::new(link).parent() {
+        None => String::from_str(rt.alloc(), target),
+        Some(folder) => Ok(folder.join(rt.alloc(), target)?.into_string()),
+    }
+}
+
+/// The path with its folder's links followed, where that is there.
+fn in_folder(rt: &HostRuntime, path: &str) -> Result<String, AllocError> {
     let place = Path::new(path);
     let folder = match place.parent() {
         Some(folder) => folder.as_str(),
