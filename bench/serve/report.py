@@ -11,8 +11,10 @@ sys.path.insert(0, "tests/lib")
 from hostile import HostileClient  # noqa: E402
 
 PROGRAM = "crates/venue_main/out/venue_main"
-FILES = ("--participants", "examples/participants.toml", "--instruments", "examples/instruments.toml")
+PARTICIPANTS, INSTRUMENTS = "examples/participants.toml", "examples/instruments.toml"
 NAMES = ("ALPHA", "BETA", "GAMMA", "DELTA", "EPSILON")
+CROWD = tuple(f"P{k:02}" for k in range(32))
+CROWDS = (1, 5, 32)  # participants that send at once
 ENDLESS = "1000000000"  # turns
 SAMPLES = 9
 ROUND_TRIPS = 2_000
@@ -45,8 +47,8 @@ HeartBtInt=3600
 class Venue:
     """A venue that serves in a process of its own: its name, its first port, and its command line."""
 
-    def __init__(self, name, port, words, ready):
-        self.name, self.port, self.runs = name, port, 0
+    def __init__(self, name, port, words, ready, names=NAMES):
+        self.name, self.port, self.names, self.runs = name, port, names, 0
         self.process = subprocess.Popen(words, stdout=subprocess.PIPE, stderr=subprocess.STDOUT, text=True)
         for line in self.process.stdout:
             if ready(line):
@@ -59,33 +61,58 @@ class Venue:
             fields = file.read().rsplit(")", 1)[1].split()
         return (int(fields[11]) + int(fields[12])) / TICKS
 
+    def on_processor(self):
+        """Processor seconds so far of its threads, by the scheduler, which counts nanoseconds."""
+        folder = f"/proc/{self.process.pid}/task"
+        total = 0
+        for thread in os.listdir(folder):
+            with open(f"{folder}/{thread}/schedstat", encoding="utf-8") as file:
+                total += int(file.read().split()[0])
+        return total / 1e9
+
+    def loading(self, directory, symbol, messages, how, who):
+        """The load client, as the participant of this index."""
+        self.runs += 1
+        words = [f"{directory}/load", str(self.port + who), self.names[who], symbol, str(messages), how, str(self.runs)]
+        return subprocess.Popen(words, stdout=subprocess.PIPE, text=True)
+
     def load(self, directory, symbol, messages, how, who=0):
         """What the load client prints, by its words, as the participant of this index."""
-        self.runs += 1
-        words = [f"{directory}/load", str(self.port + who), NAMES[who], symbol, str(messages), how, str(self.runs)]
-        printed = subprocess.run(words, check=True, capture_output=True, text=True).stdout.split()
-        return dict(zip(printed[::2], map(int, printed[1::2])))
+        return printed_by(self.loading(directory, symbol, messages, how, who))
+
+    def load_all(self, directory, symbol, messages, how, count):
+        """The same of this many participants at once."""
+        clients = [self.loading(directory, symbol, messages, how, who) for who in range(count)]
+        return [printed_by(client) for client in clients]
 
 
-def ours(port, *trail):
+def printed_by(client):
+    words = client.communicate()[0].split()
+    if client.returncode:
+        raise SystemExit("bench/serve: a client of load ends before its last answer")
+    return dict(zip(words[::2], map(int, words[1::2])))
+
+
+def ours(port, *trail, names=NAMES, participants=PARTICIPANTS):
     """The venue of this repository, which is ready once it has printed the port of each participant."""
     listening = []
 
     def is_ready(line):
         listening.extend([line] if " at 127.0.0.1:" in line else [])
-        return len(listening) == len(NAMES)
+        return len(listening) == len(names)
 
-    words = [PROGRAM, "serve", *FILES, "--port", str(port), "--turns", ENDLESS, *trail]
-    return Venue("dazhwiro", port, words, is_ready)
+    files = ("--participants", participants, "--instruments", INSTRUMENTS)
+    words = [PROGRAM, "serve", *files, "--port", str(port), "--turns", ENDLESS, *trail]
+    return Venue("dazhwiro", port, words, is_ready, names)
 
 
-def peer(directory, port, *trail):
+def peer(directory, port, *trail, names=NAMES):
     """QuickFIX's engine, with a book in a map."""
-    sessions = (f"\n[SESSION]\nTargetCompID={name}\nSocketAcceptPort={port + k}\n" for k, name in enumerate(NAMES))
+    sessions = (f"\n[SESSION]\nTargetCompID={name}\nSocketAcceptPort={port + k}\n" for k, name in enumerate(names))
     with open(f"{directory}/quickfix.cfg", "w", encoding="utf-8") as file:
         file.write(SETTINGS + "".join(sessions))
     words = [f"{directory}/quickfix_venue", f"{directory}/quickfix.cfg", *trail]
-    return Venue("QuickFIX", port, words, lambda line: line.strip() == "ready")
+    return Venue("QuickFIX", port, words, lambda line: line.strip() == "ready", names)
 
 
 def measure(venue, directory, messages):
@@ -133,12 +160,49 @@ def idle(venue, directory):
     words = ([f"{directory}/load", str(venue.port + k), name, "NOPE", "0", "hold", "0"] for k, name in enumerate(NAMES))
     holders = [*map(subprocess.Popen, words)]
     time.sleep(1.0)
-    before = venue.spent()
+    before = venue.on_processor()
     time.sleep(IDLE)
-    share = (venue.spent() - before) / IDLE
-    print(f"{venue.name}: five idle participants take {share * 100:.1f} % of a processor", flush=True)
+    share = (venue.on_processor() - before) / IDLE
+    print(f"{venue.name}: five idle participants take {share * 100:.2f} % of a processor", flush=True)
     for holder in holders:
         holder.terminate()
+
+
+def crowd(venue, directory, messages):
+    """One sample: of each count of participants at once, the messages a second of all, and the middle one's round trip."""
+    figures = {}
+    symbol = KINDS[0][1]
+    for count in CROWDS:
+        each = messages // count
+        longest = max(each / one["per_second"] for one in venue.load_all(directory, symbol, each, "at-once", count))
+        trips = venue.load_all(directory, symbol, min(each, ROUND_TRIPS), "one-by-one", count)
+        figures[count] = (count * each / longest, statistics.median(one["p50_us"] for one in trips))
+    return figures
+
+
+def crowded(venues, directory, messages):
+    """Measures the venues alternately, with one, five and 32 participants at once."""
+    try:
+        samples = [[crowd(venue, directory, messages) for venue in venues] for _ in range(SAMPLES)]
+        for count in CROWDS:
+            for at, what in enumerate(("messages a second", "us of a round trip")):
+                found = [[sample[k][count][at] for sample in samples] for k in range(len(venues))]
+                print(f"{count} at once, {what}: " + "; peer ".join(map(spread, found)), flush=True)
+        shares = [sample[0][CROWDS[-1]][0] / sample[0][CROWDS[-2]][0] for sample in samples]
+        print(f"{CROWDS[-1]} at once have {spread(shares, 2)} of the messages a second of {CROWDS[-2]}", flush=True)
+    finally:
+        for venue in venues:
+            venue.process.terminate()
+            venue.process.wait()
+
+
+def crowded_venues(port, directory, peers):
+    """Ours, and the peer where there is one, with 32 participants."""
+    participants = f"{directory}/crowd.toml"
+    with open(participants, "w", encoding="utf-8") as file:
+        file.write('venue = "SEF"\n' + "".join(f'[[participant]]\nname = "{name}"\n' for name in CROWD))
+    venues = [ours(port, names=CROWD, participants=participants)]
+    return venues if peers == "alone" else [*venues, peer(directory, port + 100, names=CROWD)]
 
 
 class Sender(HostileClient):
@@ -247,6 +311,8 @@ def main():
         os.sched_setaffinity(0, processors[:CONFINED])
         alternately(started(port, directory, peers), directory, messages, False)
         os.sched_setaffinity(0, processors)
+    print("one, five and 32 participants at once:", flush=True)
+    crowded(crowded_venues(port, directory, peers), directory, messages)
     print("a participant's round trips:", flush=True)
     hostile(port, directory)
     print("each message a row of a trail in a file, a transaction each:", flush=True)
