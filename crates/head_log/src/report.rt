@@ -107,6 +107,7 @@ impl<W: Write + Drop> HeadReport<W> {
         ensures written { self.new.has_failed ≡ false → Appends (W.contents self.old.file.out) (W.contents self.new.file.out) (due_text self.old.file.is_torn self.old.file.last head.now) }
         ensures reached { self.new.has_failed ≡ false → head.now.n ≤ self.new.file.last }
         ensures whole { self.new.has_failed ≡ false → self.old.has_failed ≡ false }
+        ensures second { self.new.second ≡ self.old.second }
         ensures rises { self.old.file.last ≤ self.new.file.last }
     {
         if !self.file.catch_up(head) {
