@@ -3,8 +3,8 @@
 
 usage: operator_day.py PORT VENUE_MAIN [PART..]
 
-PORT and the next 134 are used. The parts, all of them or those that are named, run in parallel, each on venues of its
-own, and at last `turns` alone:
+PORT and the next 159 are used. The parts, all of them or those that are named, run in parallel, each on venues of its
+own, and at last `turns` and `pace` alone:
 
 stop        a venue ends by its stop file while five clients send all they can: each message that it took was answered,
             each answer arrives, the status is 0, and nobody is served any more
@@ -27,8 +27,15 @@ failing     a disk that fails is reported, and who is logged on is cut
 starts      on a full disk, or where nothing may be written, a venue stops before it listens
 unread      nobody reads standard error: the venue trades on, and ends
 lost        nobody reads standard error for a while: the events that were lost are counted
+ports       a venue listens at each participant's port of 127.0.0.1, as it prints them, and at nothing else; at each
+            port that participant alone is served
+moments     the moments of frames and of rows are the machine's
+again       700 reports that are requested again at once come again, each once
+full        a participant that reads nothing loses its connection after five seconds; others are served, and so is it
 turns       an idle venue spends at most 11 turns a second in each thread; at 50,000 messages a second, a session and
             the worker spend at most MOST_TURNS a message (what they spend is printed)
+pace        the median round trip of the last participant takes less than MOST_TRIP; orders in one write are answered
+            without a pause between them
 """
 
 import concurrent.futures
@@ -39,12 +46,14 @@ import resource
 import shutil
 import signal
 import socket
+import statistics
 import struct
 import subprocess
 import sys
 import tempfile
 import threading
 import time
+from datetime import datetime, timezone
 
 sys.path.insert(0, os.path.join(os.path.dirname(os.path.abspath(__file__)), "..", "lib"))
 from fix import (  # noqa: E402
@@ -65,10 +74,12 @@ from fix import (  # noqa: E402
     timestamp,
     wait_until,
     wire,
+    without_events,
 )
+from trail import items_of, snapshot  # noqa: E402
 
 NAME = "tests/e2e/operator_day"
-PORTS = 135
+PORTS = 160
 EVENT_SECONDS = 20.0  # for an event
 IDLE_SECONDS = 10.0
 QUIET_SECONDS = 11.0  # past the ten seconds of each bound
@@ -82,6 +93,14 @@ FLOOD_SECONDS = 2.0
 UNANSWERED = 500  # of a flood, so that none of its answers waits for room at its socket
 ERAS = 900
 GAPS = 1000
+TRIPS = 100  # round trips
+MOST_TRIP = 0.04  # seconds; a thread that nobody wakes waits a tenth of a second
+TOGETHER = 100  # orders in one write
+MOST_TOGETHER = 3.0  # seconds
+AGAIN = 700  # reports, more than 64 KiB
+CLOCK_SECONDS = 3.0  # between a moment of the venue and this test's
+ASKED = 1_000  # snapshots of a full side, some 8 MB, of which a socket takes some three
+FULL_SECONDS = 150.0  # for these three, where memory is checked, and then the five
 QUEUED = 65_536  # replies that may wait for one participant
 STEP_CLOCK = os.path.join(ROOT, "tests", "faults", "step_clock.c")
 STOPPED = (1, "", "venue_main: stopped: trail\n")
@@ -99,9 +118,14 @@ class Part:
         self.files = Files()
         self.ports = ports
         self.lines = []
+        self.left_out = []
 
     def print(self, line):
         self.lines.append(line)
+
+    def leave_out(self, what, why):
+        """Has the end print that this is not run, and why."""
+        self.left_out.append(f"{what}: not run: {why}")
 
     def compare(self, what, found, expected):
         expect(what, found, expected)
@@ -717,6 +741,129 @@ def clock(part):
             part.end(venue, 0)
 
 
+LISTENS = {"tcp": "0A", "tcp6": "0A", "udp": "07", "udp6": "07"}  # the states in /proc/net of what is bound
+
+
+def bound_by(process):
+    """The addresses and ports at which a process listens, as /proc has them, by protocol."""
+    inodes = set()
+    for name in os.listdir(f"/proc/{process.pid}/fd"):
+        with contextlib.suppress(OSError):
+            inodes.add(os.readlink(f"/proc/{process.pid}/fd/{name}"))
+    found = set()
+    for protocol, state in LISTENS.items():
+        with contextlib.suppress(FileNotFoundError), open(f"/proc/{process.pid}/net/{protocol}", encoding="ascii") as rows:
+            for words in (row.split() for row in rows):
+                if len(words) > 9 and words[3] == state and f"socket:[{words[9]}]" in inodes:
+                    address, port = words[1].split(":")
+                    found.add((protocol, address, int(port, 16)))
+    return found
+
+
+def ports(part):
+    if not os.path.exists("/proc/self/net/tcp"):
+        raise NotRun("there is no /proc/self/net/tcp")
+    here = f"{int.from_bytes(socket.inet_aton('127.0.0.1'), sys.byteorder):08X}"
+    with part.venue() as venue:
+        venue.await_start()
+        wanted = {("tcp", here, venue.port + k) for k in range(len(PARTICIPANTS))}
+        part.compare("what it listens at beyond its ports, and the reverse", bound_by(venue.process) ^ wanted, set())
+        printed = [line for line in without_events(venue.log()).splitlines() if " at " in line]
+        lines = [f"venue_main: {name} at 127.0.0.1:{venue.port + place_of(name)}" for name in PARTICIPANTS]
+        part.compare("the ports that it prints", printed, lines)
+        try:
+            socket.create_connection(("127.0.0.2", venue.port), timeout=5).close()
+            raise SystemExit("the venue listens at another address")
+        except ConnectionRefusedError:
+            part.print("a connection to 127.0.0.2 is refused")
+        for name in PARTICIPANTS:
+            own = logged_on(venue, name)
+            own.send("5", "", quietly=True)
+            rest(own)
+            other = PARTICIPANTS[place_of(name) - 1]
+            came = refused(part, venue, name, "A", f"49={other}|56=SEF|34=1|98=0|108=30|1137=9|", cause="wrong_comp_id")
+            part.compare(f"{other} at {name}'s port", came, b"")
+        part.end(venue, 0)
+
+
+def moment_of(message):
+    """The SendingTime of a message, in seconds since 1970."""
+    text = field(message, 52).decode("ascii")
+    return datetime.strptime(text, "%Y%m%d-%H:%M:%S.%f").replace(tzinfo=timezone.utc).timestamp()
+
+
+def moments(part):
+    with tempfile.TemporaryDirectory() as folder:
+        trail = os.path.join(folder, "trail")
+        with part.venue("--trail", trail) as venue:
+            venue.await_start()
+            epsilon = logged_on(venue, "EPSILON")
+            for k in range(3):
+                before = time.time()
+                epsilon.send("D", limit_order(f"e{k}", 1, 1), quietly=True)
+                at = moment_of(epsilon.await_field("150=0", quietly=True))
+                check_moment("a report", at, before, time.time())
+                kept = items_of(snapshot(trail, os.path.join(folder, f"copy{k}")))[-1][3] / 1000
+                check_moment("a row", kept, before, time.time())
+            part.end(venue, 3)
+
+
+def check_moment(what, at, first, last):
+    """A moment of the venue is between these two of this machine, but for the seconds that one may have waited."""
+    if not first - CLOCK_SECONDS <= at <= last + CLOCK_SECONDS:
+        raise SystemExit(f"the moment of {what} is {at - last:.3f} s after that of this machine")
+
+
+def again(part):
+    with part.venue() as venue:
+        venue.await_start()
+        alpha = logged_on(venue, "ALPHA")
+        at = timestamp()
+        orders = (f"11=a{k}|55=NOPE|54=1|38=10|40=2|44=2.5|" for k in range(AGAIN))
+        frames = b"".join(message("D", "ALPHA", k + 2, order, at) for k, order in enumerate(orders))
+        threading.Thread(target=alpha.connection.sendall, args=(frames,), daemon=True).start()
+        first = [field(alpha.next_message(), 34) for _ in range(AGAIN)]
+        alpha.number = AGAIN + 1
+        alpha.send("2", f"7={int(first[0])}|16=0|", quietly=True)
+        came = [alpha.next_message() for _ in range(AGAIN)]
+        part.compare("all that come again", {field(it, 43) for it in came}, {b"Y"})
+        part.compare("each once, in order", [field(it, 34) for it in came] == first, True)
+        goes_on(alpha, "after")
+        part.end(venue, AGAIN)
+
+
+def full(part):
+    with part.venue() as venue:
+        venue.await_start()
+        beta = logged_on(venue, "BETA")
+        for k in range(200):
+            beta.send("D", limit_order(f"b{k}", 1, 1), quietly=True)
+            beta.await_field("150=0", quietly=True)
+        alpha = Client("ALPHA", venue.port, receive_buffer=4096)
+        log_on(alpha)
+        asked = "262=v|263=0|264=0|267=1|269=0|146=1|55=IRS5Y|"
+        frames = b"".join(message("V", "ALPHA", k + 2, asked) for k in range(ASKED))
+
+        def send():
+            with contextlib.suppress(OSError):
+                alpha.connection.sendall(frames)
+
+        threading.Thread(target=send, daemon=True).start()
+        began = time.monotonic()
+        while not [event for event in venue.events() if is_of(event, "line_fault", {"participant": "ALPHA"})]:
+            goes_on(beta, "here")
+            if time.monotonic() - began > FULL_SECONDS:
+                raise SystemExit(f"who reads nothing is still connected after {FULL_SECONDS:.0f} s: {venue.log()}")
+            time.sleep(0.05)
+        took = time.monotonic() - began
+        if took < 4.9:
+            raise SystemExit(f"who reads nothing loses its connection after {took:.1f} s")
+        part.print(f"who reads nothing loses its connection after {took:.1f} s")
+        back = client_of(venue, "ALPHA")
+        log_on(back, more="141=Y|")
+        goes_on(back, "back")
+
+
 def step_clock(path, shift):
     with open(path + ".new", "w", encoding="ascii") as file:
         file.write(f"{shift}\n")
@@ -847,8 +994,9 @@ def refused_starts(part, folder, trail):
             finally:
                 subprocess.run(["umount", full], check=True)
         else:
-            part.print("a full disk: not run: no file system may be mounted")
+            part.leave_out("a full disk", "no file system may be mounted")
     else:
+        part.leave_out("a full disk", "it needs root")
         os.chmod(trail, 0o444)
         yield "a file that may not be written", trail, {}
         os.chmod(folder, 0o555)
@@ -946,10 +1094,39 @@ def lost_of(events, kind, name):
     return sum(int(event["events_lost"]) for event in events if is_of(event, kind, {"participant": name}))
 
 
+def pace(part):
+    with part.venue() as venue:
+        venue.await_start()
+        client = logged_on(venue, PARTICIPANTS[-1])
+        trips = []
+        for k in range(TRIPS):
+            began = time.monotonic()
+            client.send("D", limit_order(f"p{k}", 1, 1, symbol="NOPE"), quietly=True)
+            client.await_field("150=8", quietly=True)
+            trips.append(time.monotonic() - began)
+            time.sleep(0.01)
+        median = statistics.median(trips)
+        part.print(f"the median of {TRIPS} round trips: {median * 1000:.1f} ms")
+        if median > MOST_TRIP:
+            raise SystemExit(f"the median round trip takes {median * 1000:.0f} ms")
+        orders = (limit_order(f"t{k}", 1, 1, symbol="NOPE") for k in range(TOGETHER))
+        frames = [message("D", client.name, client.number + 1 + k, order) for k, order in enumerate(orders)]
+        began = time.monotonic()
+        client.connection.sendall(b"".join(frames))
+        for _ in frames:
+            client.await_field("150=8", quietly=True)
+        took = time.monotonic() - began
+        part.print(f"{TOGETHER} orders in one write: {took:.2f} s")
+        if took > MOST_TOGETHER:
+            raise SystemExit(f"{TOGETHER} orders in one write are answered after {took:.1f} s")
+        part.end(venue, TRIPS + TOGETHER)
+
+
 PARTS = [
     stop, eof, worker, session, refusals, gaps, hour, troubles, places, newcomers, stalls, logouts, clock, eras, slow,
-    failing, starts, unread, lost,
+    failing, starts, unread, lost, ports, moments, again, full,
 ]  # fmt: skip
+ALONE = [turns, pace]
 
 
 def run(part, test):
@@ -967,10 +1144,10 @@ def main():
     if len(sys.argv) < 3:
         raise SystemExit(__doc__)
     first, program, asked = int(sys.argv[1]), sys.argv[2], sys.argv[3:]
-    tests = [test for test in [*PARTS, turns] if not asked or test.__name__ in asked]
-    ports = iter(range(first, first + PORTS, 5))
+    tests = [test for test in [*PARTS, *ALONE] if not asked or test.__name__ in asked]
+    free = iter(range(first, first + PORTS, 5))
     needed = {turns: 2, starts: 7}
-    parts = {test: Part(program, [next(ports) for _ in range(needed.get(test, 1))]) for test in tests}
+    parts = {test: Part(program, [next(free) for _ in range(needed.get(test, 1))]) for test in tests}
     failed = []
 
     def report(test, outcome):
@@ -978,16 +1155,18 @@ def main():
             print(f"{NAME}, {test.__name__}: {outcome}")
         else:
             print(f"-- {test.__name__}: {outcome}")
-        print("".join(f"   {line}\n" for line in parts[test].lines), end="", flush=True)
+        print("".join(f"   {line}\n" for line in parts[test].lines), end="")
+        print("".join(f"{NAME}, {test.__name__}, {line}\n" for line in parts[test].left_out), end="", flush=True)
         if outcome.startswith("FAILED"):
             failed.append(test.__name__)
 
     with concurrent.futures.ThreadPoolExecutor(len(PARTS)) as pool:
-        running = {pool.submit(run, parts[test], test): test for test in tests if test is not turns}
+        running = {pool.submit(run, parts[test], test): test for test in tests if test not in ALONE}
         for done in concurrent.futures.as_completed(running):
             report(running[done], done.result())
-    if turns in tests:
-        report(turns, run(parts[turns], turns))
+    for test in ALONE:
+        if test in tests:
+            report(test, run(parts[test], test))
     if failed:
         raise SystemExit(f"failed: {' '.join(failed)}")
     print("the operator's day is as expected")

@@ -18,7 +18,7 @@ Frames
     field(message, tag)             the value of the first field with this tag, or None
 
 Clients
-    Client(name, port)              a participant's side of one session over one connection
+    Client(name, port, timeout, receive_buffer)     a participant's side of one session over one connection
         .send(kind, fields)         numbers a message and sends it; prints it, unless quietly=True
         .next_message()             the next frame; SystemExit where the venue closed the connection
         .await_field("150=F")       prints what comes, up to the first message with this field, which it returns
@@ -144,11 +144,15 @@ def field(message, tag):
 class Client:
     """A participant's side of one session over one connection."""
 
-    def __init__(self, name, port, timeout=ANSWER_SECONDS):
+    def __init__(self, name, port, timeout=ANSWER_SECONDS, receive_buffer=None):
         self.name = name
         self.number = 0  # of the last message sent
         self.unread = b""
-        self.connection = socket.create_connection(("127.0.0.1", port), timeout=timeout)
+        self.connection = socket.socket()
+        if receive_buffer:
+            self.connection.setsockopt(socket.SOL_SOCKET, socket.SO_RCVBUF, receive_buffer)
+        self.connection.settimeout(timeout)
+        self.connection.connect(("127.0.0.1", port))
         self.connection.setsockopt(socket.IPPROTO_TCP, socket.TCP_NODELAY, 1)
 
     def send(self, kind, fields, quietly=False):
