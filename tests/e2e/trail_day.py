@@ -7,7 +7,8 @@ PORT and the next 29 are used in turn. VENUE_MAIN and SEF_REPLAY are the program
 read back.
 
 1. Two clients trade on a venue with a trail, as in two_clients.py. While it runs, a second venue over the same file
-   reports that it is held; sef_replay reads the trade, and a copy of the file and its log has it. The venue closes.
+   reports that it is held; sef_replay reads the trade, and a copy of the file and its log has it. The venue closes, and
+   the file alone has all rows.
 2. A venue begins again from the file. Its sessions' numbers begin at 1. ALPHA's order, sent again, is refused as a
    duplicate; its leaves quantity rests, and DELTA trades with it. The venue closes, and its closing line counts the
    rows of both runs.
@@ -20,6 +21,7 @@ read back.
 import contextlib
 import os
 import resource
+import shutil
 import subprocess
 import sys
 import tempfile
@@ -113,6 +115,8 @@ def first_run(day):
         compared("the trail that is held", day.replayed(day.trail), (0, FIRST_TRADE, ""))
         compared("the day of a copy", day.replayed(day.copied("copy.trail")), (0, FIRST_TRADE, ""))
     compared("closing", closed(venue), "closed sessions 5 taken 2")
+    alone = shutil.copy(day.trail, os.path.join(day.folder, "alone.trail"))
+    compared("the rows of the file without its log", len(rows_of(alone)), 2)
 
 
 def second_run(day):
