@@ -169,7 +169,7 @@ def idle(venue, directory):
 
 
 def crowd(venue, directory, messages):
-    """One sample: of each count of participants at once, the messages a second of all, and the middle one's round trip."""
+    """One sample: of each count of participants at once, the messages a second of all, and the middle round trip."""
     figures = {}
     symbol = KINDS[0][1]
     for count in CROWDS:

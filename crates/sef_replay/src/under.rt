@@ -37,7 +37,7 @@ pub enum UnderFailure {
     Output,
 }
 
-/// The rules of a day, read once more from its files.
+/// The rules of a day, read again from its files.
 #[tactic(auto, using(crate::proofs::Stops::kept_once, crate::proofs::Stops::kept_stops))]
 fn rules_again(alloc: Global, day: &ReadDay) -> Result<Rules, Stop>
     requires kept { AreKept day.now.files day.now.delays.items day.now.day.participants day.now.day.instruments }
@@ -154,8 +154,8 @@ fn print_day_under<W: Write>(
 }
 
 /// Prints how the answers to the rows of the trail that these bytes hold differ where they are answered by the
-/// participants or the instruments of a file with this text. The trail is read and replayed in memory: no file is opened
-/// or written, and there is no premise on a disk. Ok only where all answers are the same.
+/// participants or the instruments of a file with this text. The trail is read and replayed in memory: no file is
+/// opened or written, and there is no premise on a disk. Ok only where all answers are the same.
 #[tactic(auto, using(crate::proofs::Under::day_is_kept, crate::proofs::Under::failed_under))]
 pub fn print_under_file<W: Write>(
     alloc: Global,

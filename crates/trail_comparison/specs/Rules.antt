@@ -1,6 +1,6 @@
 -- The participants and instruments of another file, for the rows of a trail: who sent a row, and what it is about, has
--- to be the same; which participants are related, and each instrument's figures, may be others. What the file lacks stays
--- the trail's own.
+-- to be the same; which participants are related, and each instrument's figures, may be others. What the file lacks
+-- stays the trail's own.
 use Rattle.std.specs.Prelude.{◌≡◌, ◌≢◌, ◌⊎◌, ℕ, ◌<◌, max, List, length, Ok}
 use Rattle.instruments.specs.declared.instruments.Instrument.{Instrument}
 use Rattle.instruments.specs.Listing.{symbol_of}

@@ -30,7 +30,7 @@ pub enum Parts {
     Both,
 }
 
-/// The rules by which the rows of a trail are answered once more, and what of them is of a file.
+/// The rules by which the rows of a trail are answered again, and what of them is of a file.
 #[derive(Drop)]
 pub struct OtherRules {
     pub parts: Parts,
@@ -251,8 +251,8 @@ fn without_participants(
 
 /// The rules of a file in the place of the trail's own: of a participant file the participants, with the pairs that it
 /// has as related; of an instrument file the instruments, with its figures; of a file that is both, both. A part
-/// that lacks a key stays the trail's own; another fault is refused. The names of the venue and of the participants, and
-/// the symbols of the instruments, have to be those of the trail, in its order.
+/// that lacks a key stays the trail's own; another fault is refused. The names of the venue and of the participants,
+/// and the symbols of the instruments, have to be those of the trail, in its order.
 pub fn other_rules(alloc: Global, text: &[u8], own: Rules) -> Result<OtherRules, RulesFault>
     ensures other { IfOk result (λ other. specs.AreOther other.parts text.now (market_of_rules own) (market_of_rules other.rules)) }
     ensures refused { IfErr result (λ fault. specs.IsRefused text.now (market_of_rules own) fault) }
