@@ -5,4 +5,4 @@ pub mod Stops
 pub mod Older
 pub mod Asked
 pub mod OverBytes
-pub mod Under
+pub mod UnderFile

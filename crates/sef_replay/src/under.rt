@@ -131,7 +131,7 @@ fn print_both<W: Write>(
 }
 
 /// Writes how the answers to the rows of a day differ under a file.
-#[tactic(auto, using(crate::proofs::Under::refused_file))]
+#[tactic(auto, using(crate::proofs::UnderFile::refused_file))]
 fn print_day_under<W: Write>(
     alloc: Global,
     day: ReadDay,
@@ -156,7 +156,7 @@ fn print_day_under<W: Write>(
 /// Prints how the answers to the rows of the trail that these bytes hold differ where they are answered by the
 /// participants or the instruments of a file with this text. The trail is read and replayed in memory: no file is
 /// opened or written, and there is no premise on a disk. Ok only where all answers are the same.
-#[tactic(auto, using(crate::proofs::Under::day_is_kept, crate::proofs::Under::failed_under))]
+#[tactic(auto, using(crate::proofs::UnderFile::day_is_kept, crate::proofs::UnderFile::failed_under))]
 pub fn print_under_file<W: Write>(
     alloc: Global,
     copied: Copied,

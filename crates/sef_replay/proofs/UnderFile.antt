@@ -1,8 +1,7 @@
 -- The rows of a trail under another file.
-use Rattle.std.proofs.Common.{◌≡◌, ◌≢◌, ◌⊎◌, inl, inr, ℕ, List, Option, ap, refl, sym, subst, ◌∙◌}
+use Rattle.std.proofs.Common.{◌≡◌, ◌≢◌, inl, ℕ, List, Option, ap, sym, subst}
 use Rattle.std.specs.Io.KnownBytes.{Keeps}
-use Rattle.instruments.specs.declared.instruments.Instrument.{Instrument}
-use Rattle.participants.specs.ParticipantFile.{ParticipantFile}
+use Rattle.audit_trail.specs.declared.files.Files.{Files}
 use Rattle.trail_comparison.specs.Comparison.{market_of}
 use Rattle.trail_comparison.specs.Rules.{IsRefused}
 use Rattle.trail_comparison.specs.declared.rules.RulesFault.{RulesFault}
@@ -19,19 +18,19 @@ use Rattle.sef_replay.specs.Day.{AreKept, ReadsInstruments, ReadsParticipants}
 use Rattle.sef_replay.specs.Under.{FailsSideUnder, FailsUnderFile, file_failure}
 
 -- what was read of a trail is read by its files
-pub day_is_kept : (log db : List ℕ) (r : ReadDay) → IsDayOver log db (read_side r) → AreKept r.files r.delays.items r.day.participants r.day.instruments
-day_is_kept log db r is = record {
-  participants = by_text (λ (text : List ℕ) (m : Market). ReadsParticipants text m.participants) (ap (λ (t : Trail). t.participants) trail) kept.participants;
-  instruments = by_text (λ (text : List ℕ) (m : Market). ReadsInstruments text r.delays.items m.instruments) (ap (λ (t : Trail). t.instruments) trail)
-      (subst (λ (ds : List ℕ). ReadsInstruments is.day.files.instruments ds is.day.day.market.instruments) (sym (ap (λ (t : Trail). t.delays) trail)) kept.instruments);
+kept_by : (files lent : Files) (kept delays : List ℕ) (m own : Market) → lent.participants ≡ files.participants → lent.instruments ≡ files.instruments → delays ≡ kept → own ≡ m
+    → AreKept files kept m.participants m.instruments → AreKept lent delays own.participants own.instruments
+kept_by files lent kept delays m own names symbols same market are = record {
+  participants = subst (λ (o : Market). ReadsParticipants lent.participants o.participants) (sym market) (subst (λ (t : List ℕ). ReadsParticipants t m.participants) (sym names) are.participants);
+  instruments = subst (λ (o : Market). ReadsInstruments lent.instruments delays o.instruments) (sym market)
+      (subst (λ (t : List ℕ). ReadsInstruments t delays m.instruments) (sym symbols) (subst (λ (ds : List ℕ). ReadsInstruments files.instruments ds m.instruments) (sym same) are.instruments));
 }
-  where
-    kept = is.day.day.kept
-    trail = is.day.day.so.1
 
-    by_text : (So : List ℕ → Market → Type 0) {lent text : List ℕ} → lent ≡ text → So text is.day.day.market → So lent (market_of (read_side r))
-    by_text So {lent} {text} same so =
-        subst (λ (t : List ℕ). So t (market_of (read_side r))) (sym same) (subst (λ (m : Market). So text m) (sym is.day.day.so.0) so)
+pub day_is_kept : (log db : List ℕ) (r : ReadDay) → IsDayOver log db (read_side r) → AreKept r.files r.delays.items r.day.participants r.day.instruments
+day_is_kept log db r is =
+    let day = is.day.day in
+    kept_by is.day.files r.files _ r.delays.items day.market (market_of (read_side r)) (ap (λ (t : Trail). t.participants) day.so.1) (ap (λ (t : Trail). t.instruments) day.so.1)
+    (ap (λ (t : Trail). t.delays) day.so.1) day.so.0 day.kept
 
 -- a file is refused for its fault
 pub refused_file : (side : Side) (text : List ℕ) (before after : Option (List ℕ)) (why : RulesFault) → IsRefused text (market_of side) why → Keeps before after
