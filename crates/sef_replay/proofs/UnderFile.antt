@@ -33,15 +33,20 @@ day_is_kept log db r is =
     (ap (λ (t : Trail). t.delays) day.so.1) day.so.0 day.kept
 
 -- a file is refused for its fault
-pub refused_file : (side : Side) (text : List ℕ) (before after : Option (List ℕ)) (why : RulesFault) → IsRefused text (market_of side) why → Keeps before after
+refused_for : (side : Side) (text : List ℕ) (before after : Option (List ℕ)) (why : RulesFault) → IsRefused text (market_of side) why → Keeps before after
     → FailsSideUnder side text before after (file_failure why)
-refused_file side text before after fault.Memory refused keeps = inl keeps
-refused_file side text before after (fault.NoFile one other) refused keeps = (refused, (λ is. absurd (cc)), keeps)
-refused_file side text before after (fault.BadParticipants one) refused keeps = (refused, (λ is. absurd (cc)), keeps)
-refused_file side text before after (fault.BadInstruments one) refused keeps = (refused, (λ is. absurd (cc)), keeps)
-refused_file side text before after fault.Venue refused keeps = (refused, (λ is. absurd (cc)), keeps)
-refused_file side text before after (fault.Participant k) refused keeps = (refused, (λ is. absurd (cc)), keeps)
-refused_file side text before after (fault.Instrument k) refused keeps = (refused, (λ is. absurd (cc)), keeps)
+refused_for side text before after fault.Memory refused keeps = inl keeps
+refused_for side text before after (fault.NoFile one other) refused keeps = (refused, (λ is. absurd (cc)), keeps)
+refused_for side text before after (fault.BadParticipants one) refused keeps = (refused, (λ is. absurd (cc)), keeps)
+refused_for side text before after (fault.BadInstruments one) refused keeps = (refused, (λ is. absurd (cc)), keeps)
+refused_for side text before after fault.Venue refused keeps = (refused, (λ is. absurd (cc)), keeps)
+refused_for side text before after (fault.Participant k) refused keeps = (refused, (λ is. absurd (cc)), keeps)
+refused_for side text before after (fault.Instrument k) refused keeps = (refused, (λ is. absurd (cc)), keeps)
+
+pub refused_file : (side : Side) (text : List ℕ) (before after : Option (List ℕ)) (why : RulesFault) (failure : UnderFailure) → failure ≡ file_failure why → IsRefused text (market_of side) why
+    → Keeps before after → FailsSideUnder side text before after failure
+refused_file side text before after why failure same refused keeps =
+    subst (λ (f : UnderFailure). FailsSideUnder side text before after f) (sym same) (refused_for side text before after why refused keeps)
 
 -- what fails of a trail that was read
 pub failed_under : (copied : Copied) (side : Side) (text : List ℕ) (before after : Option (List ℕ)) (failure : UnderFailure) → IsDayOver copied.log.items copied.db.items side
