@@ -1,6 +1,6 @@
 //! The rows of a trail under another file, from the bytes of both.
 
-ghost use Rattle.std.specs.Prelude.{◌≡◌, ◌≤◌, ℕ, All, List, length, IfErr, IfOk, OnOk};
+ghost use Rattle.std.specs.Prelude.{◌≡◌, ◌≤◌, ℕ, All, List, length, true, IfErr, IfOk, OnOk};
 ghost use Rattle.trail_comparison.specs.Comparison.{market_of};
 ghost use Rattle.trail_comparison.specs.Rules.{AreOther, IsRefused};
 ghost use Rattle.trail_comparison.specs.Under.{market_of_rules};
