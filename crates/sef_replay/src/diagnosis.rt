@@ -287,7 +287,7 @@ fn names_line(
     own: &[u8],
     other: &[u8],
 ) -> Result<Option<String>, AllocError> {
-    let number = place as u64 + 1;
+    let number = (place as u64).saturating_add(1);
     let own = String::from_utf8_lossy(alloc, own)?;
     let other = String::from_utf8_lossy(alloc, other)?;
     let line = format!(in alloc; "{what} {number}: {own} in the trail, {other} in the file")?;
