@@ -38,7 +38,6 @@ pub enum UnderFailure {
 }
 
 /// The rules of a day, read again from its files.
-#[tactic(auto, using(crate::proofs::Stops::kept_once, crate::proofs::Stops::kept_stops))]
 fn rules_again(alloc: Global, day: &ReadDay) -> Result<Rules, Stop>
     requires kept { AreKept day.now.files day.now.delays.items day.now.day.participants day.now.day.instruments }
     ensures same { IfOk result (λ own. market_of_rules own ≡ market_of (read_side day.now)) }
