@@ -130,7 +130,6 @@ fn print_both<W: Write>(
 }
 
 /// Writes how the answers to the rows of a day differ under a file.
-#[tactic(auto, using(crate::proofs::UnderFile::refused_file))]
 fn print_day_under<W: Write>(
     alloc: Global,
     day: ReadDay,
