@@ -10,7 +10,7 @@ ghost use Rattle.fix_session.specs.Eras.{EraBegins, IsReset, NoEraBegins};
 ghost use Rattle.fix_session.specs.Heard.{Heard};
 ghost use Rattle.fix_session.specs.Machine.{step, tick, sent, pushed, AtEnd, Grows};
 ghost use Rattle.fix_session.specs.Reader.{Reader};
-ghost use Rattle.fix_session.specs.Runs.{AreFirst, Event, begin, frames_since, replies, run};
+ghost use Rattle.fix_session.specs.Runs.{AreEachFirst, AreFirst, Event, begin, by_connection, connections, decoded, frames_since, replies, run};
 ghost use Rattle.fix_session.specs.Sent.{numbered};
 ghost use Rattle.fix_session.specs.Shorter.{Shortens};
 ghost use Rattle.fix_session.specs.State.{State, era_of, resumed, broken};
@@ -87,6 +87,15 @@ pub fn steps_shorten()
 pub fn first_frames_heard()
     ensures heard { (r : Reader) (ids : CompIds) (events : List Event) → frames_since [] (run r events (begin ids)).heard ≡ map (frame_in r ids) (run r events (begin ids)).bodies }
     ensures first { (r : Reader) (ids : CompIds) (events : List Event) → AreFirst (run r events (begin ids)).bodies (run r events (begin ids)).stream }
+{
+    stream_laws();
+}
+
+/// Law call (docs/ARCHITECTURE.md): the same of each connection. Over every list of calls, what was heard is,
+/// connection by connection, what the bodies heard on it spell, and those are the first of the frames of its bytes.
+pub fn each_connection_heard()
+    ensures heard { (r : Reader) (ids : CompIds) (events : List Event) → by_connection [] (run r events (begin ids)).heard ≡ map (decoded r ids) (connections r (begin ids) events) }
+    ensures first { (r : Reader) (ids : CompIds) (events : List Event) → AreEachFirst (connections r (begin ids) events) }
 {
     stream_laws();
 }

@@ -1,6 +1,6 @@
 //! The session itself.
 
-ghost use Rattle.std.specs.Prelude.{◌≡◌, ◌↔◌, ◌≤◌, ◌+◌, ◌∷◌, [], ◌++◌, max, length, IsOk, IfOk, OnOk, OnErr, IfErr, IfSome, IfNone, Some, OnSome, Err, slice_get, true, if◌then◌else◌};
+ghost use Rattle.std.specs.Prelude.{◌≡◌, ◌↔◌, ◌≤◌, ◌+◌, ◌∷◌, [], ◌++◌, max, length, IsOk, IfOk, OnOk, OnErr, IfErr, IfSome, IfNone, IsSome, Some, OnSome, Err, slice_get, true, if◌then◌else◌};
 ghost use Rattle.fix_session.specs.Machine as machine;
 ghost use Rattle.fix_dictionary.specs.Values.{IsSequenceNumber};
 ghost use Rattle.fix_session.specs.Reader.{Reader, IsSettled};
@@ -262,10 +262,12 @@ impl Session {
         Ok(plan.answer)
     }
 
-    /// The fault of the next unread frame, where that is a Logon with a fault. The frame stays unread.
+    /// The fault of the next unread frame, where that is a Logon with a fault. The frame stays unread. It does not fail
+    /// where no whole frame is unread.
     pub fn next_logon_fault(&mut self) -> Result<Option<Fault>, AllocError>
         ensures fault { (r : Reader) → IfOk result (λ fault. fault ≡ machine.next_logon_fault r self.old.state) }
         ensures same { self.new.state ≡ self.old.state }
+        ensures frame { (r : Reader) → OnErr result (IsSome (r.front self.old.state.unread).found) }
     {
         front_logon_fault(self.alloc, &self.ids, &mut self.cutter)
     }
@@ -406,6 +408,7 @@ fn front_logon_fault(
     requires { IsSettled cutter.old.unread }
     ensures fault { (r : Reader) → IfOk result (λ fault. fault ≡ machine.logon_fault_in r ids.now (r.front cutter.old.unread).found) }
     ensures same { cutter.new.unread ≡ cutter.old.unread }
+    ensures frame { (r : Reader) → OnErr result (IsSome (r.front cutter.old.unread).found) }
 {
     let Some(body) = next_body(cutter) else {
         return Ok(None);

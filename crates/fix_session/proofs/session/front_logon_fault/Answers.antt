@@ -1,4 +1,4 @@
-use Rattle.std.proofs.Common.{◌∙◌, ap, sym}
+use Rattle.std.proofs.Common.{◌∙◌, ap, is_some, sym}
 use Rattle.fix_session.specs.Machine.{logon_fault, logon_fault_in}
 use Rattle.fix_session.proofs.OneStep.{found_of}
 use Rattle.fix_session.proofs.Steps.{given_back}
@@ -19,3 +19,7 @@ pub returns-clause-fault : goal.returns-clause-fault
 returns-clause-fault c =
     λ r. c.logon_fault.ensures ∙ ap (λ frame. logon_fault frame.content) (c.in-Ok.ensures r)
     ∙ sym (ap (logon_fault_in r c.args.ids.now) (found_of _ _ _ _ _ _ c.in-Some.ensures.some c.taken.ensures r))
+
+pub returns-in_default-frame-clause-frame : goal.returns-in_default-frame-clause-frame
+returns-in_default-frame-clause-frame c =
+    λ r. ap is_some (found_of _ _ _ _ _ _ c.in-Some.ensures.some c.taken.ensures r)

@@ -7,3 +7,6 @@ invariant_of-self c = subst IsSettled (sym c.front_logon_fault.ensures.same) c.s
 
 pub returns-clause-fault : goal.returns-clause-fault
 returns-clause-fault c = λ r. rw (← c.self.view_is) (c.front_logon_fault.ensures.fault r)
+
+pub returns-clause-frame : goal.returns-clause-frame
+returns-clause-frame c = λ r. rw (← c.self.view_is) (c.front_logon_fault.ensures.frame r)
