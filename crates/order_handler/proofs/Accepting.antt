@@ -19,7 +19,7 @@ use Rattle.venue_rules.specs.Orders.{accepted}
 use Rattle.price_book.specs.declared.plan.FilledOrder.{FilledOrder}
 use Rattle.price_book.specs.Plan.{Plan}
 use Rattle.price_book.specs.Plans.{entry_plan, printed}
-use Rattle.order_handler.specs.declared.counts.Counts.{Counts}
+use Rattle.venue_request.specs.declared.counts.Counts.{Counts}
 use Rattle.order_handler.specs.Entered.{accepted_with, reports_from}
 use Rattle.order_handler.specs.Parts.{Parts, book_answer_of}
 use Rattle.order_handler.specs.Reads.{IsReadAlone}

@@ -20,7 +20,7 @@ use Rattle.price_book.specs.Plan.{Plan}
 use Rattle.price_book.specs.Plans.{cancel_plan}
 use Rattle.cross_delay.specs.Plan.{Plan as DelayPlan}
 use Rattle.cross_delay.specs.Plans.{drop_plan}
-use Rattle.order_handler.specs.declared.counts.Counts.{Counts}
+use Rattle.venue_request.specs.declared.counts.Counts.{Counts}
 use Rattle.order_handler.specs.Made.{are_listed}
 use Rattle.order_handler.specs.Parts.{Parts, answer_of}
 use Rattle.order_handler.specs.Reads.{IsReadAlone, is_used}

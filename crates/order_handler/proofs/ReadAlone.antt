@@ -6,7 +6,7 @@ use Rattle.venue_rules.specs.declared.facts.Removal.{Removal}
 use Rattle.venue_rules.specs.Facts.{History, is_order_id_used}
 use Rattle.price_book.specs.BookFacts.{is_book_fact}
 use Rattle.cross_delay.specs.DelayFacts.{delay_facts}
-use Rattle.order_handler.specs.declared.counts.Counts.{Counts}
+use Rattle.venue_request.specs.declared.counts.Counts.{Counts}
 use Rattle.order_handler.specs.Reads.{IsRead, is_used}
 
 -- readings of a history are those of its parts

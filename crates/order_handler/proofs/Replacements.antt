@@ -29,7 +29,7 @@ use Rattle.order_handler.specs.declared.replacing.ChangeCause.{ChangeCause}
 use Rattle.order_handler.specs.declared.replacing.ChangeCause.TheVariants.{Refused, PriceMissing}
 use Rattle.order_handler.specs.Changed.{IsBookRefusal, IsNotReplaced, IsReplacing, IsCapacityLeft, IsTakingPlace, MayReplace, change_turned_away, replaced_parts}
 use Rattle.cross_delay.specs.Contents.{Contents as Delay}
-use Rattle.order_handler.specs.declared.counts.Counts.{Counts}
+use Rattle.venue_request.specs.declared.counts.Counts.{Counts}
 use Rattle.order_handler.specs.Entered.{replaced_with, reports_from}
 use Rattle.order_handler.specs.Made.{IsMade, are_listed}
 use Rattle.order_handler.specs.Parts.{Parts, answer_of}

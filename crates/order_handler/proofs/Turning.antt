@@ -24,7 +24,7 @@ use Rattle.std.proofs.lemmas.Bool.Decides.{nat_tests}
 use Rattle.venue_rules.specs.declared.facts.Fact.TheVariants.{Traded}
 use Rattle.venue_rules.specs.declared.facts.Entry.{Entry}
 use Rattle.venue_rules.specs.Entering.{entry_facts, trade_of}
-use Rattle.order_handler.specs.declared.counts.Counts.{Counts}
+use Rattle.venue_request.specs.declared.counts.Counts.{Counts}
 use Rattle.order_handler.specs.Made.{IsMade, are_listed}
 use Rattle.order_handler.specs.Parts.{Parts, answer_of, book_answer_of}
 use Rattle.order_handler.specs.Reads.{IsReadAlone, is_used}

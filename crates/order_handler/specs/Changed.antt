@@ -18,7 +18,7 @@ use Rattle.price_book.specs.Plan.{Plan}
 use Rattle.price_book.specs.Plans.{IsReplacePlanned}
 use Rattle.order_handler.specs.declared.replacing.ChangeCause.{ChangeCause}
 use Rattle.order_handler.specs.declared.replacing.ChangeCause.TheVariants.{Refused, PriceMissing}
-use Rattle.order_handler.specs.declared.counts.Counts.{Counts}
+use Rattle.venue_request.specs.declared.counts.Counts.{Counts}
 use Rattle.order_handler.specs.Parts.{Parts}
 use Rattle.order_handler.specs.Reads.{is_used}
 use Rattle.order_handler.specs.Reports.{replaced_reports, total}

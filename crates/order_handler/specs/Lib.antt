@@ -1,5 +1,3 @@
--- the market of the two files, and the sender of a message
-pub mod Market
 -- an answer in its parts
 pub mod Parts
 -- histories with a given book, held sides and counts, and readings of them

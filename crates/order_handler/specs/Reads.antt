@@ -1,4 +1,4 @@
-use Rattle.std.specs.Prelude.{◌≡◌, ℕ, ◌+◌, ◌<◌, ◌^◌, Bool, ◌||◌, List, length}
+use Rattle.std.specs.Prelude.{◌≡◌, ℕ, ◌+◌, Bool, ◌||◌, List, length}
 use Rattle.venue_rules.specs.declared.facts.Fact.{Fact}
 use Rattle.venue_rules.specs.declared.facts.OrderFact.{OrderFact}
 use Rattle.venue_rules.specs.Market.{Market}
@@ -7,7 +7,7 @@ use Rattle.venue_rules.specs.Book.{fills, find_order, is_side_full, picture, too
 use Rattle.venue_rules.specs.Delay.{due, find_held, held}
 use Rattle.price_book.specs.BookFacts.{book_facts}
 use Rattle.cross_delay.specs.DelayFacts.{delay_facts}
-use Rattle.order_handler.specs.declared.counts.Counts.{Counts}
+use Rattle.venue_request.specs.declared.counts.Counts.{Counts}
 
 -- these are the facts of the book and of the held sides of a history, and its counts of reports and trades
 pub record IsRead (h : History) (book delay : List Fact) (c : Counts) : Type 0 where
@@ -15,10 +15,6 @@ pub record IsRead (h : History) (book delay : List Fact) (c : Counts) : Type 0 w
   pub of_delay : delay_facts h.facts ≡ delay
   pub of_reports : h.reports ≡ c.reports
   pub of_trades : length (trades h.facts) ≡ c.trades
-
--- counts small enough for further inputs
-abbrev pub AreCounts : Counts → Type 0
-AreCounts c = (c.reports < 2 ^ 61) × (c.trades < 2 ^ 61)
 
 -- a participant used an order identifier in the book or for a held side
 abbrev pub is_used : List Fact → List Fact → ℕ → List ℕ → Bool

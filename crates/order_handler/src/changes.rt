@@ -1,30 +1,29 @@
 //! OrderCancelRequest (F): cancels of resting orders and of held sides; OrderCancelReject, also for replacements.
 ghost use Rattle.std.specs.Prelude.{◌≡◌, ◌<◌, ◌+◌, [], ◌∷◌, true, length, IfOk, Some, None};
-ghost use Rattle.participants.specs.ParticipantFile.{ParticipantFile};
 ghost use Rattle.venue_rules.specs.declared.facts.Fact.{Fact as FactValue};
 ghost use Rattle.venue_rules.specs.Book.{find_order};
 ghost use Rattle.venue_rules.specs.Facts.{History};
-ghost use Rattle.venue_rules.specs.Changes.{answer_cancel, cancelled, change_refused, held_cancelled, standing};
+ghost use Rattle.venue_rules.specs.Changes.{answer_cancel, cancel_refused, cancelled, change_refused, held_cancelled, standing};
 ghost use Rattle.venue_rules.specs.Market.{Market};
 ghost use Rattle.price_book.specs.Views.{seen};
 ghost use Rattle.order_handler.specs.Made.{IsMade, are_listed};
-ghost use Rattle.order_handler.specs.Market.{market, sender};
 ghost use Rattle.order_handler.specs.Parts.{answer_of};
-ghost use Rattle.order_handler.specs.Reads.{AreCounts, IsRead};
+ghost use Rattle.order_handler.specs.Reads.{IsRead};
+ghost use Rattle.venue_request.specs.Counting.{AreCounts};
+ghost use Rattle.venue_request.specs.Market.{market_of};
+ghost use Rattle.venue_request.specs.Senders.{sender};
 
 use crate::answer::OrderAnswer;
-use crate::counts::Counts;
 use crate::laws::parts_are_read_alone;
 use crate::used::is_used;
 use cross_delay::{Held, HoldPlan};
-use fix_dictionary::{Amount, Identifier, OrderCancelRequest};
-use instruments::Instruments;
-use participants::Participants;
+use fix_dictionary::{Amount, OrderCancelRequest};
 use price_book::{FillPlan, PriceBook, Resting};
-use std::alloc::{AllocError, Global};
+use std::alloc::AllocError;
+use venue_request::Request;
 use venue_rules::{
     ChangeKind, ChangeRefusal, ChangeRefused, ChangedReport, HeldSide, OrderReport, OrderStatus,
-    Reply, ReplyBody, Taken, symbol_of,
+    Reply, ReplyBody, symbol_of,
 };
 
 /// Status of a resting order that a refused change names.
@@ -37,119 +36,125 @@ pub(crate) fn standing(order: Resting<'_>) -> OrderStatus
     }
 }
 
-/// The refusal of a cancel or replacement that named this resting order, or none.
+/// The refusal of a cancel or a replacement.
 pub(crate) fn change_refused(
-    alloc: Global,
-    taken: &Taken,
-    standing: Option<OrderStatus>,
-    kind: ChangeKind,
-    id: &Identifier,
-    original_id: &Identifier,
-    cause: ChangeRefusal,
+    request: &Request<'_>,
+    refused: ChangeRefused,
 ) -> Result<OrderAnswer, AllocError>
-    ensures answer { IfOk result (λ a. answer_of a ≡ change_refused (sender taken.now) standing kind id.now original_id.now cause) }
+    ensures answer { IfOk result (λ a. answer_of a ≡ change_refused (sender request.now.taken.now) refused.standing refused.kind refused.id refused.original_id refused.cause) }
     ensures quiet { IfOk result (λ a. (a.book ≡ []) × (a.delay ≡ [])) }
 {
-    let what = ReplyBody::ChangeRefused(ChangeRefused {
-        standing,
-        id: *id,
-        original_id: *original_id,
-        kind,
-        cause,
-    });
-    let to = taken.from;
+    let (alloc, to) = (request.turn.alloc, request.taken.from);
+    let what = ReplyBody::ChangeRefused(refused);
     let replies = vec![in alloc; Reply { to, what }]?;
     Ok(OrderAnswer::of_replies(alloc, replies))
 }
 
+/// The refusal of a cancel that named this resting order, or none.
+fn cancel_refused(
+    request: &Request<'_>,
+    message: &OrderCancelRequest,
+    standing: Option<OrderStatus>,
+    cause: ChangeRefusal,
+) -> Result<OrderAnswer, AllocError>
+    ensures answer { IfOk result (λ a. answer_of a ≡ cancel_refused (sender request.now.taken.now) message.now standing cause) }
+    ensures quiet { IfOk result (λ a. (a.book ≡ []) × (a.delay ≡ [])) }
+{
+    let refused = ChangeRefused {
+        standing,
+        id: message.order_id,
+        original_id: message.original_id,
+        kind: ChangeKind::Cancel,
+        cause,
+    };
+    change_refused(request, refused)
+}
+
 /// The report of a cancelled resting order.
 fn cancel_reply(
-    instruments: &Instruments,
-    taken: &Taken,
-    request: &OrderCancelRequest,
+    request: &Request<'_>,
+    message: &OrderCancelRequest,
     order: Resting<'_>,
     report: u64,
 ) -> Reply
-    requires { (seen order).entry.order.instrument < length instruments.now }
-    ensures { (m : Market) (h : History) → m.instruments ≡ instruments.now → report ≡ h.reports + 1 → result ∷ [] ≡ (cancelled m h (sender taken.now) request.now (seen order.entry)).replies }
+    requires { (seen order).entry.order.instrument < length request.now.turn.market.instruments.now }
+    ensures { (m : Market) (h : History) → m.instruments ≡ request.now.turn.market.instruments.now → report ≡ h.reports + 1 → result ∷ [] ≡ (cancelled m h (sender request.now.taken.now) message.now (seen order.entry)).replies }
 {
     let report = OrderReport {
         report,
         order: Some(order.entry.number),
-        symbol: symbol_of(instruments, order.entry.order.instrument),
+        symbol: symbol_of(
+            request.turn.market.instruments,
+            order.entry.order.instrument,
+        ),
         side: order.entry.order.side,
         left: Amount::new(0),
         filled: order.filled(),
-        id: request.order_id,
+        id: message.order_id,
     };
     let what = ReplyBody::OrderCancelled(ChangedReport {
         order: report,
-        original_id: request.original_id,
+        original_id: message.original_id,
     });
     Reply {
-        to: taken.from,
+        to: request.taken.from,
         what,
     }
 }
 
 /// The report of a cancelled held side, which has no order number.
 fn drop_reply(
-    instruments: &Instruments,
-    taken: &Taken,
-    request: &OrderCancelRequest,
+    request: &Request<'_>,
+    message: &OrderCancelRequest,
     side: &HeldSide,
     report: u64,
 ) -> Reply
-    requires { side.now.order.instrument < length instruments.now }
-    ensures { (m : Market) (h : History) → m.instruments ≡ instruments.now → report ≡ h.reports + 1 → result ∷ [] ≡ (held_cancelled m h (sender taken.now) request.now side.now).replies }
+    requires { side.now.order.instrument < length request.now.turn.market.instruments.now }
+    ensures { (m : Market) (h : History) → m.instruments ≡ request.now.turn.market.instruments.now → report ≡ h.reports + 1 → result ∷ [] ≡ (held_cancelled m h (sender request.now.taken.now) message.now side.now).replies }
 {
     let report = OrderReport {
         report,
         order: None,
-        symbol: symbol_of(instruments, side.order.instrument),
+        symbol: symbol_of(request.turn.market.instruments, side.order.instrument),
         side: side.order.side,
         left: Amount::new(0),
         filled: Amount::new(0),
-        id: request.order_id,
+        id: message.order_id,
     };
     let what = ReplyBody::OrderCancelled(ChangedReport {
         order: report,
-        original_id: request.original_id,
+        original_id: message.original_id,
     });
     Reply {
-        to: taken.from,
+        to: request.taken.from,
         what,
     }
 }
 
 /// The answer to a cancel that names no resting order: a held side, or nothing.
 fn plan_drop(
-    alloc: Global,
-    instruments: &Instruments,
+    request: &Request<'_>,
     book: &PriceBook,
     held: &mut Held,
-    counts: Counts,
-    taken: &Taken,
-    request: &OrderCancelRequest,
+    message: &OrderCancelRequest,
 ) -> Result<OrderAnswer, AllocError>
-    requires number { AreCounts counts }
-    requires delay_listed { are_listed (length instruments.now) held.old.facts ≡ true }
-    requires unknown { find_order book.now.facts taken.now.from request.now.original_id ≡ None }
+    requires number { AreCounts request.now.turn.counts }
+    requires delay_listed { are_listed (length request.now.turn.market.instruments.now) held.old.facts ≡ true }
+    requires unknown { find_order book.now.facts request.now.taken.now.from message.now.original_id ≡ None }
     ensures delay_kept { held.new.facts ≡ held.old.facts }
-    ensures planned { IfOk result (λ a. (participants : ParticipantFile) (h : History) → IsRead h book.now.facts held.old.facts counts → answer_of a ≡ answer_cancel (market participants instruments.now) h (sender taken.now) request.now) }
-    ensures made { IfOk result (λ a. IsMade (length instruments.now) book.now held.new a) }
+    ensures planned { IfOk result (λ a. (h : History) → IsRead h book.now.facts held.old.facts request.now.turn.counts → answer_of a ≡ answer_cancel (market_of request.now.turn.market) h (sender request.now.taken.now) message.now) }
+    ensures made { IfOk result (λ a. IsMade (length request.now.turn.market.instruments.now) book.now held.new a) }
 {
     parts_are_read_alone();
-    let (who, id, original) = (taken.from, &request.order_id, &request.original_id);
+    let (alloc, who) = (request.turn.alloc, request.taken.from);
+    let (id, original) = (&message.order_id, &message.original_id);
     let Some(side) = held.side(who, original) else {
-        let cause = ChangeRefusal::UnknownOrder;
-        return change_refused(alloc, taken, None, ChangeKind::Cancel, id, original, cause);
+        return cancel_refused(request, message, None, ChangeRefusal::UnknownOrder);
     };
     if is_used(book, held, who, id) {
-        let cause = ChangeRefusal::DuplicateClOrdId;
-        return change_refused(alloc, taken, None, ChangeKind::Cancel, id, original, cause);
+        return cancel_refused(request, message, None, ChangeRefusal::DuplicateClOrdId);
     }
-    let reply = drop_reply(instruments, taken, request, side, counts.reports + 1);
+    let reply = drop_reply(request, message, side, request.turn.counts.reports + 1);
     let replies = vec![in alloc; reply]?;
     let plan = held.plan_drop(who, original, Some(id))?;
     let nothing = FillPlan::nothing(alloc);
@@ -158,35 +163,30 @@ fn plan_drop(
 
 /// The answer to a cancel; reserves memory for its plans.
 pub fn plan_cancel(
-    alloc: Global,
-    participants: &Participants,
-    instruments: &Instruments,
+    request: &Request<'_>,
     book: &mut PriceBook,
     held: &mut Held,
-    counts: Counts,
-    taken: &Taken,
-    request: &OrderCancelRequest,
+    message: &OrderCancelRequest,
 ) -> Result<OrderAnswer, AllocError>
-    requires number { AreCounts counts }
-    requires book_listed { are_listed (length instruments.now) book.old.facts ≡ true }
-    requires delay_listed { are_listed (length instruments.now) held.old.facts ≡ true }
+    requires number { AreCounts request.now.turn.counts }
+    requires book_listed { are_listed (length request.now.turn.market.instruments.now) book.old.facts ≡ true }
+    requires delay_listed { are_listed (length request.now.turn.market.instruments.now) held.old.facts ≡ true }
     ensures book_kept { book.new.facts ≡ book.old.facts }
     ensures delay_kept { held.new.facts ≡ held.old.facts }
-    ensures planned { IfOk result (λ a. (h : History) → IsRead h book.old.facts held.old.facts counts → answer_of a ≡ answer_cancel (market participants.now instruments.now) h (sender taken.now) request.now) }
-    ensures made { IfOk result (λ a. IsMade (length instruments.now) book.new held.new a) }
+    ensures planned { IfOk result (λ a. (h : History) → IsRead h book.old.facts held.old.facts request.now.turn.counts → answer_of a ≡ answer_cancel (market_of request.now.turn.market) h (sender request.now.taken.now) message.now) }
+    ensures made { IfOk result (λ a. IsMade (length request.now.turn.market.instruments.now) book.new held.new a) }
 {
     parts_are_read_alone();
-    let (who, id, original) = (taken.from, &request.order_id, &request.original_id);
+    let (alloc, who) = (request.turn.alloc, request.taken.from);
+    let (id, original) = (&message.order_id, &message.original_id);
     let Some(order) = book.order(who, original) else {
-        return plan_drop(alloc, instruments, book, held, counts, taken, request);
+        return plan_drop(request, book, held, message);
     };
     if is_used(book, held, who, id) {
         let named = Some(standing(order));
-        let cause = ChangeRefusal::DuplicateClOrdId;
-        return change_refused(alloc, taken, named, ChangeKind::Cancel, id, original, cause);
+        return cancel_refused(request, message, named, ChangeRefusal::DuplicateClOrdId);
     }
-    let report = counts.reports + 1;
-    let reply = cancel_reply(instruments, taken, request, order, report);
+    let reply = cancel_reply(request, message, order, request.turn.counts.reports + 1);
     let replies = vec![in alloc; reply]?;
     let number = order.entry.number;
     let plan = book.plan_cancel(who, number, id)?;

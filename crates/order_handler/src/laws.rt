@@ -2,7 +2,7 @@
 ghost use Rattle.std.specs.Prelude.{◌≡◌, List};
 ghost use Rattle.venue_rules.specs.declared.facts.Fact.{Fact};
 ghost use Rattle.venue_rules.specs.Facts.{History};
-ghost use Rattle.order_handler.specs.declared.counts.Counts.{Counts};
+ghost use Rattle.venue_request.specs.declared.counts.Counts.{Counts};
 ghost use Rattle.order_handler.specs.Reads.{IsRead, IsReadAlone};
 
 use cross_delay::delay_is_read_alone;

@@ -3,7 +3,6 @@
 
 mod answer;
 mod changes;
-mod counts;
 mod entering;
 mod laws;
 pub mod listing;
@@ -16,7 +15,6 @@ mod used;
 
 pub use answer::OrderAnswer;
 pub use changes::plan_cancel;
-pub use counts::Counts;
 pub use entering::enter;
 pub use laws::parts_are_read_alone;
 pub use messages::business_reject;

@@ -5,12 +5,13 @@ ghost use Rattle.venue_rules.specs.Facts.{History};
 ghost use Rattle.venue_rules.specs.Orders.{answer_order, is_limit, is_unsupported_life, life_of, order_asked, refused};
 ghost use Rattle.order_handler.specs.Asked.{IsSound, IsTermsOf, IsTurnedAway, rejection};
 ghost use Rattle.order_handler.specs.Made.{IsMade};
-ghost use Rattle.order_handler.specs.Market.{market, sender};
 ghost use Rattle.order_handler.specs.Parts.{answer_of};
-ghost use Rattle.order_handler.specs.Reads.{AreCounts, IsRead};
+ghost use Rattle.order_handler.specs.Reads.{IsRead};
+ghost use Rattle.venue_request.specs.Counting.{AreCounts};
+ghost use Rattle.venue_request.specs.Market.{market_of};
+ghost use Rattle.venue_request.specs.Senders.{sender};
 
 use crate::answer::OrderAnswer;
-use crate::counts::Counts;
 use crate::entering::enter;
 use crate::laws::parts_are_read_alone;
 use crate::listing::{instrument_of, is_below_least, is_off_tick};
@@ -18,14 +19,12 @@ use crate::messages::business_reject;
 use crate::used::is_used;
 use cross_delay::Held;
 use fix_dictionary::{Amount, FixChar, NewOrderSingle, Price};
-use instruments::Instruments;
-use participants::Participants;
 use price_book::{PriceBook, Refusal};
-use sef_moment::Moment;
-use std::alloc::{AllocError, Global};
+use std::alloc::AllocError;
+use venue_request::Request;
 use venue_rules::{
-    BusinessRefusal, OrderFact, OrderRefusal, OrderRefused, OrderReport, Reply, ReplyBody, Taken,
-    TimeInForce, Who,
+    BusinessRefusal, OrderFact, OrderRefusal, OrderRefused, OrderReport, Reply, ReplyBody,
+    TimeInForce,
 };
 
 /// Cause of a refusal before the book is asked.
@@ -79,21 +78,20 @@ fn life_of(time_in_force: Option<FixChar>) -> TimeInForce
 /// The terms of an order that may enter, or the first cause to refuse it before the book is asked.
 #[tactic(auto, using(crate::proofs::Turning::turnings))]
 fn order_terms(
-    participants: &Participants,
-    instruments: &Instruments,
+    request: &Request<'_>,
     book: &PriceBook,
     held: &Held,
-    who: Who,
     order: &NewOrderSingle,
 ) -> Result<Terms, Cause>
-    ensures sound { IfOk result (λ terms. IsSound (market participants.now instruments.now) book.now.facts held.now.facts who order.now) }
-    ensures terms { IfOk result (λ terms. IsTermsOf (market participants.now instruments.now) order.now terms) }
-    ensures turned { IfErr result (λ cause. IsTurnedAway (market participants.now instruments.now) book.now.facts held.now.facts who order.now cause) }
+    ensures sound { IfOk result (λ terms. IsSound (market_of request.now.turn.market) book.now.facts held.now.facts request.now.taken.now.from order.now) }
+    ensures terms { IfOk result (λ terms. IsTermsOf (market_of request.now.turn.market) order.now terms) }
+    ensures turned { IfErr result (λ cause. IsTurnedAway (market_of request.now.turn.market) book.now.facts held.now.facts request.now.taken.now.from order.now cause) }
 {
+    let instruments = request.turn.market.instruments;
     let Some(instrument) = instrument_of(instruments, &order.symbol) else {
         return Err(Cause::Refused(OrderRefusal::UnknownInstrument));
     };
-    if is_used(book, held, who, &order.order_id) {
+    if is_used(book, held, request.taken.from, &order.order_id) {
         return Err(Cause::Refused(OrderRefusal::DuplicateClOrdId));
     }
     if !is_limit(order.order_type) || is_unsupported_life(order.time_in_force) {
@@ -112,18 +110,12 @@ fn order_terms(
 }
 
 /// The order of a message.
-fn order_asked(
-    participants: &Participants,
-    instruments: &Instruments,
-    who: Who,
-    order: &NewOrderSingle,
-    terms: Terms,
-) -> OrderFact
-    requires { IsTermsOf (market participants.now instruments.now) order.now terms }
-    ensures { result ≡ order_asked (market participants.now instruments.now) who order.now }
+fn order_asked(request: &Request<'_>, order: &NewOrderSingle, terms: Terms) -> OrderFact
+    requires { IsTermsOf (market_of request.now.turn.market) order.now terms }
+    ensures { result ≡ order_asked (market_of request.now.turn.market) request.now.taken.now.from order.now }
 {
     OrderFact {
-        who,
+        who: request.taken.from,
         id: order.order_id,
         link: order.link_id,
         instrument: terms.instrument,
@@ -136,18 +128,17 @@ fn order_asked(
 
 /// The report that refuses an order, which has no number of the venue's.
 fn refused(
-    alloc: Global,
-    taken: &Taken,
+    request: &Request<'_>,
     order: &NewOrderSingle,
-    reports: u64,
     cause: OrderRefusal,
 ) -> Result<OrderAnswer, AllocError>
-    requires { reports < 2 ^ 62 }
-    ensures answer { IfOk result (λ a. (facts : List FactValue) → answer_of a ≡ refused (record { facts = facts; reports = reports }) (sender taken.now) order.now cause) }
+    requires { AreCounts request.now.turn.counts }
+    ensures answer { IfOk result (λ a. (facts : List FactValue) → answer_of a ≡ refused (record { facts = facts; reports = request.now.turn.counts.reports }) (sender request.now.taken.now) order.now cause) }
     ensures quiet { IfOk result (λ a. (a.book ≡ []) × (a.delay ≡ [])) }
 {
+    let (alloc, to) = (request.turn.alloc, request.taken.from);
     let report = OrderReport {
-        report: reports + 1,
+        report: request.turn.counts.reports + 1,
         order: None,
         symbol: order.symbol,
         side: order.side,
@@ -159,68 +150,54 @@ fn refused(
         order: report,
         cause,
     });
-    let to = taken.from;
     let replies = vec![in alloc; Reply { to, what }]?;
     Ok(OrderAnswer::of_replies(alloc, replies))
 }
 
 /// The answer to an order refused before the book is asked.
 fn rejection(
-    alloc: Global,
-    taken: &Taken,
+    request: &Request<'_>,
     order: &NewOrderSingle,
-    reports: u64,
     cause: Cause,
 ) -> Result<OrderAnswer, AllocError>
-    requires { reports < 2 ^ 62 }
-    ensures answer { IfOk result (λ a. (facts : List FactValue) → answer_of a ≡ rejection (record { facts = facts; reports = reports }) (sender taken.now) order.now cause) }
+    requires { AreCounts request.now.turn.counts }
+    ensures answer { IfOk result (λ a. (facts : List FactValue) → answer_of a ≡ rejection (record { facts = facts; reports = request.now.turn.counts.reports }) (sender request.now.taken.now) order.now cause) }
     ensures quiet { IfOk result (λ a. (a.book ≡ []) × (a.delay ≡ [])) }
 {
     match cause {
-        Cause::Refused(cause) => refused(alloc, taken, order, reports, cause),
-        Cause::PriceMissing => business_reject(alloc, taken, BusinessRefusal::PriceMissing),
+        Cause::Refused(cause) => refused(request, order, cause),
+        Cause::PriceMissing => {
+            let missing = BusinessRefusal::PriceMissing;
+            business_reject(request.turn.alloc, request.taken, missing)
+        }
     }
 }
 
 /// The answer to a new order; reserves memory for its plans.
 pub fn plan_order(
-    alloc: Global,
-    participants: &Participants,
-    instruments: &Instruments,
+    request: &Request<'_>,
     book: &mut PriceBook,
     held: &Held,
-    counts: Counts,
-    taken: &Taken,
     order: &NewOrderSingle,
-    moment: Moment,
 ) -> Result<OrderAnswer, AllocError>
-    requires { AreCounts counts }
+    requires { AreCounts request.now.turn.counts }
     ensures kept { book.new.facts ≡ book.old.facts }
-    ensures planned { IfOk result (λ a. (h : History) → IsRead h book.old.facts held.now.facts counts → answer_of a ≡ answer_order (market participants.now instruments.now) h (sender taken.now) order.now moment) }
-    ensures made { IfOk result (λ a. IsMade (length instruments.now) book.new held.now a) }
+    ensures planned { IfOk result (λ a. (h : History) → IsRead h book.old.facts held.now.facts request.now.turn.counts → answer_of a ≡ answer_order (market_of request.now.turn.market) h (sender request.now.taken.now) order.now request.now.turn.moment) }
+    ensures made { IfOk result (λ a. IsMade (length request.now.turn.market.instruments.now) book.new held.now a) }
 {
     parts_are_read_alone();
-    let (who, reports) = (taken.from, counts.reports);
-    let terms = match order_terms(participants, instruments, book, held, who, order) {
+    let terms = match order_terms(request, book, held, order) {
         Ok(terms) => terms,
-        Err(cause) => return rejection(alloc, taken, order, reports, cause),
+        Err(cause) => return rejection(request, order, cause),
     };
-    let asked = order_asked(participants, instruments, who, order, terms);
-    match enter(
-        alloc,
-        participants,
-        instruments,
-        book,
-        counts,
-        &asked,
-        moment,
-    ) {
+    let asked = order_asked(request, order, terms);
+    match enter(&request.turn, book, &asked) {
         Ok(answer) => Ok(answer),
         Err(Refusal::TooSoon(_)) => {
             let cause = OrderRefusal::LinkedOrderTooRecent;
-            refused(alloc, taken, order, reports, cause)
+            refused(request, order, cause)
         }
-        Err(Refusal::Full) => refused(alloc, taken, order, reports, OrderRefusal::BookSideFull),
+        Err(Refusal::Full) => refused(request, order, OrderRefusal::BookSideFull),
         Err(Refusal::NoMemory) => Err(AllocError),
     }
 }

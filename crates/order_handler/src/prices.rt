@@ -6,37 +6,38 @@ ghost use Rattle.venue_rules.specs.Book.{picture};
 ghost use Rattle.venue_rules.specs.Facts.{History};
 ghost use Rattle.venue_rules.specs.MarketData.{answer_market_data};
 ghost use Rattle.price_book.specs.BookFacts.{book_facts};
-ghost use Rattle.order_handler.specs.Market.{market, sender};
 ghost use Rattle.order_handler.specs.Parts.{answer_of};
 ghost use Rattle.order_handler.specs.Shown.{IsNotShown, IsShown};
+ghost use Rattle.venue_request.specs.Market.{market_of};
+ghost use Rattle.venue_request.specs.Senders.{sender};
 
 use crate::answer::OrderAnswer;
 use crate::listing::instrument_of;
 use fix_dictionary::MarketDataRequest;
 use instruments::Instruments;
-use participants::Participants;
 use price_book::{PriceBook, book_is_read_alone};
-use std::alloc::{AllocError, Global};
+use std::alloc::AllocError;
+use venue_request::Request;
 use venue_rules::{
-    BookSnapshot, MarketDataRefusal, MarketDataReject, Reply, ReplyBody, SnapshotEntries, Taken,
+    BookSnapshot, MarketDataRefusal, MarketDataReject, Reply, ReplyBody, SnapshotEntries,
 };
 
 /// The requested instrument, or the first cause to refuse its snapshot.
 #[tactic(auto, using(crate::proofs::Showing::showings))]
 fn asked_for(
     instruments: &Instruments,
-    request: &MarketDataRequest,
+    message: &MarketDataRequest,
 ) -> Result<u32, MarketDataRefusal>
-    ensures shown { IfOk result (IsShown instruments.now request.now) }
-    ensures refused { IfErr result (IsNotShown instruments.now request.now) }
+    ensures shown { IfOk result (IsShown instruments.now message.now) }
+    ensures refused { IfErr result (IsNotShown instruments.now message.now) }
 {
-    let Some(instrument) = instrument_of(instruments, &request.symbol) else {
+    let Some(instrument) = instrument_of(instruments, &message.symbol) else {
         return Err(MarketDataRefusal::UnknownInstrument);
     };
-    if request.subscription_type.get() != b'0' {
+    if message.subscription_type.get() != b'0' {
         return Err(MarketDataRefusal::SnapshotsOnly);
     }
-    if request.depth.get() != 0 {
+    if message.depth.get() != 0 {
         return Err(MarketDataRefusal::FullDepthOnly);
     }
     Ok(instrument)
@@ -44,59 +45,54 @@ fn asked_for(
 
 /// The snapshot of an instrument.
 fn shown(
-    alloc: Global,
+    request: &Request<'_>,
     book: &PriceBook,
-    taken: &Taken,
-    request: &MarketDataRequest,
+    message: &MarketDataRequest,
     instrument: u32,
 ) -> Result<OrderAnswer, AllocError>
-    ensures answer { IfOk result (λ a. answer_of a ≡ answers (reply taken.now.from (what.BookSnapshot (record { request_id = request.now.request_id; symbol = request.now.symbol; entries = picture book.now.facts instrument })) ∷ [])) }
+    ensures answer { IfOk result (λ a. answer_of a ≡ answers (reply request.now.taken.now.from (what.BookSnapshot (record { request_id = message.now.request_id; symbol = message.now.symbol; entries = picture book.now.facts instrument })) ∷ [])) }
     ensures quiet { IfOk result (λ a. (a.book ≡ []) × (a.delay ≡ [])) }
 {
+    let (alloc, to) = (request.turn.alloc, request.taken.from);
     let entries = book.picture(instrument)?;
     let what = ReplyBody::BookSnapshot(BookSnapshot {
-        request_id: request.request_id,
-        symbol: request.symbol,
+        request_id: message.request_id,
+        symbol: message.symbol,
         entries: SnapshotEntries::from_vec(entries),
     });
-    let to = taken.from;
     let replies = vec![in alloc; Reply { to, what }]?;
     Ok(OrderAnswer::of_replies(alloc, replies))
 }
 
 fn refused(
-    alloc: Global,
-    taken: &Taken,
-    request: &MarketDataRequest,
+    request: &Request<'_>,
+    message: &MarketDataRequest,
     cause: MarketDataRefusal,
 ) -> Result<OrderAnswer, AllocError>
-    ensures answer { IfOk result (λ a. answer_of a ≡ answers (reply taken.now.from (what.MarketDataReject (record { request_id = request.now.request_id; cause = cause })) ∷ [])) }
+    ensures answer { IfOk result (λ a. answer_of a ≡ answers (reply request.now.taken.now.from (what.MarketDataReject (record { request_id = message.now.request_id; cause = cause })) ∷ [])) }
     ensures quiet { IfOk result (λ a. (a.book ≡ []) × (a.delay ≡ [])) }
 {
+    let (alloc, to) = (request.turn.alloc, request.taken.from);
     let what = ReplyBody::MarketDataReject(MarketDataReject {
-        request_id: request.request_id,
+        request_id: message.request_id,
         cause,
     });
-    let to = taken.from;
     let replies = vec![in alloc; Reply { to, what }]?;
     Ok(OrderAnswer::of_replies(alloc, replies))
 }
 
 /// The answer to a request for market data; it changes nothing.
 pub fn plan_prices(
-    alloc: Global,
-    participants: &Participants,
-    instruments: &Instruments,
+    request: &Request<'_>,
     book: &PriceBook,
-    taken: &Taken,
-    request: &MarketDataRequest,
+    message: &MarketDataRequest,
 ) -> Result<OrderAnswer, AllocError>
-    ensures planned { IfOk result (λ a. (h : History) → book_facts h.facts ≡ book.now.facts → answer_of a ≡ answer_market_data (market participants.now instruments.now) h (sender taken.now) request.now) }
+    ensures planned { IfOk result (λ a. (h : History) → book_facts h.facts ≡ book.now.facts → answer_of a ≡ answer_market_data (market_of request.now.turn.market) h (sender request.now.taken.now) message.now) }
     ensures quiet { IfOk result (λ a. (a.book ≡ []) × (a.delay ≡ [])) }
 {
     book_is_read_alone();
-    match asked_for(instruments, request) {
-        Ok(instrument) => shown(alloc, book, taken, request, instrument),
-        Err(cause) => refused(alloc, taken, request, cause),
+    match asked_for(request.turn.market.instruments, message) {
+        Ok(instrument) => shown(request, book, message, instrument),
+        Err(cause) => refused(request, message, cause),
     }
 }

@@ -3,14 +3,14 @@ ghost use Rattle.std.specs.Prelude.{◌≡◌, ◌≤◌, ◌<◌, ◌+◌, ◌-
 ghost use Rattle.venue_rules.specs.Book.{is_day};
 ghost use Rattle.venue_rules.specs.Answer.{numbered};
 ghost use Rattle.venue_rules.specs.declared.replies.ReplyBody.TheVariants as what;
+ghost use Rattle.venue_request.specs.Counting.{AreCounts};
 ghost use Rattle.order_handler.specs.Reports.{entry_report, filled_reply, reports_of, rest_reports, replaced_reports, resting_report, total, walked};
 
 use fix_dictionary::{Amount, Identifier};
 use price_book::FilledOrder;
-use std::alloc::{AllocError, Global};
-use venue_rules::{
-    ChangedReport, Entry, FilledReport, OrderReport, Reply, ReplyBody, TimeInForce, Who,
-};
+use std::alloc::AllocError;
+use venue_request::{Request, Turn};
+use venue_rules::{ChangedReport, Entry, FilledReport, OrderReport, Reply, ReplyBody, TimeInForce};
 
 /// A report on an entering order.
 pub(crate) fn entry_report(
@@ -134,59 +134,65 @@ pub(crate) fn add_fills(
     Ok(())
 }
 
-/// The reports of an entering order, numbered on from `reports`; the first trade is `trade`.
+/// The reports of an order that enters in a turn.
 pub(crate) fn entry_replies(
-    alloc: Global,
+    turn: &Turn<'_>,
     symbol: &Identifier,
     entry: &Entry,
     fills: &[FilledOrder],
-    trade: u64,
-    reports: u64,
 ) -> Result<Vec<Reply>, AllocError>
-    requires numbers { (reports + 1 < 2 ^ 62) × (trade ≤ 2 ^ 63) }
+    requires number { AreCounts turn.now.counts }
     requires few { length fills.now ≤ 200 }
     requires within { (k : ℕ) → total (take k fills.now) ≤ entry.now.order.quantity }
     requires first { entry.now.filled_before ≡ 0 }
-    ensures replies { IfOk result (λ v. v.items ≡ numbered reports (reports_of symbol.now entry.now trade fills.now)) }
+    ensures replies { IfOk result (λ v. v.items ≡ numbered turn.now.counts.reports (reports_of symbol.now entry.now (turn.now.counts.trades + 1) fills.now)) }
     ensures few { IfOk result (λ v. length v.items ≤ 402) }
 {
+    let (alloc, report) = (turn.alloc, turn.counts.reports + 1);
     let left = Amount::new(entry.order.quantity.get());
-    let new = entry_report(symbol, entry, left, Amount::new(0), reports + 1);
+    let new = entry_report(symbol, entry, left, Amount::new(0), report);
     let mut replies = vec![in alloc;
         Reply {
             to: entry.order.who,
             what: ReplyBody::OrderEntered(new),
         },
     ]?;
-    add_fills(&mut replies, symbol, entry, fills, trade, reports + 1)?;
+    add_fills(
+        &mut replies,
+        symbol,
+        entry,
+        fills,
+        turn.counts.trades + 1,
+        report,
+    )?;
     Ok(replies)
 }
 
 /// The reports of a replacing order, the first one to the participant that asked for it.
 pub(crate) fn replaced_replies(
-    alloc: Global,
-    to: Who,
+    request: &Request<'_>,
     original_id: &Identifier,
     symbol: &Identifier,
     entry: &Entry,
     fills: &[FilledOrder],
-    trade: u64,
-    reports: u64,
 ) -> Result<Vec<Reply>, AllocError>
-    requires numbers { (reports + 1 < 2 ^ 62) × (trade ≤ 2 ^ 63) }
+    requires number { AreCounts request.now.turn.counts }
     requires few { length fills.now ≤ 200 }
     requires within { (k : ℕ) → total (take k fills.now) ≤ entry.now.order.quantity }
     requires whole { entry.now.filled_before + entry.now.order.quantity ≤ 10 ^ 15 }
-    ensures replies { IfOk result (λ v. v.items ≡ numbered reports (replaced_reports to original_id.now symbol.now entry.now trade fills.now)) }
+    ensures replies { IfOk result (λ v. v.items ≡ numbered request.now.turn.counts.reports (replaced_reports request.now.taken.now.from original_id.now symbol.now entry.now (request.now.turn.counts.trades + 1) fills.now)) }
     ensures few { IfOk result (λ v. length v.items ≤ 402) }
 {
+    let (alloc, counts) = (request.turn.alloc, request.turn.counts);
+    let (trade, report) = (counts.trades + 1, counts.reports + 1);
     let left = Amount::new(entry.order.quantity.get());
-    let order = entry_report(symbol, entry, left, entry.filled_before, reports + 1);
+    let order = entry_report(symbol, entry, left, entry.filled_before, report);
     let what = ReplyBody::OrderReplaced(ChangedReport {
         order,
         original_id: *original_id,
     });
+    let to = request.taken.from;
     let mut replies = vec![in alloc; Reply { to, what }]?;
-    add_fills(&mut replies, symbol, entry, fills, trade, reports + 1)?;
+    add_fills(&mut replies, symbol, entry, fills, trade, report)?;
     Ok(replies)
 }

@@ -1,0 +1,6 @@
+-- the market of the two files
+pub mod Market
+-- the sender of a message
+pub mod Senders
+-- counts of reports and trades
+pub mod Counting
