@@ -7,7 +7,7 @@ use Rattle.venue_rules.specs.declared.refusals.CrossRefusal.TheVariants as cross
 use Rattle.venue_rules.specs.Facts.{History, is_cross_id_used, is_order_id_used}
 use Rattle.venue_rules.specs.Book.{is_side}
 use Rattle.venue_rules.specs.Orders.{price_or_zero}
-use Rattle.order_handler.specs.declared.counts.Counts.{Counts}
+use Rattle.venue_request.specs.declared.counts.Counts.{Counts}
 use Rattle.order_handler.specs.Reads.{IsReadAlone}
 use Rattle.cross_handler.specs.declared.terms.Cause.TheVariants.{Refused, PriceMissing}
 use Rattle.cross_handler.specs.Crossing.{IsTurnedAway, are_ids_taken, is_quantity_wrong, is_unsupported}

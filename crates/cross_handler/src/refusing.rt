@@ -1,14 +1,16 @@
 //! Answers to refused crosses.
 ghost use Rattle.std.specs.Prelude.{◌≡◌, ◌<◌, ◌^◌, [], IfOk};
 ghost use Rattle.venue_rules.specs.Crosses.{cross_refused, side_refused};
-ghost use Rattle.order_handler.specs.Market.{sender};
+ghost use Rattle.venue_request.specs.Counting.{AreCounts};
+ghost use Rattle.venue_request.specs.Senders.{sender};
 ghost use Rattle.order_handler.specs.Parts.{answer_of};
 ghost use Rattle.cross_handler.specs.Crossing.{IsQuiet, rejection};
 
 use crate::terms::Cause;
 use fix_dictionary::{Amount, CrossSide, NewOrderCross};
 use order_handler::{OrderAnswer, business_reject};
-use std::alloc::{AllocError, Global};
+use std::alloc::AllocError;
+use venue_request::Request;
 use venue_rules::{
     BusinessRefusal, CrossRefusal, CrossRefused, OrderReport, Reply, ReplyBody, Taken,
 };
@@ -39,37 +41,36 @@ fn side_refused(
 
 /// Two reports refuse a cross, one for each side in the message's order.
 pub(crate) fn refused(
-    alloc: Global,
-    taken: &Taken,
+    request: &Request<'_>,
     cross: &NewOrderCross,
-    reports: u64,
     cause: CrossRefusal,
 ) -> Result<OrderAnswer, AllocError>
-    requires { reports < 2 ^ 61 }
-    ensures answer { IfOk result (λ a. answer_of a ≡ cross_refused (record { facts = []; reports = reports }) (sender taken.now) cross.now cause) }
+    requires { AreCounts request.now.turn.counts }
+    ensures answer { IfOk result (λ a. answer_of a ≡ cross_refused (record { facts = []; reports = request.now.turn.counts.reports }) (sender request.now.taken.now) cross.now cause) }
     ensures quiet { IfOk result IsQuiet }
 {
-    let report = reports + 1;
-    let first = side_refused(taken, cross, &cross.first, report, cause);
-    let second = side_refused(taken, cross, &cross.second, report + 1, cause);
+    let (alloc, report) = (request.turn.alloc, request.turn.counts.reports + 1);
+    let first = side_refused(request.taken, cross, &cross.first, report, cause);
+    let second = side_refused(request.taken, cross, &cross.second, report + 1, cause);
     let replies = vec![in alloc; first, second]?;
     Ok(OrderAnswer::of_replies(alloc, replies))
 }
 
 /// The answer to a cross refused before the book is asked.
 pub(crate) fn rejection(
-    alloc: Global,
-    taken: &Taken,
+    request: &Request<'_>,
     cross: &NewOrderCross,
-    reports: u64,
     cause: Cause,
 ) -> Result<OrderAnswer, AllocError>
-    requires { reports < 2 ^ 61 }
-    ensures answer { IfOk result (λ a. answer_of a ≡ rejection (record { facts = []; reports = reports }) (sender taken.now) cross.now cause) }
+    requires { AreCounts request.now.turn.counts }
+    ensures answer { IfOk result (λ a. answer_of a ≡ rejection (record { facts = []; reports = request.now.turn.counts.reports }) (sender request.now.taken.now) cross.now cause) }
     ensures quiet { IfOk result IsQuiet }
 {
     match cause {
-        Cause::Refused(cause) => refused(alloc, taken, cross, reports, cause),
-        Cause::PriceMissing => business_reject(alloc, taken, BusinessRefusal::PriceMissing),
+        Cause::Refused(cause) => refused(request, cross, cause),
+        Cause::PriceMissing => {
+            let missing = BusinessRefusal::PriceMissing;
+            business_reject(request.turn.alloc, request.taken, missing)
+        }
     }
 }
