@@ -2,6 +2,8 @@
 pub mod Lists
 -- rooms, by their plans
 pub mod Rooms
+-- causes of refusals
+pub mod Refused
 -- the answer to a request
 pub mod Requesting
 -- the answer to a withdrawal

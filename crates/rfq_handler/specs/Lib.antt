@@ -1,5 +1,5 @@
--- the sender of a message, as the rules have it
-pub mod Senders
+-- kinds of refusals
+pub mod Refused
 -- counts of reports
 pub mod Counting
 -- the participants that the rooms refer to

@@ -6,14 +6,13 @@ mod answer;
 mod business_reject;
 mod listing;
 mod quotes;
+mod refusals;
 mod requests;
 mod responses;
-mod sender;
 mod withdrawals;
 
 pub use answer::RoomAnswer;
 pub use quotes::plan_quote;
 pub use requests::plan_request;
 pub use responses::plan_response;
-pub use sender::Sender;
 pub use withdrawals::plan_withdrawal;

@@ -1,5 +1,5 @@
 //! QuoteRequest (R): sent to all its recipients in one answer (17 CFR 37.9(a)(3)).
-ghost use Rattle.std.specs.Prelude.{◌≡◌, true, map, codes, length, option_map, IfOk};
+ghost use Rattle.std.specs.Prelude.{◌≡◌, true, map, length, option_map, IfOk};
 ghost use Rattle.venue_rules.specs.Facts.{History};
 ghost use Rattle.venue_rules.specs.Requests.{answer_request, request_refused};
 ghost use Rattle.rfq_room.specs.RoomStore.{are_listed};
@@ -7,36 +7,35 @@ ghost use Rattle.rfq_room.specs.RoomFacts.{room_facts};
 ghost use Rattle.rfq_room.specs.Steps.{IsPlanOf};
 ghost use Rattle.rfq_handler.specs.Known.{are_known};
 ghost use Rattle.rfq_handler.specs.Read.{first_room};
-ghost use Rattle.rfq_handler.specs.Senders.{market, sent_by};
+ghost use Rattle.venue_request.specs.Market.{market_of};
+ghost use Rattle.venue_request.specs.Senders.{sender};
 ghost use Rattle.rfq_handler.specs.Sent.{request_sent};
 
 use crate::answer::RoomAnswer;
-use crate::sender::Sender;
+use crate::refusals::of_request;
 use fix_dictionary::{Identifier, QuoteRequest};
-use instruments::Instruments;
-use participants::{Participants, Who};
-use rfq_room::{Cause, RoomPlan, Rooms, rooms_decide};
-use sef_moment::Moment;
+use participants::Who;
+use rfq_room::{RoomPlan, Rooms, rooms_decide};
 use std::alloc::{AllocError, Global};
+use venue_request::Request;
 use venue_rules::{
     Fact, Reply, ReplyBody, RequestRefusal, RequestRefused, RequestSent, Room, symbol_of,
 };
 
 // The refusal of a request.
 fn refused(
-    alloc: Global,
-    sender: Sender,
-    request: &QuoteRequest,
+    request: &Request<'_>,
+    message: &QuoteRequest,
     cause: RequestRefusal,
 ) -> Result<RoomAnswer, AllocError>
-    ensures { IfOk result (λ a. a ≡ request_refused (sent_by sender (codes "R")) request.now cause) }
+    ensures { IfOk result (λ a. a ≡ request_refused (sender request.now.taken.now) message.now cause) }
 {
+    let (alloc, to) = (request.turn.alloc, request.taken.from);
     let what = ReplyBody::RequestRefused(RequestRefused {
-        id: request.request_id,
-        symbol: request.symbol,
+        id: message.request_id,
+        symbol: message.symbol,
         cause,
     });
-    let to = sender.who;
     let replies = vec![in alloc; Reply { to, what }]?;
     Ok(RoomAnswer::of(RoomPlan::nothing(alloc), replies, 0, 0))
 }
@@ -77,31 +76,29 @@ fn opened(plan: &RoomPlan) -> Option<&Room>
 
 /// The answer to a request for quotes; reserves memory for its plan.
 pub fn plan_request(
-    alloc: Global,
-    participants: &Participants,
-    instruments: &Instruments,
+    request: &Request<'_>,
     rooms: &mut Rooms,
-    sender: Sender,
-    request: &QuoteRequest,
-    moment: Moment,
+    message: &QuoteRequest,
 ) -> Result<RoomAnswer, AllocError>
     ensures kept { rooms.new.facts ≡ rooms.old.facts }
-    ensures planned { IfOk result (λ a. (h : History) → room_facts h.facts ≡ rooms.old.facts → a ≡ answer_request (market participants.now instruments.now) h (sent_by sender (codes "R")) request.now moment) }
+    ensures planned { IfOk result (λ a. (h : History) → room_facts h.facts ≡ rooms.old.facts → a ≡ answer_request (market_of request.now.turn.market) h (sender request.now.taken.now) message.now request.now.turn.moment) }
     ensures made { IfOk result (λ a. IsPlanOf rooms.new a.facts) }
-    ensures listed { IfOk result (λ a. are_listed (length instruments.now) a.facts ≡ true) }
-    ensures known { IfOk result (λ a. are_known (length participants.now.names) a.facts ≡ true) }
+    ensures listed { IfOk result (λ a. are_listed (length request.now.turn.market.instruments.now) a.facts ≡ true) }
+    ensures known { IfOk result (λ a. are_known (length request.now.turn.market.participants.now.names) a.facts ≡ true) }
 {
     rooms_decide();
-    match rooms.plan_ask(participants, instruments, sender.who, request, moment) {
+    let (market, who) = (&request.turn.market, request.taken.from);
+    let (participants, instruments) = (market.participants, market.instruments);
+    match rooms.plan_ask(participants, instruments, who, message, request.turn.moment) {
         Ok(plan) => {
             let room = opened(&plan).unwrap();
             let symbol = symbol_of(instruments, room.instrument);
-            let replies = sent_to_all(alloc, room, &symbol)?;
+            let replies = sent_to_all(request.turn.alloc, room, &symbol)?;
             Ok(RoomAnswer::of(plan, replies, 0, 0))
         }
-        Err(refusal) => match refusal.cause() {
-            Some(Cause::Request(cause)) => refused(alloc, sender, request, cause),
-            _ => Err(AllocError),
+        Err(refusal) => match of_request(refusal.cause()) {
+            Some(cause) => refused(request, message, cause),
+            None => Err(AllocError),
         },
     }
 }

@@ -1,6 +1,5 @@
 //! QuoteCancel (Z): the withdrawal of a quote, reported to its maker and to its requester.
-ghost use Rattle.std.specs.Prelude.{◌≡◌, ◌++◌, ℕ, List, [], Some, true, codes, length, flat_map, IfOk};
-ghost use Rattle.participants.specs.ParticipantFile.{ParticipantFile};
+ghost use Rattle.std.specs.Prelude.{◌≡◌, ◌++◌, ℕ, List, [], Some, true, length, flat_map, IfOk};
 ghost use Rattle.venue_rules.specs.declared.facts.RoomQuote.{RoomQuote as RoomQuoteValue};
 ghost use Rattle.venue_rules.specs.Facts.{History};
 ghost use Rattle.venue_rules.specs.Market.{Market};
@@ -11,17 +10,18 @@ ghost use Rattle.rfq_room.specs.RoomFacts.{room_facts};
 ghost use Rattle.rfq_room.specs.Steps.{IsPlanOf};
 ghost use Rattle.rfq_room.specs.Emitted.{withdrawal_emitted};
 ghost use Rattle.rfq_handler.specs.Known.{are_known};
-ghost use Rattle.rfq_handler.specs.Senders.{market, sent_by};
+ghost use Rattle.venue_request.specs.Market.{market_of};
+ghost use Rattle.venue_request.specs.Senders.{sender};
 ghost use Rattle.rfq_handler.specs.Sent.{both_emitted, named_status, to_maker, to_requester};
 
 use crate::answer::RoomAnswer;
 use crate::business_reject::business_reject;
-use crate::sender::Sender;
+use crate::refusals::of_withdrawal;
 use fix_dictionary::{Identifier, QuoteCancel};
 use instruments::Instruments;
-use rfq_room::{Cause, RoomPlan, Rooms, WithdrawalRefusal, rooms_decide};
-use sef_moment::Moment;
+use rfq_room::{RoomPlan, Rooms, WithdrawalRefusal, rooms_decide};
 use std::alloc::{AllocError, Global};
+use venue_request::Request;
 use venue_rules::{
     BusinessRefusal, QuoteState, QuoteStatus, Reply, ReplyBody, Room, RoomQuote,
     printed_identifier, symbol_of,
@@ -105,13 +105,13 @@ fn notify_all(
 
 // A report that names the quote as the message did, if it did.
 fn status(
-    alloc: Global,
-    sender: Sender,
+    request: &Request<'_>,
     quote_id: Option<Identifier>,
     state: QuoteState,
 ) -> Result<RoomAnswer, AllocError>
-    ensures { IfOk result (λ a. a ≡ named_status sender.who quote_id state) }
+    ensures { IfOk result (λ a. a ≡ named_status request.now.taken.now.from quote_id state) }
 {
+    let (alloc, to) = (request.turn.alloc, request.taken.from);
     let what = ReplyBody::QuoteStatus(QuoteStatus {
         quote_id,
         request_id: None,
@@ -119,17 +119,16 @@ fn status(
         symbol: None,
         state,
     });
-    let to = sender.who;
     let replies = vec![in alloc; Reply { to, what }]?;
     Ok(RoomAnswer::of(RoomPlan::nothing(alloc), replies, 0, 0))
 }
 
 // The identifier that a withdrawal of one quote names (QuoteCancelType, 298, is 5).
-fn named(request: &QuoteCancel) -> Option<Identifier>
-    ensures { result ≡ withdrawal_id request.now }
+fn named(message: &QuoteCancel) -> Option<Identifier>
+    ensures { result ≡ withdrawal_id message.now }
 {
-    if request.cancel_type.get() == 5 {
-        request.quote_id
+    if message.cancel_type.get() == 5 {
+        message.quote_id
     } else {
         None
     }
@@ -137,53 +136,47 @@ fn named(request: &QuoteCancel) -> Option<Identifier>
 
 // The refusal of a withdrawal.
 fn refused(
-    alloc: Global,
-    sender: Sender,
-    request: &QuoteCancel,
+    request: &Request<'_>,
+    message: &QuoteCancel,
     cause: WithdrawalRefusal,
 ) -> Result<RoomAnswer, AllocError>
     ensures quiet { IfOk result (λ a. a.facts ≡ []) }
-    ensures emitted { IfOk result (λ a. (m : Market) (h : History) (qs : List RoomQuoteValue) → a ≡ withdrawal_emitted m h (sent_by sender (codes "Z")) request.now qs (Some cause)) }
+    ensures emitted { IfOk result (λ a. (m : Market) (h : History) (qs : List RoomQuoteValue) → a ≡ withdrawal_emitted m h (sender request.now.taken.now) message.now qs (Some cause)) }
 {
     match cause {
         WithdrawalRefusal::QuoteMissing => {
-            business_reject(alloc, sender, b"Z", BusinessRefusal::QuoteMissing)
+            business_reject(request, BusinessRefusal::QuoteMissing)
         }
-        WithdrawalRefusal::NotFound => {
-            status(alloc, sender, named(request), QuoteState::NotFound)
-        }
+        WithdrawalRefusal::NotFound => status(request, named(message), QuoteState::NotFound),
         WithdrawalRefusal::Unsupported => {
-            let quote_id = request.quote_id;
-            status(alloc, sender, quote_id, QuoteState::CancelUnsupported)
+            status(request, message.quote_id, QuoteState::CancelUnsupported)
         }
     }
 }
 
 /// The answer to a withdrawal of quotes; reserves memory for its plan.
 pub fn plan_withdrawal(
-    alloc: Global,
-    instruments: &Instruments,
+    request: &Request<'_>,
     rooms: &mut Rooms,
-    sender: Sender,
-    request: &QuoteCancel,
-    moment: Moment,
+    message: &QuoteCancel,
 ) -> Result<RoomAnswer, AllocError>
-    requires { are_listed (length instruments.now) rooms.old.facts ≡ true }
+    requires { are_listed (length request.now.turn.market.instruments.now) rooms.old.facts ≡ true }
     ensures kept { rooms.new.facts ≡ rooms.old.facts }
-    ensures planned { IfOk result (λ a. (participants : ParticipantFile) (h : History) → room_facts h.facts ≡ rooms.old.facts → a ≡ answer_withdrawal (market participants instruments.now) h (sent_by sender (codes "Z")) request.now moment) }
+    ensures planned { IfOk result (λ a. (h : History) → room_facts h.facts ≡ rooms.old.facts → a ≡ answer_withdrawal (market_of request.now.turn.market) h (sender request.now.taken.now) message.now request.now.turn.moment) }
     ensures made { IfOk result (λ a. IsPlanOf rooms.new a.facts) }
     ensures listed { IfOk result (λ a. (count : ℕ) → are_listed count a.facts ≡ true) }
     ensures known { IfOk result (λ a. (count : ℕ) → are_known count a.facts ≡ true) }
 {
     rooms_decide();
-    match rooms.plan_withdraw(sender.who, request, moment) {
+    let (alloc, instruments) = (request.turn.alloc, request.turn.market.instruments);
+    match rooms.plan_withdraw(request.taken.from, message, request.turn.moment) {
         Ok(plan) => {
             let replies = notify_all(alloc, instruments, rooms, plan.quotes())?;
             Ok(RoomAnswer::of(plan, replies, 0, 0))
         }
-        Err(refusal) => match refusal.cause() {
-            Some(Cause::Withdrawal(cause)) => refused(alloc, sender, request, cause),
-            _ => Err(AllocError),
+        Err(refusal) => match of_withdrawal(refusal.cause()) {
+            Some(cause) => refused(request, message, cause),
+            None => Err(AllocError),
         },
     }
 }

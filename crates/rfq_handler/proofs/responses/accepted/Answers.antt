@@ -1,9 +1,9 @@
-use Rattle.std.proofs.Common.{◌≡◌, ◌∙◌, ap, sym, codes, length, is_some, option_map, Some}
+use Rattle.std.proofs.Common.{◌≡◌, ◌∙◌, ap, sym, length, is_some, option_map, Some}
 use Rattle.std.proofs.lemmas.Result.{IfOk-weaker}
 use Rattle.venue_rules.specs.Rooms.{find_quote}
 use Rattle.rfq_room.specs.Named.{quote_room}
 use Rattle.rfq_handler.specs.Read.{first_answered}
-use Rattle.rfq_handler.specs.Senders.{sent_by}
+use Rattle.venue_request.specs.Senders.{sender}
 use Rattle.rfq_handler.proofs.Lists.{is-there}
 use Rattle.rfq_handler.proofs.Responding.{answered-quote, number-there, quote-there, room-listed, room-of, emitted-of}
 use Rattle.rfq_handler.proofs.responses.accepted.Goals as goal
@@ -31,7 +31,7 @@ accepted_in-requires-clause-listed c =
     let number : Some c.unwrap-number.result ≡ first_answered c.args.plan.facts = sym c.unwrap-number.ensures ∙ c.answered_quote.ensures in
     let found : find_quote c.args.rooms.now.facts id ≡ Some c.unwrap-quote.result.now = sym (c.quote.ensures ∙ answered-quote c.args.rooms.now.facts id c.args.plan.facts c.unwrap-number.result c.requires.quote number) ∙ ap (option_map (λ q. q.now)) c.unwrap-quote.ensures in
     let room = sym (c.room.ensures ∙ room-of c.args.rooms.now.facts c.args.response.now.quote_id c.unwrap-quote.result.now found) ∙ ap (option_map (λ r. r.now)) c.unwrap-room.ensures in
-    room-listed (length c.args.instruments.now) c.args.rooms.now.facts c.args.response.now.quote_id c.unwrap-room.result.now c.requires.listed room
+    room-listed (length c.args.request.now.turn.market.instruments.now) c.args.rooms.now.facts c.args.response.now.quote_id c.unwrap-room.result.now c.requires.listed room
 
 pub returns-clause-emitted : goal.returns-clause-emitted
 returns-clause-emitted c =
@@ -39,4 +39,4 @@ returns-clause-emitted c =
     let number : Some c.unwrap-number.result ≡ first_answered c.args.plan.facts = sym c.unwrap-number.ensures ∙ c.answered_quote.ensures in
     let found : find_quote c.args.rooms.now.facts id ≡ Some c.unwrap-quote.result.now = sym (c.quote.ensures ∙ answered-quote c.args.rooms.now.facts id c.args.plan.facts c.unwrap-number.result c.requires.quote number) ∙ ap (option_map (λ q. q.now)) c.unwrap-quote.ensures in
     let room = sym (c.room.ensures ∙ room-of c.args.rooms.now.facts c.args.response.now.quote_id c.unwrap-quote.result.now found) ∙ ap (option_map (λ r. r.now)) c.unwrap-room.ensures in
-    IfOk-weaker c.accepted_in.result _ _ (λ a e. emitted-of c.args.instruments.now c.args.rooms.now.facts c.args.reports c.args.traded (sent_by c.args.sender (codes "AJ")) c.args.response.now c.args.plan.hit a.replies c.unwrap-quote.result.now c.unwrap-room.result.now found room e) c.accepted_in.ensures.emitted
+    IfOk-weaker c.accepted_in.result _ _ (λ a e. emitted-of c.args.request.now.turn.market.instruments.now c.args.rooms.now.facts c.args.request.now.turn.counts.reports c.args.request.now.turn.counts.trades (sender c.args.request.now.taken.now) c.args.response.now c.args.plan.hit a.replies c.unwrap-quote.result.now c.unwrap-room.result.now found room e) c.accepted_in.ensures.emitted
