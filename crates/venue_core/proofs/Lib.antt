@@ -6,3 +6,4 @@ pub mod Listing
 pub mod Unsupported
 pub mod FirstQuotes
 pub mod Replaying
+pub mod Planning

@@ -15,8 +15,8 @@ use Rattle.venue_core.proofs.Parting.{both-all}
 
 -- a plan that may be made may be added
 pub made-added : (m : Market) (d : VenueState) (p : Part) → IsMade m d p → IsAddedTo d p
-made-added m d (OfOrders a) made = (made.parts.book_plan, made.parts.delay_plan, made.trades)
-made-added m d (OfRooms a read) made = (made.plan, made.trades, made.read)
+made-added m d (OfOrders a) made = (made.fit.book_plan, made.fit.delay_plan, made.trades)
+made-added m d (OfRooms a read) made = (made.fit.plan, made.trades, made.fit.read)
 
 passes : (p : Fact → Bool) (fs gs : List Fact) → fs ≡ gs → list_all p gs ≡ true → list_all p fs ≡ true
 passes p fs gs e h = ap (λ xs. list_all p xs) e ∙ h
@@ -24,8 +24,8 @@ passes p fs gs e h = ap (λ xs. list_all p xs) e ∙ h
 -- the additions keep to listed instruments and known participants
 pub still-listed : (m : Market) (d d' : VenueState) (p : Part) → standing d' ≡ with_part (standing d) p → AreNumbered d'.rooms.facts → IsMade m d p → IsListed m d → IsListed m d'
 still-listed m d d' (OfOrders a) e n made l = record {
-  book = passes (is_listed (length m.instruments)) d'.book.facts (d.book.facts ++ a.book) (ap (λ (s : VenueFacts). s.book) e) (both-all (is_listed (length m.instruments)) d.book.facts a.book l.book made.parts.book_listed);
-  delay = passes (is_listed (length m.instruments)) d'.held.facts (d.held.facts ++ a.delay) (ap (λ (s : VenueFacts). s.delay) e) (both-all (is_listed (length m.instruments)) d.held.facts a.delay l.delay made.parts.delay_listed);
+  book = passes (is_listed (length m.instruments)) d'.book.facts (d.book.facts ++ a.book) (ap (λ (s : VenueFacts). s.book) e) (both-all (is_listed (length m.instruments)) d.book.facts a.book l.book made.fit.book_listed);
+  delay = passes (is_listed (length m.instruments)) d'.held.facts (d.held.facts ++ a.delay) (ap (λ (s : VenueFacts). s.delay) e) (both-all (is_listed (length m.instruments)) d.held.facts a.delay l.delay made.fit.delay_listed);
   rooms = passes (is_room_listed (length m.instruments)) d'.rooms.facts d.rooms.facts (ap (λ (s : VenueFacts). s.rooms) e) l.rooms;
   known = passes (is_known (length m.participants.names)) d'.rooms.facts d.rooms.facts (ap (λ (s : VenueFacts). s.rooms) e) l.known;
   numbered = n;
@@ -33,8 +33,8 @@ still-listed m d d' (OfOrders a) e n made l = record {
 still-listed m d d' (OfRooms a read) e n made l = record {
   book = passes (is_listed (length m.instruments)) d'.book.facts d.book.facts (ap (λ (s : VenueFacts). s.book) e) l.book;
   delay = passes (is_listed (length m.instruments)) d'.held.facts d.held.facts (ap (λ (s : VenueFacts). s.delay) e) l.delay;
-  rooms = passes (is_room_listed (length m.instruments)) d'.rooms.facts (d.rooms.facts ++ a.facts) (ap (λ (s : VenueFacts). s.rooms) e) (both-all (is_room_listed (length m.instruments)) d.rooms.facts a.facts l.rooms made.listed);
-  known = passes (is_known (length m.participants.names)) d'.rooms.facts (d.rooms.facts ++ a.facts) (ap (λ (s : VenueFacts). s.rooms) e) (both-all (is_known (length m.participants.names)) d.rooms.facts a.facts l.known made.known);
+  rooms = passes (is_room_listed (length m.instruments)) d'.rooms.facts (d.rooms.facts ++ a.facts) (ap (λ (s : VenueFacts). s.rooms) e) (both-all (is_room_listed (length m.instruments)) d.rooms.facts a.facts l.rooms made.fit.listed);
+  known = passes (is_known (length m.participants.names)) d'.rooms.facts (d.rooms.facts ++ a.facts) (ap (λ (s : VenueFacts). s.rooms) e) (both-all (is_known (length m.participants.names)) d.rooms.facts a.facts l.known made.fit.known);
   numbered = n;
 }
 

@@ -13,7 +13,7 @@ use Rattle.venue_rules.specs.Answer.{business_reject}
 use Rattle.venue_rules.specs.Answers.{answer}
 use Rattle.venue_rules.specs.Facts.{History}
 use Rattle.venue_rules.specs.Market.{Market}
-use Rattle.order_handler.specs.Market.{sender}
+use Rattle.venue_request.specs.Senders.{sender}
 
 -- a message of an unknown type, or of one that only the venue sends
 abbrev pub IsUnsupported : App → Type 0

@@ -37,29 +37,33 @@ pub record HasTradeRoom (d : VenueState) (facts : List Fact) : Type 0 where
   pub room : trades_in facts ≤ d.traded.room
   pub few : trades_in facts ≤ 200
 
--- the parts may be applied, with spare capacity for their trades
-pub record IsOrderMade (m : Market) (d : VenueState) (a : Parts) : Type 0 where
-  pub parts : AreOrdersMade (length m.instruments) d.book d.held a
-  pub trades : HasTradeRoom d a.book
-
 -- the reading added with these facts, in every history of the state, with spare capacity for it
 pub record IsReadAdded (d : VenueState) (facts : List Fact) (read : Option RoomFact) : Type 0 where
   pub room : read_count read ≤ d.quoted.room
   pub right : (h : History) → IsStanding (standing d) h → IsReadWith h.facts facts read
 
--- the facts of a step of the rooms, within capacity with their trades, for listed instruments and known participants,
--- and with this reading
-pub record IsRoomMade (m : Market) (d : VenueState) (a : Answer) (first : Option RoomFact) : Type 0 where
+-- the facts of a step of the rooms, within capacity, for listed instruments and known participants, and with this
+-- reading
+pub record IsRoomFit (m : Market) (d : VenueState) (a : Answer) (first : Option RoomFact) : Type 0 where
   pub plan : IsRoomPlan d.rooms a.facts
-  pub trades : HasTradeRoom d a.facts
   pub listed : are_rooms_listed (length m.instruments) a.facts ≡ true
   pub known : are_known (length m.participants.names) a.facts ≡ true
   pub read : IsReadAdded d a.facts first
 
--- the facts may be added to the book, the held sides, the rooms and the trades
-abbrev pub IsMade : Market → VenueState → Part → Type 0
-IsMade m d (OfOrders a) = IsOrderMade m d a
-IsMade m d (OfRooms a read) = IsRoomMade m d a read
+-- the facts may be added to the book and the held sides, or to the rooms and the readings
+abbrev pub IsFit : Market → VenueState → Part → Type 0
+IsFit m d (OfOrders a) = AreOrdersMade (length m.instruments) d.book d.held a
+IsFit m d (OfRooms a read) = IsRoomFit m d a read
+
+-- the facts with the trades
+abbrev pub traded_by : Part → List Fact
+traded_by (OfOrders a) = a.book
+traded_by (OfRooms a read) = a.facts
+
+-- and their trades too
+pub record IsMade (m : Market) (d : VenueState) (p : Part) : Type 0 where
+  pub fit : IsFit m d p
+  pub trades : HasTradeRoom d (traded_by p)
 
 -- spare capacity for the additions to the book, the held sides, the rooms and the readings
 abbrev pub IsAddedTo : VenueState → Part → Type 0

@@ -4,10 +4,10 @@
 mod laws;
 mod market;
 mod messages;
-mod of_orders;
-mod of_rooms;
 mod plan;
+mod quotes;
 mod replay;
+mod ticks;
 mod unanswered;
 mod venue;
 mod venue_state;

@@ -1,6 +1,7 @@
 //! Plans: the additions of an input to the venue.
 ghost use Rattle.std.specs.Prelude.{◌≡◌, ◌≤◌};
-ghost use Rattle.venue_core.specs.Plan.{answer_of};
+ghost use Rattle.rfq_handler.specs.Counting.{trades_in};
+ghost use Rattle.venue_core.specs.Plan.{answer_of, traded_by};
 ghost use Rattle.venue_core.specs.declared.plan.Part.TheVariants.{OfOrders, OfRooms};
 
 use order_handler::OrderAnswer;
@@ -59,6 +60,17 @@ impl Plan {
         match &self.part {
             Part::OfOrders(answer) => answer.replies(),
             Part::OfRooms(answer, _) => answer.replies(),
+        }
+    }
+
+    /// The number of trades among the facts.
+    pub(crate) fn trades(&self) -> u64
+        ensures value { result ≡ trades_in (traded_by self.now) }
+        ensures few { result ≤ 200 }
+    {
+        match &self.part {
+            Part::OfOrders(answer) => answer.trades(),
+            Part::OfRooms(answer, _) => answer.trades(),
         }
     }
 

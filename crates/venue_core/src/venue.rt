@@ -10,8 +10,8 @@ ghost use Rattle.venue_core.specs.State.{standing};
 
 use crate::market::Market;
 use crate::messages::plan_message;
-use crate::of_orders::plan_due;
 use crate::plan::Plan;
+use crate::ticks::plan_due;
 use crate::venue_state::{VenueState, add_plan, new_day};
 use cross_delay::delay_is_read_alone;
 use instruments::Instruments;

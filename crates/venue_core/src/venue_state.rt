@@ -12,7 +12,7 @@ ghost use Rattle.venue_core.specs.declared.plan.Part.TheVariants.{OfOrders, OfRo
 
 use crate::plan::{Part, Plan};
 use cross_delay::Held;
-use order_handler::{Counts, OrderAnswer};
+use order_handler::OrderAnswer;
 use price_book::PriceBook;
 use rfq_handler::RoomAnswer;
 use rfq_room::Rooms;
@@ -20,6 +20,7 @@ use std::alloc::Global;
 use trade_history::{
     QuotedRooms, Trades, first_quote_is_read, later_quotes_are_read, numbers_go_on, trades_are_read,
 };
+use venue_request::Counts;
 use venue_rules::RoomFact;
 
 /// Book, rooms and held sides of a day, the count of execution reports (message 8), and the readings of its trades and

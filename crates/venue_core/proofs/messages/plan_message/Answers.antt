@@ -1,15 +1,10 @@
-use Rattle.std.proofs.Common.{◌∙◌, subst, sym}
-use Rattle.std.proofs.lemmas.Result.{IfOk-weaker}
+use Rattle.std.proofs.Common.{refl, arith}
 use Rattle.venue_core.specs.Files.{market_of}
-use Rattle.venue_core.specs.State.{standing}
-use Rattle.venue_core.proofs.Unsupported.{IsUnsupported, unsupported-answer}
+use Rattle.venue_core.proofs.Planning.{still-fit}
 use Rattle.venue_core.proofs.messages.plan_message.Goals as goal
 
-pub returns-in-BusinessMessageReject-clause-planned : goal.returns-in-BusinessMessageReject-clause-planned
-returns-in-BusinessMessageReject-clause-planned c = rw (sym c.get.ensures ∙ c.in-BusinessMessageReject.is) (λ h s. c.plan_nothing.ensures.planned (standing c.args.day.now) h s)
-
-pub returns-in-BusinessMessageReject-clause-made : goal.returns-in-BusinessMessageReject-clause-made
-returns-in-BusinessMessageReject-clause-made c = c.plan_nothing.ensures.made (market_of c.args.market.now) c.args.day.now
-
-pub returns-in-QuoteStatusReport-clause-planned : goal.returns-in-QuoteStatusReport-clause-planned
-returns-in-QuoteStatusReport-clause-planned c = IfOk-weaker c.plan_unsupported.result _ _ (λ p e h s. e (standing c.args.day.now) h s ∙ unsupported-answer (market_of c.args.market.now) h c.args.taken.now c.args.moment (subst IsUnsupported c.get.ensures c.in-QuoteStatusReport.is)) c.plan_unsupported.ensures.planned
+pub returns-clause-made : goal.returns-clause-made
+returns-clause-made c = record {
+  fit = still-fit (market_of c.args.market.now) c.answer_message.new.day _ c.in_ok-plan.plan (record { book = refl; rooms = refl; held = refl; quoted = refl; trades = c.reserve.ensures.kept; reports = refl }) c.in_ok-plan.ensures.fit;
+  trades = record { room = omega (arith, c.trades.ensures.value, c.in_ok-reserve.ensures.room); few = omega (arith, c.trades.ensures.value, c.trades.ensures.few) };
+}
