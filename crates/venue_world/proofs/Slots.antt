@@ -1,6 +1,7 @@
 -- An act at one slot, by all sides.
 use Rattle.std.proofs.Common.{◌≡◌, ℕ, zero, suc, ◌+◌, ◌<◌, ◌≤◌, Bool, true, false, List, [], ◌∷◌, ◌++◌, length, map, max, take, get_or, set, length-set, refl, sym, ap, ◌∙◌, arith, subst, Option, Some, None, Result, Ok, Err}
-use Rattle.std.specs.Prelude.{IfErr, IfOk, OnErr, OnOk, if◌then◌else◌, is_some, slice_get}
+use Rattle.std.specs.Prelude.{IfErr, IfOk, IsSome, OnErr, OnOk, if◌then◌else◌, is_some, slice_get}
+use Rattle.fix_dictionary.specs.declared.messages.Item.{Item}
 use Rattle.fix_session.specs.Reader.{Reader}
 use Rattle.fix_session.specs.Machine.{step}
 use Rattle.fix_session.specs.declared.plan.Step.{Step}
@@ -11,17 +12,19 @@ use Rattle.outbound_queue.specs.declared.outgoing.Outgoing.TheVariants.{Cut}
 use Rattle.outbound_queue.specs.declared.queue.Queue.{Queue}
 use Rattle.venue_engine.specs.Ledger.{Ledger}
 use Rattle.venue_engine.specs.Queued.{AreEmpty, IsCut}
-use Rattle.venue_engine.specs.Step.{IsFront}
+use Rattle.venue_engine.specs.Step.{IsDue, IsFront, IsTick}
 use Rattle.venue_rules.specs.declared.trail.EventFault.{EventFault}
 use Rattle.venue_rules.specs.declared.trail.EventFault.TheVariants.{Behind, Due, Down, NoMemory, TrailRefused}
 use Rattle.venue_world.specs.declared.world_event.SessionEvent.{SessionEvent}
 use Rattle.venue_world.specs.declared.world_event.SessionEvent.TheVariants.{Pieces, Steps, Ticks, Breaks, Resumes, Hands, Delivers, Collects, Cuts, Writes}
 use Rattle.venue_world.specs.declared.session_slot.SessionSlot.{SessionSlot}
+use Rattle.venue_world.specs.Memory.{MayFail}
 use Rattle.venue_world.specs.Seen.{takes_memory}
 use Rattle.venue_world.specs.Side.{Side, delivered, does, fresh_side}
 use Rattle.venue_world.specs.Slots.{AreFreshSlots, IsCauseAlone, IsDoneAt, IsFreshSlot, IsStillAt, side_of, sides_of}
+use Rattle.venue_world.specs.Taken.{IsTake}
 use Rattle.venue_world.specs.World.{ids_of, refusal_at}
-use Rattle.venue_world.proofs.Places.{set_same, some_at}
+use Rattle.venue_world.proofs.Places.{parts_at, set_same, some_at}
 
 -- a failing act of one side may allocate
 pub free_at : {A : Type 0} (i : ℕ) (x : SessionEvent) (side : Option Side) (result : Result A EventFault) → IfErr result (λ fault. IsCauseAlone (refusal_at i x side) x fault) → OnErr result (takes_memory x ≡ true)
@@ -130,6 +133,33 @@ pub answer_of_slot : (r : Reader) (t : ℕ) (result : Result Step EventFault) (s
     → IfOk result (λ answer. answer ≡ (step r d.session.state (max d.moment t)).1) → IfOk result (λ answer. answer ≡ (step r s.session (max s.moment t)).1)
 answer_of_slot r t result slots i d d0 q s d_at d0_at is emitted =
     subst (λ (z : Side). IfOk result (λ answer. answer ≡ (step r z.session (max z.moment t)).1)) (ap (λ (x : SessionSlot). side_of x q) (same_slot slots i d d0 d_at d0_at) ∙ sym is) emitted
+
+-- where an act at a slot may fail, it may at the side
+pub asked_at_slot : {A : Type 0} (r : Reader) (x : SessionEvent) (result : Result A EventFault) (slots : List SessionSlot) (i : ℕ) (d : SessionSlot) (queues : List Queue) → slice_get slots i ≡ Some d
+    → ((q : Queue) → OnErr result (MayFail r x (side_of d q))) → IfErr result (λ fault. fault ≡ NoMemory → (s : Side) → slice_get (sides_of slots queues) i ≡ Some s → MayFail r x s)
+asked_at_slot r x (Ok y) slots i d queues d_at asked = tt
+asked_at_slot r x (Err fault) slots i d queues d_at asked = λ is s s_at.
+    let p = parts_at slots queues i s s_at in
+    subst (λ (z : Side). MayFail r x z) (ap (λ (y : SessionSlot). side_of y p.1) (same_slot slots i d p.0 d_at p.2) ∙ sym p.4) (asked p.1)
+
+-- a message that could not be answered for memory is in its seat
+pub asked_of_take : (i t : ℕ) (result : Result (Unit {0}) EventFault) (slots slots' : List SessionSlot) (l l' : Ledger) (queues : List Queue) → IsTake i t slots slots' l l' result
+    → IfErr result (λ fault. fault ≡ NoMemory → (s : Side) → slice_get (sides_of slots queues) i ≡ Some s → IsSome s.seat)
+asked_of_take i t (Ok y) slots slots' l l' queues took = tt
+asked_of_take i t (Err NoMemory) slots slots' l l' queues took = λ is s s_at.
+    let p = parts_at slots queues i s s_at in
+    let d = took.1.0 in
+    let same = same_slot slots i d p.0 took.1.1 p.2 in
+    subst (λ (seat : Option Item). IsSome seat) (sym took.1.2 ∙ ap (λ (x : SessionSlot). x.seat) same ∙ ap (λ (z : Side). z.seat) (sym p.4)) refl
+asked_of_take i t (Err (Behind j)) slots slots' l l' queues took = λ is. cc
+asked_of_take i t (Err TrailRefused) slots slots' l l' queues took = λ is. cc
+asked_of_take i t (Err Due) slots slots' l l' queues took = λ is. cc
+asked_of_take i t (Err (Down j)) slots slots' l l' queues took = λ is. cc
+
+-- a side that could not enter for memory is due
+pub asked_of_tick : (t : ℕ) (result : Result Bool EventFault) (l l' : Ledger) → IsTick t l l' result → IfErr result (λ fault. fault ≡ NoMemory → IsDue l.stands t true)
+asked_of_tick t (Ok b) l l' tick = tt
+asked_of_tick t (Err fault) l l' tick = λ is. tick.due
 
 pub wire_of_slot : (wire : List ℕ) (slots : List SessionSlot) (i : ℕ) (d d0 : SessionSlot) (q : Queue) (s : Side) → slice_get slots i ≡ Some d → slice_get slots i ≡ Some d0 → s ≡ side_of d0 q → wire ≡ d.session.state.wire → wire ≡ s.session.wire
 wire_of_slot wire slots i d d0 q s d_at d0_at is taken = taken ∙ ap (λ (z : Side). z.session.wire) (ap (λ (x : SessionSlot). side_of x q) (same_slot slots i d d0 d_at d0_at) ∙ sym is)

@@ -115,14 +115,6 @@ happened (Err x ∷ results) [] = []
 happened (Ok x ∷ results) (e ∷ events) = act_of e ∷ happened results events
 happened (Err x ∷ results) (e ∷ events) = happened results events
 
--- the events were done one after another: each with result Ok had its effect, and each fault changed nothing
-abbrev pub AreSteps : {A : Type 0} → Reader → Seen → List (Result A EventFault) → List Event → Seen → Type 0
-AreSteps r s [] events s' = s ≡ s'
-AreSteps r s (Ok x ∷ results) [] s' = ⊥
-AreSteps r s (Err f ∷ results) [] s' = ⊥
-AreSteps r s (Ok x ∷ results) (e ∷ events) s' = (between : Seen) × Done r (act_of e) s between × AreSteps r between results events s'
-AreSteps r s (Err f ∷ results) (e ∷ events) s' = (between : Seen) × Undone (act_of e) s between f × AreSteps r between results events s'
-
 -- After these events a property of all acts holds: of any acts that led from a new world to the one before them,
 -- followed by the events with result Ok.
 abbrev pub Holds : {A : Type 0} → (Reader → Market → List WorldEvent → Type 0) → Seen → List (Result A EventFault) → List Event → Type 0

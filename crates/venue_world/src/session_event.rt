@@ -1,9 +1,10 @@
 //! Events of one participant's side alone.
 
-ghost use Rattle.std.specs.Prelude.{◌≡◌, ◌<◌, max, length, None, Some, is_some, IfErr, IfOk, OnOk, OnErr};
+ghost use Rattle.std.specs.Prelude.{◌≡◌, ◌<◌, true, max, length, None, Some, is_some, IfErr, IfOk, OnOk, OnErr};
 ghost use Rattle.fix_session.specs.Reader.{Reader};
 ghost use Rattle.fix_session.specs.Machine as machine;
 ghost use Rattle.outbound_queue.specs.declared.queue.Queue.{Queue};
+ghost use Rattle.venue_world.specs.Memory.{IsReply, MayFail};
 ghost use Rattle.venue_world.specs.Slots.{IsCauseAlone, IsDoneAt, IsStillAt, side_of};
 ghost use Rattle.venue_world.specs.Side.{does, wire_taken};
 ghost use Rattle.venue_world.specs.World.{refusal_at};
@@ -30,6 +31,7 @@ pub(crate) fn does<K: Keep + Drop>(
     ensures allowed { (q : Queue) → OnOk result (refusal_at who doing.now (Some (side_of slot.old q)) ≡ None) }
     ensures err { OnErr result (IsStillAt place slot.old slot.new engine.old engine.new) }
     ensures cause { (q : Queue) → IfErr result (λ fault. IsCauseAlone (refusal_at who doing.now (Some (side_of slot.old q))) doing.now fault) }
+    ensures asked { (r : Reader) (q : Queue) → OnErr result (MayFail r doing.now (side_of slot.old q)) }
 {
     match doing {
         SessionEvent::Delivers => {
@@ -70,6 +72,7 @@ fn receive(slot: &mut SessionSlot, bytes: &[u8]) -> Result<(), EventFault>
     ensures ok { (r : Reader) (q : Queue) → OnOk result (side_of slot.new q ≡ does r (SessionEvent.Pieces bytes.now) (side_of slot.old q)) }
     ensures err { (q : Queue) → OnErr result (side_of slot.new q ≡ side_of slot.old q) }
     ensures cause { IfErr result (λ fault. fault ≡ EventFault.NoMemory) }
+    ensures up { OnErr result (slot.old.session.state.line.up ≡ true) }
 {
     match slot.session.push_bytes(bytes) {
         Ok(()) => Ok(()),
@@ -82,6 +85,7 @@ pub(crate) fn step(slot: &mut SessionSlot, t: Moment) -> Result<Step, EventFault
     ensures ok { (r : Reader) (q : Queue) → OnOk result (side_of slot.new q ≡ does r (SessionEvent.Steps t) (side_of slot.old q)) }
     ensures err { (q : Queue) → OnErr result (side_of slot.new q ≡ side_of slot.old q) }
     ensures cause { IfErr result (λ fault. fault ≡ EventFault.NoMemory) }
+    ensures frame { (r : Reader) → OnErr result (machine.HasFrame r slot.old.session.state) }
 {
     let t = later(slot.moment, t);
     match slot.session.step(t) {
@@ -97,6 +101,7 @@ fn tick(slot: &mut SessionSlot, t: Moment) -> Result<(), EventFault>
     ensures ok { (r : Reader) (q : Queue) → OnOk result (side_of slot.new q ≡ does r (SessionEvent.Ticks t) (side_of slot.old q)) }
     ensures err { (q : Queue) → OnErr result (side_of slot.new q ≡ side_of slot.old q) }
     ensures cause { IfErr result (λ fault. fault ≡ EventFault.NoMemory) }
+    ensures sends { OnErr result ((machine.tick slot.old.session.state (max slot.old.moment t)).1 ≡ Step.Did) }
 {
     let t = later(slot.moment, t);
     match slot.session.tick(t) {
@@ -154,6 +159,7 @@ fn collect(slot: &mut SessionSlot, who: Who, t: Moment) -> Result<(), EventFault
     ensures allowed { (q : Queue) → OnOk result (refusal_at who (SessionEvent.Collects t) (Some (side_of slot.old q)) ≡ None) }
     ensures err { (q : Queue) → OnErr result (side_of slot.new q ≡ side_of slot.old q) }
     ensures cause { (q : Queue) → IfErr result (λ fault. IsCauseAlone (refusal_at who (SessionEvent.Collects t) (Some (side_of slot.old q))) (SessionEvent.Collects t) fault) }
+    ensures reply { OnErr result (IsReply slot.old.reply) }
 {
     let t = later(slot.moment, t);
     match slot.reply.take() {

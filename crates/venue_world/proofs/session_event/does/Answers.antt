@@ -56,3 +56,15 @@ returns-in-Collects-clause-allowed g c = rw c.in-Collects.is c.collect.ensures.a
 
 pub returns-in-Collects-clause-cause : goal.returns-in-Collects-clause-cause
 returns-in-Collects-clause-cause g c = rw c.in-Collects.is c.collect.ensures.cause
+
+pub returns-in-Pieces-clause-asked : goal.returns-in-Pieces-clause-asked
+returns-in-Pieces-clause-asked g c = rw c.in-Pieces.is (λ r q. c.receive.ensures.up)
+
+pub returns-in-Ticks-clause-asked : goal.returns-in-Ticks-clause-asked
+returns-in-Ticks-clause-asked g c = rw c.in-Ticks.is (λ r q. c.tick.ensures.sends)
+
+pub returns-in-Collects-clause-asked : goal.returns-in-Collects-clause-asked
+returns-in-Collects-clause-asked g c = rw c.in-Collects.is (λ r q. c.collect.ensures.reply)
+
+pub returns-in-Err-clause-asked : goal.returns-in-Err-clause-asked
+returns-in-Err-clause-asked g c = rw c.in-Steps.is (λ r q. c.in-Err.ensures.frame r)

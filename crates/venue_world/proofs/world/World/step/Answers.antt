@@ -3,13 +3,14 @@ use Rattle.std.specs.Prelude.{IfErr, OnOk, slice_get, Some}
 use Rattle.venue_rules.specs.declared.trail.EventFault.{EventFault}
 use Rattle.venue_world.specs.declared.world_event.WorldEvent.TheVariants.{Alone}
 use Rattle.venue_world.specs.declared.world_event.SessionEvent.TheVariants.{Steps}
+use Rattle.venue_world.specs.Memory.{HasAsked}
 use Rattle.venue_world.specs.Seen.{Done, Seen, Undone}
 use Rattle.venue_world.specs.Side.{does}
 use Rattle.venue_world.specs.Slots.{seen, sides_of}
 use Rattle.venue_world.specs.World.{at}
 use Rattle.venue_world.proofs.Places.{length-sides, parts_at, read_at}
 use Rattle.venue_world.proofs.Shows.{alone_err, alone_ok}
-use Rattle.venue_world.proofs.Slots.{allowed_always, no_memory, own_err, own_ok, answer_of_slot}
+use Rattle.venue_world.proofs.Slots.{allowed_always, asked_at_slot, no_memory, own_err, own_ok, answer_of_slot}
 use Rattle.venue_world.proofs.world.World.step.Goals as goal
 
 pub invariant_of-self : goal.invariant_of-self
@@ -89,3 +90,19 @@ index_mut-requires g c =
     let is = c.place-place.ensures in
     let ok = c.self.inside.slots.ok.0 in
     omega (arith, c.requires, seen_long, long, is, ok)
+
+pub returns-clause-asked : goal.returns-clause-asked
+returns-clause-asked g c = λ r.
+    let inv = c.self.invariant in
+    let l = c.self.inside.engine in
+    let slots = c.self.inside.slots.items in
+    let long = length-sides slots l.queues inv.0 in
+    let seen_long = ap (λ (o : Seen). length o.sides) c.self.view_is in
+    let is = c.place-place.ensures in
+    let i = c.place-place.result in
+    let low : i < length slots = omega (arith, c.requires, seen_long, long, is) in
+    let d = c.index_mut.result.now in
+    let d_at = read_at slots i d low c.index_mut.ensures.value in
+    subst (λ (n : ℕ). IfErr c.step.result (λ (fault : EventFault). HasAsked r (Alone n (Steps c.args.t)) c.args.self.now fault)) is
+    (subst (λ (o : Seen). IfErr c.step.result (λ (fault : EventFault). HasAsked r (Alone i (Steps c.args.t)) o fault)) c.self.view_is
+    (asked_at_slot r (Steps c.args.t) c.step.result slots i d l.queues d_at (λ q. c.step.ensures.frame r)))
