@@ -1,7 +1,9 @@
 -- Participants drained, one after another.
-use Rattle.std.proofs.Common.{◌≡◌, ◌≢◌, ◌⊎◌, inl, inr, ℕ, zero, suc, ◌+◌, ◌≤◌, ◌<◌, Bool, true, false, List, [], ◌∷◌, ◌++◌, length, set, get_or, refl, sym, ap, ◌∙◌, subst, arith, append_assoc, append-nil, length-set}
-use Rattle.std.specs.Prelude.{slice_get, Some}
+use Rattle.std.proofs.Common.{◌≡◌, ◌≢◌, ◌⊎◌, inl, inr, ℕ, zero, suc, ◌+◌, ◌≤◌, ◌<◌, Bool, true, false, List, [], ◌∷◌, ◌++◌, length, set, get_or, ◌-◌, refl, sym, ap, ◌∙◌, subst, arith, append_assoc, append-nil, length-append, length-set}
+use Rattle.std.specs.Prelude.{◌||◌, ◌&&◌, if◌then◌else◌, nat_le, slice_get, Some}
+use Rattle.std.specs.VecDeque.{deque_len}
 use Rattle.std.proofs.lemmas.Bool.{false≢true}
+use Rattle.std.proofs.lemmas.Bool.Decides.{nat_tests}
 use Rattle.intake_seats.specs.Given.{HandEnd}
 use Rattle.outbound_queue.specs.declared.outgoing.Outgoing.{Outgoing}
 use Rattle.outbound_queue.specs.declared.queue.Queue.{Queue}
@@ -9,8 +11,8 @@ use Rattle.venue_worker.specs.Work.{Work}
 use Rattle.venue_engine.specs.Queued.{IsCut}
 use Rattle.venue_worker.specs.Calls.{IsDelivery, Delivers, Cuts, IsSameElse, with_session, with_sessions}
 use Rattle.venue_worker.specs.Turns.{IsServed, AreServed}
-use Rattle.venue_worker.specs.Shutdown.{cut_token, IsSeenOff, AreDrained, CutsServed, SeesOff, AreServedUpTo, AreLookedAt}
-use Rattle.venue_worker.proofs.Lists.{at_set, at_below, below_at, some_at}
+use Rattle.venue_worker.specs.Shutdown.{AreCutAfter, AreDrained, AreGiven, AreGivenNothing, AreLookedAt, AreRounds, AreServedUpTo, CutsWhere, Gives, HasShutDown, HasWaited, IsDrained, IsOneGiven, IsRound, IsSeenOff, SeesOff, are_shut_down, cut_token, is_cut_after, is_idle}
+use Rattle.venue_worker.proofs.Lists.{at_set, at_below, below_at, get_set, other_set, some_at}
 use Rattle.venue_worker.proofs.Turning.{looks_grow, served_by}
 
 -- sentinels
@@ -79,32 +81,68 @@ set_same [] j a at = refl
 set_same (x ∷ xs) zero a at = (let same : a ≡ x = cc in ap (λ z. z ∷ xs) same)
 set_same (x ∷ xs) (suc j) a at = ap (λ z. x ∷ z) (set_same xs j a at)
 
-pub not_cut : (w : Work) (j : ℕ) → length w.ledger.queues ≡ length w.hands → j < length w.hands → CutsServed w w j
-not_cut w j long low =
-    let q = some_at w.ledger.queues j (omega (arith, low, long)) in
-    (q.0, q.0, q.1, ap (λ (z : List Queue). record w { ledger = record w.ledger { queues = z } }) (sym (set_same w.ledger.queues j q.0 q.1)), sym (without_cuts q.0.waiting.items q.0.is_cut q.0.is_cut refl), λ c. c)
+-- cuts
 
-pub cut_served : (old new : Work) (j : ℕ) → ((q : Queue) → slice_get old.ledger.queues j ≡ Some q → q.waiting.items ≡ []) → Cuts old new j → CutsServed old new j
-cut_served old new j none c = (let m = cut_tokens c.0 c.1 c.0.is_cut (none c.0 c.2) refl c.4 in (c.0, c.1, c.2, c.3, m.0, m.1))
+or_false : (b : Bool) → (b || false) ≡ b
+or_false true = refl
+or_false false = refl
 
-pub sees_then : (old mid new : Work) (j : ℕ) (moved : Bool) → CutsServed old mid j → Delivers mid new j moved → SeesOff j old new
-sees_then old mid new j moved c d = record {
-  was = c.0;
-  had = d.1;
-  is = d.2;
-  has = d.3;
-  queue = c.2;
-  hand = ap (λ (w : Work). slice_get w.hands j) (sym c.3) ∙ d.5;
-  other = d.6 ∙ ap (λ (w : Work). with_session w j d.2 d.3) c.3 ∙ ap (λ (z : List Queue). record old { ledger = record old.ledger { queues = z }; hands = set old.hands j d.3 }) (set_twice old.ledger.queues j c.1 d.2);
-  seen = seen_then c.0 c.1 d.2 d.1 d.1 d.3
-      (record { next = []; given = sym (append-nil d.1.given); waiting = c.4; still = c.5 })
-      (subst (λ (z : Queue). IsSeenOff z d.2 d.1 d.3) here (delivery_sees d.0 d.2 d.1 d.3 moved d.7.0 d.8));
-  looks = looks_grow d.0 d.2 d.1 d.3 moved d.8;
-  served = served_by d.0 d.2 d.1 d.3 moved d.8;
+or_true : (b : Bool) → (b || true) ≡ true
+or_true true = refl
+or_true false = refl
+
+and_right : (a b : Bool) → (a && b) ≡ true → b ≡ true
+and_right true b e = e
+and_right false b e = absurd (false≢true e)
+
+is_cut_now : (q q' : Queue) (b : Bool) → IsCut q q' b → q'.is_cut ≡ true
+is_cut_now q q' true c = c.1
+is_cut_now q q' false c = c.1
+
+none_waits : (q : Queue) → is_idle q ≡ true → q.waiting.items ≡ []
+none_waits q idle =
+    let empty : deque_len q.waiting ≡ 0 = grind (arith, nat_tests, idle) in
+    let long = q.waiting.ok.0 in
+    none_at q.waiting.items (omega (arith, long, empty))
+
+pub not_cut : (w : Work) (j : ℕ) (may_cut : Bool) → length w.ledger.queues ≡ length w.hands → j < length w.hands → ((q : Queue) → slice_get w.ledger.queues j ≡ Some q → (may_cut && is_idle q) ≡ false) → CutsWhere may_cut w w j
+not_cut w j may_cut long low busy =
+    let q = some_at w.ledger.queues j (omega (arith, low, long)) in (
+      (q.0, q.0, q.1, ap (λ (z : List Queue). record w { ledger = record w.ledger { queues = z } }) (sym (set_same w.ledger.queues j q.0 q.1)), sym (without_cuts q.0.waiting.items q.0.is_cut q.0.is_cut refl), λ c. c),
+      sym (ap (λ (b : Bool). q.0.is_cut || b) (busy q.0 q.1) ∙ or_false q.0.is_cut),
+    )
+
+pub cut_served : (old new : Work) (j : ℕ) (may_cut : Bool) → ((q : Queue) → slice_get old.ledger.queues j ≡ Some q → (may_cut && is_idle q) ≡ true) → Cuts old new j → CutsWhere may_cut old new j
+cut_served old new j may_cut idle c =
+    let m = cut_tokens c.0 c.1 c.0.is_cut (none_waits c.0 (and_right may_cut (is_idle c.0) (idle c.0 c.2))) refl c.4 in
+    ((c.0, c.1, c.2, c.3, m.0, m.1), is_cut_now c.0 c.1 c.0.is_cut c.4 ∙ sym (ap (λ (b : Bool). c.0.is_cut || b) (idle c.0 c.2) ∙ or_true c.0.is_cut))
+
+gives_of : (q q' : Queue) (h h' : HandEnd Outgoing) (moved : Bool) → IsDelivery q h q' h' moved → Gives moved h h'
+gives_of q q' h h' true d = (d.0, d.2)
+gives_of q q' h h' false d = d.1
+
+pub drains_then : (old mid new : Work) (j : ℕ) (may_cut moved : Bool) → CutsWhere may_cut old mid j → Delivers mid new j moved → IsDrained j may_cut moved old new
+drains_then old mid new j may_cut moved w d = record {
+  sees = record {
+    was = w.0.0;
+    had = d.1;
+    is = d.2;
+    has = d.3;
+    queue = w.0.2;
+    hand = ap (λ (w : Work). slice_get w.hands j) (sym w.0.3) ∙ d.5;
+    other = d.6 ∙ ap (λ (w : Work). with_session w j d.2 d.3) w.0.3 ∙ ap (λ (z : List Queue). record old { ledger = record old.ledger { queues = z }; hands = set old.hands j d.3 }) (set_twice old.ledger.queues j w.0.1 d.2);
+    seen = seen_then w.0.0 w.0.1 d.2 d.1 d.1 d.3
+        (record { next = []; given = sym (append-nil d.1.given); waiting = w.0.4; still = w.0.5 })
+        (subst (λ (z : Queue). IsSeenOff z d.2 d.1 d.3) here (delivery_sees d.0 d.2 d.1 d.3 moved d.7.0 d.8));
+    looks = looks_grow d.0 d.2 d.1 d.3 moved d.8;
+    served = served_by d.0 d.2 d.1 d.3 moved d.8;
+  };
+  cut = d.7.0 ∙ ap (λ (z : Queue). z.is_cut) here ∙ w.1;
+  gives = gives_of d.0 d.2 d.1 d.3 moved d.8;
 }
   where
-    here : d.0 ≡ c.1
-    here = at_itself old.ledger.queues j c.1 d.0 (ap (λ (w : Work). slice_get w.ledger.queues j) (sym c.3) ∙ d.4)
+    here : d.0 ≡ w.0.1
+    here = at_itself old.ledger.queues j w.0.1 d.0 (ap (λ (w : Work). slice_get w.ledger.queues j) (sym w.0.3) ∙ d.4)
 
 -- all participants
 
@@ -196,3 +234,153 @@ served_then a b c e l s k q' h h'' q'_at h_at h''_at some =
     let hand = get_or b.hands k h in
     let hand_at = at_below b.hands k h (subst (λ n. k < n) (sym e.2) (below_at a.hands k h h_at)) in
     served_later q' h hand h'' (l k h hand h_at hand_at) (s k q' hand h'' q'_at hand_at h''_at some)
+
+-- a round so far: who of the participants before the n-th was cut, and whether one of them was handed a message
+pub record IsRoundTo (n : ℕ) (may_cut moved : Bool) (old new : Work) : Type 0 where
+  pub cuts : AreCutAfter n may_cut old new
+  pub gives : AreGiven n moved old new
+  pub queues : (k : ℕ) → n ≤ k → slice_get new.ledger.queues k ≡ slice_get old.ledger.queues k
+  pub hands : (k : ℕ) → n ≤ k → slice_get new.hands k ≡ slice_get old.hands k
+
+pub round_begins : (may_cut : Bool) (w : Work) → IsRoundTo 0 may_cut false w w
+round_begins may_cut w = record {
+  cuts = λ k q q' low q_at q'_at. absurd (omega (arith, low));
+  gives = λ k h h' h_at h'_at. (let same : h' ≡ h = cc in ap (λ (z : HandEnd Outgoing). z.given) same);
+  queues = λ k high. refl;
+  hands = λ k high. refl;
+}
+
+other_queues : (n : ℕ) (b c : Work) (s : SeesOff n b c) (k : ℕ) → k ≢ n → slice_get c.ledger.queues k ≡ slice_get b.ledger.queues k
+other_queues n b c s k ne = ap (λ (w : Work). slice_get w.ledger.queues k) s.other ∙ other_set b.ledger.queues n k s.is ne
+
+other_hands : (n : ℕ) (b c : Work) (s : SeesOff n b c) (k : ℕ) → k ≢ n → slice_get c.hands k ≡ slice_get b.hands k
+other_hands n b c s k ne = ap (λ (w : Work). slice_get w.hands k) s.other ∙ other_set b.hands n k s.has ne
+
+one_later : (n : ℕ) (a b c : Work) → IsOneGiven n a b → SeesOff n b c → IsOneGiven (n + 1) a c
+one_later n a b c o s = record {
+  k = o.k;
+  low = (let l = o.low in omega (arith, l));
+  had = o.had;
+  has = o.has;
+  was = o.was;
+  is = other_hands n b c s o.k (λ e. (let l = o.low in omega (arith, l, e))) ∙ o.is;
+  gives = o.gives;
+}
+
+one_now : (n : ℕ) (a b c : Work) → slice_get b.hands n ≡ slice_get a.hands n → (s : SeesOff n b c) → Gives true s.had s.has → IsOneGiven (n + 1) a c
+one_now n a b c same s gives = record {
+  k = n;
+  low = omega arith;
+  had = s.had;
+  has = s.has;
+  was = sym same ∙ s.hand;
+  is = ap (λ (w : Work). slice_get w.hands n) s.other ∙ get_set b.hands n s.has (below_at b.hands n s.had s.hand);
+  gives = gives;
+}
+
+nothing_more : (n : ℕ) (a b c : Work) → AreGivenNothing a b → (s : SeesOff n b c) → Gives false s.had s.has → AreGivenNothing a c
+nothing_more n a b c none s same k h h' h_at h'_at = go (hand_seen n b c s k h' h'_at)
+  where
+    go : (((k ≡ n) × (h' ≡ s.has)) ⊎ ((k ≢ n) × (slice_get b.hands k ≡ Some h'))) → h'.given ≡ h.given
+    go (inl x) = ap (λ (z : HandEnd Outgoing). z.given) x.1 ∙ same ∙ none n h s.had (ap (slice_get a.hands) (sym x.0) ∙ h_at) s.hand
+    go (inr x) = none k h h' h_at x.1
+
+gives_more : (n : ℕ) (may_cut so_far moved : Bool) (a b c : Work) → slice_get b.hands n ≡ slice_get a.hands n → AreGiven n so_far a b → IsDrained n may_cut moved b c → AreGiven (n + 1) (so_far || moved) a c
+gives_more n may_cut true moved a b c same given d = one_later n a b c given d.sees
+gives_more n may_cut false true a b c same given d = one_now n a b c same d.sees d.gives
+gives_more n may_cut false false a b c same given d = nothing_more n a b c given d.sees d.gives
+
+cuts_more : (n : ℕ) (may_cut moved : Bool) (a b c : Work) → slice_get b.ledger.queues n ≡ slice_get a.ledger.queues n → AreCutAfter n may_cut a b → IsDrained n may_cut moved b c → AreCutAfter (n + 1) may_cut a c
+cuts_more n may_cut moved a b c same cuts d k q q' low q_at q'_at = go (queue_seen n b c d.sees k q' q'_at)
+  where
+    go : (((k ≡ n) × (q' ≡ d.sees.is)) ⊎ ((k ≢ n) × (slice_get b.ledger.queues k ≡ Some q'))) → q'.is_cut ≡ is_cut_after may_cut q
+    go (inl x) =
+        let was : d.sees.was ≡ q = (let y = sym d.sees.queue ∙ same ∙ ap (slice_get a.ledger.queues) (sym x.0) ∙ q_at in cc) in
+        ap (λ (z : Queue). z.is_cut) x.1 ∙ d.cut ∙ ap (λ (z : Queue). is_cut_after may_cut z) was
+    go (inr x) = cuts k q q' (let ne = x.0 in omega (arith, low, ne)) q_at x.1
+
+pub round_more : (n : ℕ) (may_cut so_far moved : Bool) (a b c : Work) → IsRoundTo n may_cut so_far a b → IsDrained n may_cut moved b c → IsRoundTo (n + 1) may_cut (so_far || moved) a c
+round_more n may_cut so_far moved a b c r d = record {
+  cuts = cuts_more n may_cut moved a b c (r.queues n (omega arith)) r.cuts d;
+  gives = gives_more n may_cut so_far moved a b c (r.hands n (omega arith)) r.gives d;
+  queues = λ k high. other_queues n b c d.sees k (λ e. omega (arith, high, e)) ∙ r.queues k (omega (arith, high));
+  hands = λ k high. other_hands n b c d.sees k (λ e. omega (arith, high, e)) ∙ r.hands k (omega (arith, high));
+}
+
+pub round_done : (n : ℕ) (may_cut moved : Bool) (old new : Work) → n ≡ length old.hands → IsSameElse old new → IsRoundTo n may_cut moved old new → IsRound may_cut moved old new
+round_done n may_cut moved old new all only r = record {
+  only = only;
+  cuts = subst (λ (z : ℕ). AreCutAfter z may_cut old new) all r.cuts;
+  gives = subst (λ (z : ℕ). AreGiven z moved old new) all r.gives;
+}
+
+-- the rounds so far, with the moment of the last progress
+pub record HasRounded (n since : ℕ) (answered answered' : List ℕ) (old new : Work) : Type 0 where
+  pub first : ℕ
+  pub moments : List ℕ
+  pub clock : answered' ≡ answered ++ first ∷ moments
+  pub count : length moments ≡ n
+  pub rounded : AreRounds first moments since old new
+
+pub rounds_begin : (since : ℕ) (answered answered' : List ℕ) (w : Work) → answered' ≡ answered ++ since ∷ [] → HasRounded 0 since answered answered' w w
+rounds_begin since answered answered' w is = record { first = since; moments = []; clock = is; count = refl; rounded = (refl, refl) }
+
+rounds_more : (first : ℕ) (moments : List ℕ) (since moment : ℕ) (moved : Bool) (old mid new : Work) → AreRounds first moments since old mid → IsRound (nat_le 500 (moment - since)) moved mid new
+    → AreRounds first (moments ++ moment ∷ []) (if moved then moment else since) old new
+rounds_more first [] since moment moved old mid new are round = (
+  moved,
+  new,
+  subst (λ (z : ℕ). IsRound (nat_le 500 (moment - z)) moved old new) are.0 (subst (λ (w : Work). IsRound (nat_le 500 (moment - since)) moved w new) are.1 round),
+  (ap (λ (z : ℕ). if moved then moment else z) are.0, refl),
+)
+rounds_more first (m ∷ moments) since moment moved old mid new are round =
+    (are.0, are.1, are.2, rounds_more (if are.0 then m else first) moments since moment moved are.1 mid new are.3 round)
+
+-- a round more, at the clock's next answer
+abbrev IsAnswered : ℕ → List ℕ → List ℕ → Type 0
+IsAnswered moment mid answered' = answered' ≡ mid ++ moment ∷ []
+
+clock_more : (first moment : ℕ) (moments answered mid answered' : List ℕ) → mid ≡ answered ++ first ∷ moments → IsAnswered moment mid answered' → answered' ≡ answered ++ first ∷ (moments ++ moment ∷ [])
+clock_more first moment moments answered mid answered' so_far is = is ∙ ap (λ (l : List ℕ). l ++ moment ∷ []) so_far ∙ append_assoc answered (first ∷ moments) (moment ∷ [])
+
+pub record HasNext (since since' moment idle : ℕ) (moved : Bool) (mid answered' : List ℕ) (w new : Work) : Type 0 where
+  pub clock : IsAnswered moment mid answered'
+  pub idle_is : idle ≡ moment - since
+  pub round : IsRound (nat_le 500 idle) moved w new
+  pub since_is : since' ≡ (if moved then moment else since)
+
+next_round : (first : ℕ) (moments : List ℕ) (since since' moment idle : ℕ) (moved : Bool) (mid answered' : List ℕ) (old w new : Work) → AreRounds first moments since old w → HasNext since since' moment idle moved mid answered' w new
+    → AreRounds first (moments ++ moment ∷ []) since' old new
+next_round first moments since since' moment idle moved mid answered' old w new are next =
+    subst (λ (z : ℕ). AreRounds first (moments ++ moment ∷ []) z old new) (sym next.since_is)
+    (rounds_more first moments since moment moved old w new are (subst (λ (z : ℕ). IsRound (nat_le 500 z) moved w new) next.idle_is next.round))
+
+pub rounds_next : (n since since' moment idle : ℕ) (moved : Bool) (answered mid answered' : List ℕ) (old w new : Work) → HasRounded n since answered mid old w → HasNext since since' moment idle moved mid answered' w new → HasRounded (n + 1) since' answered answered' old new
+rounds_next n since since' moment idle moved answered mid answered' old w new h next = record {
+  first = h.first;
+  moments = h.moments ++ moment ∷ [];
+  clock = clock_more h.first moment h.moments answered mid answered' h.clock next.clock;
+  count = length-append h.moments (moment ∷ []) ∙ ap (λ (k : ℕ). k + 1) h.count;
+  rounded = next_round h.first h.moments since since' moment idle moved mid answered' old w new h.rounded next;
+}
+
+-- the rounds end early
+pub rounds_end : (n rounds since since' moment idle quiet : ℕ) (moved : Bool) (answered mid answered' : List ℕ) (old w new : Work) → HasRounded n since answered mid old w → HasNext since since' moment idle moved mid answered' w new
+    → quiet ≡ moment - since' → (nat_le 30000 quiet || are_shut_down new.ledger.queues) ≡ true → HasShutDown rounds answered answered' old new
+rounds_end n rounds since since' moment idle quiet moved answered mid answered' old w new h next quiet_is over = record {
+  first = h.first;
+  moments = h.moments ++ moment ∷ [];
+  clock = clock_more h.first moment h.moments answered mid answered' h.clock next.clock;
+  since = since';
+  rounded = next_round h.first h.moments since since' moment idle moved mid answered' old w new h.rounded next;
+  count = inr (why (nat_le 30000 quiet) refl over);
+}
+  where
+    why : (long : Bool) → nat_le 30000 quiet ≡ long → (long || are_shut_down new.ledger.queues) ≡ true → (are_shut_down new.ledger.queues ≡ true) ⊎ HasWaited since' (h.moments ++ moment ∷ [])
+    why false long or = inl or
+    why true long or =
+        let far : 30000 ≤ quiet = grind (arith, nat_tests, long) in
+        inr (moment, h.moments, refl, omega (arith, far, quiet_is))
+
+pub rounds_done : (n rounds since : ℕ) (answered answered' : List ℕ) (old new : Work) → n ≡ rounds → HasRounded n since answered answered' old new → HasShutDown rounds answered answered' old new
+rounds_done n rounds since answered answered' old new all h = record { first = h.first; moments = h.moments; clock = h.clock; since = since; rounded = h.rounded; count = inl (h.count ∙ all) }
