@@ -1,11 +1,11 @@
 -- Consequences of the answer of a step.
 use Rattle.std.proofs.Common.{◌≡◌, ℕ, zero, suc, ◌+◌, ◌∙◌, ap, ◌<◌, List, length, Bool, true, false, refl, sym, subst, arith}
-use Rattle.std.specs.Prelude.{max, if◌then◌else◌, Option, Some, None, IfSome, IfNone}
+use Rattle.std.specs.Prelude.{max, not, ◌||◌, if◌then◌else◌, Option, Some, None, IfSome, IfNone, IsSome, Result, Ok, Err, OnErr}
 use Rattle.fix_session.specs.declared.plan.Step.{Step}
 use Rattle.fix_session.specs.declared.plan.Step.TheVariants.{Idle, Did, App, Dropped}
 use Rattle.fix_session.specs.State.{State}
 use Rattle.fix_session.specs.Machine as session
-use Rattle.fix_session.specs.Machine.{AtEnd}
+use Rattle.fix_session.specs.Machine.{AtEnd, HasFrame}
 use Rattle.fix_session.specs.Reader.{Reader}
 use Rattle.fix_session.specs.Shorter.{Shortens}
 use Rattle.gateway.specs.declared.stepping.StepsEnd.{StepsEnd}
@@ -13,7 +13,7 @@ use Rattle.gateway.specs.declared.stepping.StepsEnd.TheVariants as ends
 use Rattle.fix_session.specs.declared.frame.Fault.{Fault}
 use Rattle.gateway.specs.declared.turn.TickOutcome.{TickOutcome}
 use Rattle.gateway.specs.declared.turn.TickOutcome.TheVariants as ticked
-use Rattle.gateway.specs.Steps.{StepEmits, Settled, GoOn, HasEnded, IsAnswer, AnswersAt, count_of, end_in, end_of, fault_in, stepped}
+use Rattle.gateway.specs.Steps.{StepEmits, Settled, GoOn, HasEnded, IsAnswer, AnswersAt, count_of, end_in, end_of, fault_in, is_past_logon, stepped}
 use Rattle.gateway.specs.Thread.{ThreadState, Thread, AnswersTick, after_tick, outcome_of, runs, standing, steps_at, tick_events, tick_in}
 
 emits_of : (r : Reader) (s new : State) (answer : Step) → AtEnd r new answer → new.line.up ≡ session.stays_up answer → Shortens answer (length s.unread) (length new.unread) → StepEmits r s new answer
@@ -116,8 +116,15 @@ ticked_to t s new on (Dropped why) x is new_is = rw is new_is
 ticked_to t s new on Did x is new_is = rw is new_is
 ticked_to t s new on (App n) x is new_is = rw is new_is
 
+-- no answer of a tick is a refusal
+never_refused : (on : Bool) (answer : Step) → ticked.Refused ≡ outcome_of on answer → ⊥
+never_refused on Idle is = cc
+never_refused on (Dropped why) is = cc
+never_refused on Did is = cc
+never_refused on (App n) is = cc
+
 answers_tick : (t : ℕ) (s : State) (x : TickOutcome) → x ≡ tick_in t s → AnswersTick t s x
-answers_tick t s ticked.Refused is = tt
+answers_tick t s ticked.Refused is = absurd (never_refused s.line.logged_on (session.tick s t).1 is)
 answers_tick t s ticked.Done is = sym is
 answers_tick t s (ticked.Dropped why on) is = sym is
 
@@ -144,12 +151,29 @@ shortens r s new on fault (Dropped why) end is emits = rw is tt
 shortens r s new on fault Did end is emits = rw is emits
 shortens r s new on fault (App n) end is emits = rw is emits
 
+-- no answer of a step is a refusal
+never_refuses : (on : Bool) (fault : Option Fault) (answer : Step) → Some ends.Refused ≡ end_of on fault answer → ⊥
+never_refuses on fault Idle is = cc
+never_refuses on fault (Dropped why) is = cc
+never_refuses on fault Did is = cc
+never_refuses on fault (App n) is = cc
+
+-- a line on which a Logon is expected is up
+is_up_before : (up on : Bool) → (not up || on) ≡ false → up ≡ true
+is_up_before true on is = refl
+is_up_before false on is = cc
+
+-- a look at the next frame that failed found one on an up line
+pub frame_at : {E : Type 0} (r : Reader) (s : State) (past : Bool) (result : Result (Option Fault) E) → past ≡ is_past_logon s.line → OnErr result (past ≡ false) → OnErr result (IsSome (r.front s.unread).found) → OnErr result (HasFrame r s)
+frame_at r s past (Ok fault) is expected frame = tt
+frame_at r s past (Err error) is expected frame = (is_up_before s.line.up s.line.logged_on (sym is ∙ expected), frame)
+
 -- the end of the steps with a step is what the state machine answered
 is_answer : (r : Reader) (t : ℕ) (s : State) (end : Option StepsEnd) → end ≡ end_in r t s → IsAnswer r t s end
 is_answer r t s None is = sym is
 is_answer r t s (Some ends.Idle) is = sym is
 is_answer r t s (Some (ends.Dropped why on fault)) is = sym is
-is_answer r t s (Some ends.Refused) is = tt
+is_answer r t s (Some ends.Refused) is = absurd (never_refuses s.line.logged_on (fault_in r s) (session.step r s t).1 is)
 
 pub answers : (r : Reader) (t : ℕ) (s : State) (on : Bool) (fault : Option Fault) (answer : Step) (end : Option StepsEnd) → end ≡ end_of on fault answer → answer ≡ (session.step r s t).1 → on ≡ s.line.logged_on → fault ≡ fault_in r s → IsAnswer r t s end
 answers r t s on fault answer end is answer_is on_is fault_is =

@@ -40,7 +40,7 @@ abbrev pub of_collected : Option CollectOutcome → Option Notice
 of_collected (Some collect.Cut) = Some notice.Cut
 of_collected (Some (collect.Sent app)) = Some notice.Sent
 of_collected (Some collect.Nothing) = None
-of_collected (Some collect.Refused) = None
+of_collected (Some (collect.Refused app fault)) = None
 of_collected None = None
 
 abbrev pub of_wrote : WriteOutcome → Option Notice

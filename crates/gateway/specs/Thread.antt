@@ -1,5 +1,5 @@
 -- A session's thread as a state machine over its events, and the events of one turn.
-use Rattle.std.specs.Prelude.{ℕ, ◌+◌, ◌%◌, zero, suc, ◌≡◌, ◌≢◌, List, [], ◌∷◌, ◌++◌, length, max, Bool, true, false, if◌then◌else◌, Option, Some, None, MatchOption, not, is_some, ◌&&◌, ◌≤◌, ◌<◌, take}
+use Rattle.std.specs.Prelude.{ℕ, ◌+◌, ◌%◌, zero, suc, ◌≡◌, ◌≢◌, List, [], ◌∷◌, ◌++◌, length, max, Bool, true, false, if◌then◌else◌, Option, Some, None, MatchOption, not, is_some, ◌&&◌, ◌||◌, ◌≤◌, ◌<◌, take}
 use Rattle.fix_dictionary.specs.declared.messages.Item.{Item}
 use Rattle.fix_session.specs.Reader.{Reader}
 use Rattle.fix_session.specs.State.{State, Seen, resumed, broken}
@@ -22,6 +22,7 @@ use Rattle.gateway.specs.declared.turn.RepushOutcome.TheVariants as repeat
 use Rattle.gateway.specs.declared.turn.Reading.{Reading}
 use Rattle.gateway.specs.declared.turn.Reading.TheVariants as reading
 use Rattle.fix_session.specs.declared.plan.Step.{Step}
+use Rattle.fix_session.specs.declared.session.SendFault.TheVariants.{Full, NoMemory}
 use Rattle.fix_session.specs.declared.plan.Step.TheVariants.{Idle, Did, App, Dropped}
 use Rattle.gateway.specs.Notices.{report_of}
 use Rattle.gateway.specs.Steps.{Settled, HasEnded, is_dropped}
@@ -141,7 +142,20 @@ abbrev pub collect_events : ℕ → CollectOutcome → List Event
 collect_events t collect.Nothing = []
 collect_events t (collect.Sent app) = Collects (Message app.value) t ∷ []
 collect_events t collect.Cut = Collects Cut t ∷ []
-collect_events t collect.Refused = []
+collect_events t (collect.Refused app fault) = []
+
+-- a message was refused as the numbers are spent, and for memory only where they are not
+abbrev pub HasCause : CollectOutcome → State → Type 0
+HasCause (collect.Refused app Full) s = are_numbers_spent s ≡ true
+HasCause (collect.Refused app NoMemory) s = are_numbers_spent s ≡ false
+HasCause collect.Nothing s = Unit {0}
+HasCause (collect.Sent app) s = are_numbers_spent s ≡ false
+HasCause collect.Cut s = Unit {0}
+
+-- the same of a look, where there was one
+abbrev pub HasCauseIf : Option CollectOutcome → State → Type 0
+HasCauseIf None s = Unit {0}
+HasCauseIf (Some collected) s = HasCause collected s
 
 abbrev pub write_events : WriteOutcome → List Event
 write_events wrote.Nothing = []
@@ -185,9 +199,9 @@ outcome_of on (Dropped why) = ticked.Dropped why on
 abbrev pub tick_in : ℕ → State → TickOutcome
 tick_in t s = outcome_of s.line.logged_on (session.tick s t).1
 
--- what became of a tick is what the state machine answers here, unless an allocation failed
+-- what became of a tick is what the state machine answers here; an allocation failed only where it would send
 abbrev pub AnswersTick : ℕ → State → TickOutcome → Type 0
-AnswersTick t s ticked.Refused = Unit {0}
+AnswersTick t s ticked.Refused = (session.tick s t).1 ≡ Did
 AnswersTick t s ticked.Done = tick_in t s ≡ ticked.Done
 AnswersTick t s (ticked.Dropped why on) = tick_in t s ≡ ticked.Dropped why on
 
@@ -332,6 +346,26 @@ abbrev pub is_cut_token : CollectOutcome → Bool
 is_cut_token collect.Cut = true
 is_cut_token collected = false
 
+-- the reply seat was emptied, or the intake seat was filled
+abbrev pub has_collected : Option CollectOutcome → Bool
+has_collected None = false
+has_collected (Some collect.Nothing) = false
+has_collected (Some (collect.Sent app)) = true
+has_collected (Some collect.Cut) = true
+has_collected (Some (collect.Refused app fault)) = false
+
+abbrev pub is_given : HandOutcome → Bool
+is_given handed.Nothing = false
+is_given handed.Given = true
+is_given handed.Refused = false
+
+abbrev pub has_handed : Option Work → Bool
+has_handed None = false
+has_handed (Some work) = is_given work.handed
+
+abbrev pub has_progressed : Turn → Bool
+has_progressed turn = has_collected turn.collected || has_handed turn.work
+
 -- a turn leaves its work out where the sentinel was collected, and nowhere else
 abbrev pub LeavesWork : Bool → Option Work → Type 0
 LeavesWork true None = Unit {0}
@@ -380,6 +414,8 @@ pub record IsTurn (r : Reader) (turn_record : TurnRecord) (before after : Thread
   pub take_looked : before.take.looks + one_if (is_some turn_record.turn.collected) ≤ after.take.looks
   pub hand_looked : before.hand.looks + tries turn_record.turn.work ≤ after.hand.looks
   pub found : LookedAt turn_record.turn.collected after.take.last
+  -- a reply was sent only where numbers are left, and was refused as none is or for memory
+  pub cause : HasCauseIf turn_record.turn.collected (runs r (accept_events turn_record.turn.moment turn_record.turn.accepted) (standing before)).session
   pub unlooked : turn_record.turn.collected ≡ None → after.take ≡ before.take
 
 -- Turns one after another

@@ -32,7 +32,7 @@ fn of_collected(collected: &Option<CollectOutcome>) -> Option<Notice>
         Some(CollectOutcome::Cut) => Some(Notice::Cut),
         Some(CollectOutcome::Sent { .. }) => Some(Notice::Sent),
         Some(CollectOutcome::Nothing) => None,
-        Some(CollectOutcome::Refused) => None,
+        Some(CollectOutcome::Refused { .. }) => None,
         None => None,
     }
 }

@@ -16,7 +16,7 @@ use crate::piece::{Given, Piece, READ_SIZE};
 use crate::reporting::{of_end, report};
 use crate::stepping::{StepsEnd, step_to_the_end};
 use fix_dictionary::{BoxedApp, Item};
-use fix_session::{Session, Step, Why, laws};
+use fix_session::{SendFault, Session, Step, Why, laws};
 use intake_seats::{Board, HandSeat, TakeSeat};
 use sef_moment::Moment;
 use std::marker::Model;
@@ -30,11 +30,16 @@ pub enum CollectOutcome {
     /// The seat was not full.
     Nothing,
     /// A reply was sent; contracts alone see which.
-    Sent { app: Snapshot<BoxedApp> },
+    Sent {
+        app: Snapshot<BoxedApp>,
+    },
     /// The sentinel dropped the line.
     Cut,
-    /// The send was refused, and the reply is in its seat.
-    Refused,
+    /// The send was refused, and the reply, which contracts alone see, is in its seat.
+    Refused {
+        app: Snapshot<BoxedApp>,
+        fault: SendFault,
+    },
 }
 
 /// The outcome for the queued bytes.
@@ -237,6 +242,7 @@ impl<L: Line> SessionThread<L> {
         ensures take { IsSameTaker self.old.take self.new.take }
         ensures looked { self.old.take.looks < self.new.take.looks }
         ensures found { thread.Found result self.new.take.last }
+        ensures cause { thread.HasCause result self.old.session }
     {
         match self.take.take(replies) {
             None => CollectOutcome::Nothing,
@@ -249,7 +255,10 @@ impl<L: Line> SessionThread<L> {
                 let sent = Snapshot::of(&app);
                 if let Err(unsent) = self.session.send_boxed(app, t) {
                     drop(self.take.put_back(replies, Outgoing::Message(unsent.app)));
-                    return CollectOutcome::Refused;
+                    return CollectOutcome::Refused {
+                        app: sent,
+                        fault: unsent.fault,
+                    };
                 }
                 self.take.clear(replies);
                 CollectOutcome::Sent { app: sent }
@@ -589,16 +598,33 @@ fn is_silenced(ticked: TickOutcome) -> bool
 }
 
 // Whether a seat was emptied or filled.
-fn has_progressed(turn: &Turn) -> bool {
-    let collected = matches!(
-        turn.collected,
-        Some(CollectOutcome::Sent { .. } | CollectOutcome::Cut)
-    );
-    let given = match &turn.work {
+fn has_progressed(turn: &Turn) -> bool
+    ensures { result ≡ thread.has_progressed turn.now }
+{
+    has_collected(&turn.collected) || has_handed(&turn.work)
+}
+
+// Whether the reply seat was emptied.
+fn has_collected(collected: &Option<CollectOutcome>) -> bool
+    ensures { result ≡ thread.has_collected collected.now }
+{
+    match collected {
+        Some(CollectOutcome::Sent { .. }) => true,
+        Some(CollectOutcome::Cut) => true,
+        Some(CollectOutcome::Nothing) => false,
+        Some(CollectOutcome::Refused { .. }) => false,
+        None => false,
+    }
+}
+
+// Whether the intake seat was filled.
+fn has_handed(work: &Option<Work>) -> bool
+    ensures { result ≡ thread.has_handed work.now }
+{
+    match work {
         Some(work) => matches!(work.handed, HandOutcome::Given),
         None => false,
-    };
-    collected || given
+    }
 }
 
 // Pushes the first `count` bytes of a buffer into a session; none where an allocation failed.

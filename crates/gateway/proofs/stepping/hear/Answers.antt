@@ -23,3 +23,6 @@ pub returns-in-Ok-clause-answer : goal.returns-in-Ok-clause-answer
 returns-in-Ok-clause-answer c = λ r fault_is.
     answers r c.args.t c.args.session.now.state c.line_state-line.result.logged_on c.args.fault c.in-Ok.answer c.end_of.result c.end_of.ensures (c.in-Ok.ensures.answer r)
     (ap (λ (l : SessionState). l.logged_on) c.line_state-line.ensures) fault_is
+
+pub returns-in-Err-clause-answer : goal.returns-in-Err-clause-answer
+returns-in-Err-clause-answer c = λ r _. c.in-Err.ensures.frame r
