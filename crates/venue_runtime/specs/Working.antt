@@ -1,5 +1,5 @@
 -- The parts of a worker after its turns.
-use Rattle.std.specs.Prelude.{◌≡◌, ℕ, List, [], Bool, length}
+use Rattle.std.specs.Prelude.{◌≡◌, ℕ, ◌<◌, List, [], Bool, length}
 use Rattle.std.specs.declared.result.Result.{Result}
 use Rattle.atomic_table.specs.Seated.{TableId}
 use Rattle.fix_dictionary.specs.declared.messages.Item.{Item}
@@ -14,7 +14,9 @@ use Rattle.outbound_queue.specs.declared.outgoing.Outgoing.{Outgoing}
 use Rattle.outbound_queue.specs.declared.queue.Queue.{Queue}
 use Rattle.venue_worker.specs.InputHistory.{IsAccount, IsKept}
 use Rattle.venue_engine.specs.Queued.{AreEmpty}
-use Rattle.venue_worker.specs.Turns.{HasRun}
+use Rattle.venue_worker.specs.Calls.{IsSameElse}
+use Rattle.venue_worker.specs.Shutdown.{AreDrained, HasShutDown}
+use Rattle.venue_worker.specs.Turns.{AreServed, HasRun}
 use Rattle.venue_worker.specs.Work.{Work}
 
 -- a venue, its keeper's rows, whether the store is clean and how often it refused, the queues and the ends are the
@@ -35,6 +37,20 @@ pub record HasWorked (turns : ℕ) (emitted emitted' : List ℕ) (ran : Result U
   pub end_tokens : List (TakeEnd Unit)
   pub run : HasRun turns emitted emitted' end_tokens ran before after
   pub kept : IsKept after
+  pub parts : AreParts venue written is_clean refused queues takes hands after
+
+-- The trail refused within `turns` turns; then in as many rounds, or in fewer that left nothing to do, the participants
+-- were given what they were owed and were cut, and nothing else changed, which left a worker with these parts.
+pub record HasStopped (turns : ℕ) (emitted emitted' : List ℕ) (ran : Result Unit EventFault) (before : Work) (venue : State) (written : List TrailRow) (is_clean : Bool) (refused : ℕ) (queues : List Queue) (takes : List (TakeEnd Item)) (hands : List (HandEnd Outgoing)) : Type 0 where
+  pub middle : Work
+  pub after : Work
+  pub between : List ℕ
+  pub end_tokens : List (TakeEnd Unit)
+  pub run : HasRun turns emitted between end_tokens ran before middle
+  pub only : IsSameElse middle after
+  pub seen_off : AreDrained middle after
+  pub served : 0 < turns → AreServed middle after
+  pub rounds : HasShutDown turns between emitted' middle after
   pub parts : AreParts venue written is_clean refused queues takes hands after
 
 -- a new worker, for this market and its state, over these rows, these boards and these ends, with an empty queue for
