@@ -117,7 +117,7 @@ impl<T: Drop, S: Drop> Drop for WorkerClock<T, S> {
         let WorkerClock {
             clock: _clock,
             system: _system,
-            sleeper: _sleeper,
+            sleeper,
             sessions,
             share,
             closing: _closing,
@@ -125,7 +125,7 @@ impl<T: Drop, S: Drop> Drop for WorkerClock<T, S> {
             turns: _turns,
         } = self;
         share.stop.finish();
-        sessions.wake_all();
+        sessions.wake_all(sleeper.awake());
     }
 }
 
@@ -152,6 +152,16 @@ impl<T: time::Clock, S: StopSource> WorkerClock<T, S> {
         }
     }
 
+    // Waits until a session has moved a message. Sessions that wait for a place are woken as others fall asleep, and
+    // all before the worker sleeps.
+    fn wait(&mut self)
+        ensures { self.new.clock ≡ self.old.clock }
+    {
+        if !self.sessions.admit_until_woken(&self.sleeper) {
+            self.sleeper.wait();
+        }
+    }
+
     // The time of a clock that never goes back, in milliseconds; the moment's where it cannot be read.
     fn monotonic(&self, at_ms: u64) -> u64 {
         match self.system.monotonic() {
@@ -172,7 +182,7 @@ impl<T: time::Clock, S: StopSource> WorkerClock<T, S> {
         ensures { self.new.clock ≡ self.old.clock }
     {
         self.share.stop.finish();
-        self.sessions.wake_all();
+        self.sessions.wake_all(self.sleeper.awake());
     }
 
     // Twice a second: whether the clock stepped, and whether a stop is asked.
@@ -187,7 +197,7 @@ impl<T: time::Clock, S: StopSource> WorkerClock<T, S> {
             self.share.stop.begin();
             self.closing.begin(now);
             self.send(EventKind::Closing);
-            self.sessions.wake_all();
+            self.sessions.wake_all(self.sleeper.awake());
         }
     }
 
@@ -220,15 +230,15 @@ impl<T: time::Clock, S: StopSource> Clock for WorkerClock<T, S> {
 
     fn now(&mut self) -> Moment {
         self.turns = self.turns.saturating_add(1);
-        let has_progressed = self.sessions.end_turn();
-        self.sleeper.wait();
+        let has_progressed = self.sessions.end_turn(self.sleeper.awake());
+        self.wait();
         let moment = self.clock.now();
         self.see_stop(moment.ms(), has_progressed);
         moment
     }
 
     fn progressed(&mut self, participant: usize) {
-        self.sessions.progressed(participant);
+        self.sessions.progressed(participant, self.sleeper.awake());
     }
 
     fn refused(&mut self) {
@@ -236,7 +246,7 @@ impl<T: time::Clock, S: StopSource> Clock for WorkerClock<T, S> {
         self.share.stop.begin();
         self.closing = ClosingTimer::new();
         self.send(EventKind::TrailRefused);
-        self.sessions.wake_all();
+        self.sessions.wake_all(self.sleeper.awake());
     }
 
     fn ended(&mut self) {

@@ -6,7 +6,7 @@ use crate::events::{EventKind, EventSender};
 use crate::line_watch::{LineEnd, LineWatch};
 use crate::notices::{Known, event_of};
 use crate::stop::Stop;
-use crate::waker::{IdleWait, ThreadWaker};
+use crate::waker::{IdleWait, Peers, ThreadWaker};
 use gateway::ghost_history::GhostHistory;
 use gateway::line::Gate;
 use gateway::notice::Notice;
@@ -47,6 +47,7 @@ enum Plan {
 pub struct GateShare {
     /// The worker's waker.
     pub worker: Arc<ThreadWaker>,
+    pub peers: Peers,
     pub line: Arc<DirtyFlag>,
     pub watch: Arc<LineWatch>,
     pub stop: Arc<Stop>,
@@ -57,6 +58,7 @@ impl Drop for GateShare {
     fn drop(self) {
         let GateShare {
             worker: _worker,
+            peers: _peers,
             line: _line,
             watch: _watch,
             stop: _stop,
@@ -142,12 +144,25 @@ impl TcpGate {
         self.defer()
     }
 
-    // The turn after one that handed a message. With its answer it reads from memory at first, and asks the system only
-    // where one call read no more than one read gives; without one there is nothing to do where all is read.
-    fn plan_after_message(&mut self) -> Plan
+    // Whether the message that was handed is answered. In a crowd the thread waits for that, and asks the line again
+    // before it waits for its sockets, since they may have become ready.
+    fn is_answered<R: Wait>(&mut self, rt: &R) -> bool
         ensures { self.new.past ≡ self.old.past }
     {
-        if !self.sleeper.is_answered() {
+        if !self.sleeper.is_crowded() {
+            return self.sleeper.is_answered();
+        }
+        self.sleeper.await_answer(rt, &self.share.peers);
+        self.share.line.note();
+        true
+    }
+
+    // The turn after one that handed a message. With its answer it reads from memory at first, and asks the system only
+    // where one call read no more than one read gives; without one there is nothing to do where all is read.
+    fn plan_after_message<R: Wait>(&mut self, rt: &R) -> Plan
+        ensures { self.new.past ≡ self.old.past }
+    {
+        if !self.is_answered(rt) {
             if self.share.line.is_drained() {
                 self.share.line.clear();
             }
@@ -164,13 +179,13 @@ impl TcpGate {
         Plan::Read
     }
 
-    fn plan(&mut self) -> Plan
+    fn plan<R: Wait>(&mut self, rt: &R) -> Plan
         ensures { self.new.past ≡ self.old.past }
     {
         match mem::replace(&mut self.moved, Moved::Nothing) {
             Moved::Nothing => Plan::Wait,
             Moved::Collected => self.plan_after_reply(),
-            Moved::Handed => self.plan_after_message(),
+            Moved::Handed => self.plan_after_message(rt),
         }
     }
 
@@ -188,10 +203,10 @@ impl TcpGate {
     }
 
     // Whether the next turn may read; waits where there is nothing to do.
-    fn is_to_read(&mut self) -> bool
+    fn is_to_read<R: Wait>(&mut self, rt: &R) -> bool
         ensures { self.new.past ≡ self.old.past }
     {
-        match self.plan() {
+        match self.plan(rt) {
             Plan::Defer => false,
             Plan::Read => true,
             Plan::Wait => {
@@ -283,17 +298,17 @@ impl Gate for TcpGate {
 
     ghost passed = { λ g. entries g.past };
 
-    fn pass<R: Wait>(&mut self, _rt: &R, _turn: u64) -> bool {
+    fn pass<R: Wait>(&mut self, rt: &R, _turn: u64) -> bool {
         self.turns = self.turns.saturating_add(1);
         self.send_second();
-        let passed = self.is_to_read();
+        let passed = self.is_to_read(rt);
         self.past.add(passed);
         passed
     }
 
     fn progressed(&mut self) {
         self.moved = Moved::Collected;
-        self.share.worker.wake();
+        self.sleeper.wake(&self.share.worker);
     }
 
     fn notify(&mut self, notice: Notice, moment: Moment) {

@@ -34,4 +34,4 @@ pub use opening::{SessionIo, VenueIo, open_lines};
 pub use served_line::{ServedLine, Shared};
 pub use session_wakers::SessionWakers;
 pub use stop::{NoStop, Stop, StopSource};
-pub use waker::{AwakeThreads, IdleWait, ThreadWaker};
+pub use waker::{AwakeThreads, IdleWait, Peers, ThreadWaker};

@@ -10,9 +10,9 @@ use crate::line_watch::LineWatch;
 use crate::served_line::{ServedLine, Shared};
 use crate::session_wakers::SessionWakers;
 use crate::stop::{Stop, StopSource};
-use crate::waker::{AwakeThreads, IdleWait};
+use crate::waker::{AwakeThreads, IdleWait, Peers, ThreadWaker};
 use sef_moment::Moment;
-use std::alloc::Global;
+use std::alloc::{AllocError, Global};
 use std::io;
 use std::net::{Net, TcpListener, TcpStream};
 use std::sync::Arc;
@@ -42,7 +42,7 @@ struct Common {
 
 fn make_common<R: Net + Threads>(rt: &R, alloc: Global, count: u16) -> io::Result<Common> {
     let awake = Arc::new(alloc, AwakeThreads::new(rt, u64::from(count) + 1))?;
-    let worker = IdleWait::of_worker(rt, alloc, Arc::try_clone(&awake)?)?;
+    let worker = IdleWait::new(rt, alloc, Arc::try_clone(&awake)?)?;
     Ok(Common {
         awake,
         stop: Arc::new(alloc, Stop::new())?,
@@ -63,14 +63,26 @@ pub fn open_lines<
     let common = make_common(rt, alloc, count)?;
     let mut sessions = Vec::with_capacity(alloc, count as usize)?;
     let mut receivers = Vec::with_capacity(alloc, count as usize + 1)?;
-    let mut wakers = SessionWakers::new(alloc, common.awake.processors());
+    let mut wakers = SessionWakers::new(alloc);
+    let mut sleepers = make_sleepers(rt, alloc, &common, count)?;
+    let all = Arc::new(alloc, wakers_of(alloc, &sleepers)?)?;
     for k in 0..count {
+        let Some(sleeper) = sleepers.pop() else {
+            unreachable!()
+        };
         let (sender, receiver) = event_ring(alloc)?;
         receivers.push(receiver)?;
-        let sleeper = IdleWait::of_session(rt, alloc, Arc::try_clone(&common.awake)?)?;
-        let thread_waker = sleeper.thread_waker()?;
-        wakers.add(thread_waker)?;
-        let outside = open_line(rt, alloc, clock, port + k, &common, sleeper, sender)?;
+        wakers.add(sleeper.thread_waker()?)?;
+        let peers = Peers::new(Arc::try_clone(&all)?, sleepers.len());
+        let outside = open_line(
+            rt,
+            alloc,
+            clock,
+            port + k,
+            &common,
+            (sleeper, peers),
+            sender,
+        )?;
         sessions.push(outside)?;
     }
     let (sender, receiver) = event_ring(alloc)?;
@@ -104,6 +116,32 @@ fn worker_clock<T: Clock + Copy + Drop, S: StopSource + Drop>(
     WorkerClock::new(own, clock, worker, wakers, share)
 }
 
+// The waits of this many sessions.
+fn make_sleepers<R: Net>(
+    rt: &R,
+    alloc: Global,
+    common: &Common,
+    count: u16,
+) -> io::Result<Vec<IdleWait>>
+    ensures { IfOk result (λ made. length made.items ≡ count) }
+{
+    let mut sleepers = Vec::with_capacity(alloc, count as usize)?;
+    for _ in 0..count {
+        let sleeper = IdleWait::new(rt, alloc, Arc::try_clone(&common.awake)?)?;
+        sleepers.push(sleeper)?;
+    }
+    Ok(sleepers)
+}
+
+// Their wakers, in order.
+fn wakers_of(alloc: Global, sleepers: &[IdleWait]) -> Result<Vec<Arc<ThreadWaker>>, AllocError> {
+    let mut wakers = Vec::with_capacity(alloc, sleepers.len())?;
+    for sleeper in sleepers {
+        wakers.push(sleeper.thread_waker()?)?;
+    }
+    Ok(wakers)
+}
+
 // The line at a port, with the gate and the clock of its session.
 fn open_line<R: Net<Listener = TcpListener, Stream = TcpStream>, T: Clock + Copy + Drop>(
     rt: &R,
@@ -111,7 +149,7 @@ fn open_line<R: Net<Listener = TcpListener, Stream = TcpStream>, T: Clock + Copy
     clock: T,
     port: u16,
     common: &Common,
-    sleeper: IdleWait,
+    (sleeper, peers): (IdleWait, Peers),
     events: EventSender,
 ) -> io::Result<SessionIo<T>> {
     let activity = Arc::new(alloc, DirtyFlag::new())?;
@@ -132,6 +170,7 @@ fn open_line<R: Net<Listener = TcpListener, Stream = TcpStream>, T: Clock + Copy
     };
     let share = GateShare {
         worker: common.worker.thread_waker()?,
+        peers,
         line: activity,
         watch,
         stop: Arc::try_clone(&common.stop)?,

@@ -1,11 +1,11 @@
 //! Idle threads: how one waits, and how another wakes it. A wait is no turn.
-ghost use Rattle.std.specs.Prelude.{◌≡◌, ◌≤◌, ◌*◌, ◌<◌};
+ghost use Rattle.std.specs.Prelude.{◌≡◌, ◌≤◌, ◌*◌, ◌<◌, ◌+◌, ◌/◌, ◌^◌, true, false};
 
 use mio::{Events, Poll, Registry, Token, Waker};
 use std::alloc::{AllocError, Global};
 use std::net::Net;
-use std::sync::Arc;
 use std::sync::atomic::{AtomicU64, Ordering};
+use std::sync::{Arc, Wait};
 use std::thread::Threads;
 use std::time::Duration;
 use std::{hint, io, thread};
@@ -34,7 +34,17 @@ const LOOKS_PER_POLL: u64 = 64;
 /// the others from their work.
 const CROWD: u64 = 3;
 
-/// The count of threads of a venue that are awake, and of processors.
+/// The count of looks at its waker of a session in a crowd that handed a message, some 6 microseconds. Each session
+/// that is awake is then answered in its turn.
+const CROWD_LOOKS: u64 = 200;
+
+/// The count of messages that a session in a crowd hands before it rests, and another one goes on in its place.
+const SHARE: u64 = 32;
+
+/// The greatest time that a session in a crowd is parked at once, in milliseconds; it parks twice at most.
+const MAX_REST_MS: u64 = MAX_WAIT_MS / 2;
+
+/// The count of threads of a venue that are awake, or asleep and to be woken, and of processors.
 pub struct AwakeThreads {
     count: AtomicU64,
     processors: u64,
@@ -63,18 +73,30 @@ impl AwakeThreads {
         }
     }
 
-    /// The count of processors.
-    pub fn processors(&self) -> u64 {
-        self.processors
-    }
-
-    // One more sleeps, or has ended.
-    fn add_asleep(&self) {
+    /// One more sleeps, or has ended.
+    pub(crate) fn add_asleep(&self) {
         self.count.fetch_sub(1, Ordering::SeqCst);
     }
 
-    fn add_awake(&self) {
+    /// One more is awake, or is to be woken.
+    pub(crate) fn add_awake(&self) {
         self.count.fetch_add(1, Ordering::SeqCst);
+    }
+
+    /// Whether another thread may be woken, where this many of those that are counted sleep.
+    pub(crate) fn has_place(&self, waiting: u64) -> bool {
+        let count = self.count.load(Ordering::SeqCst);
+        has_place(count, waiting, most_awake(self.processors))
+    }
+
+    // The looks of a session in a crowd that handed a message.
+    fn crowd_looks(&self) -> u64 {
+        crowd_looks(self.processors)
+    }
+
+    // Whether more threads have something to do than are to be awake.
+    fn is_crowded(&self) -> bool {
+        self.count.load(Ordering::SeqCst) > most_awake(self.processors)
     }
 
     // The looks that a thread makes now, of at most these.
@@ -99,12 +121,47 @@ fn share(looks: u64, awake: u64, processors: u64) -> u64
     looks.saturating_mul(crowd - awake) / (crowd - processors)
 }
 
-/// The states of a waker: its thread is awake, and was not woken since it last asked; it was woken; or it sleeps.
+// The threads that are to be awake together: the worker, and sessions enough to keep the other processors at work while
+// some wait.
+fn most_awake(processors: u64) -> u64
+    ensures { processors < 2 ^ 62 → result ≡ processors + (processors + 1) / 2 }
+{
+    processors.saturating_add(processors.saturating_add(1) / 2)
+}
+
+// The looks of a session in a crowd that handed a message: none where the worker cannot run at the same time.
+fn crowd_looks(processors: u64) -> u64
+    ensures alone { processors ≤ 1 → result ≡ 0 }
+    ensures more { 1 < processors → result ≡ 200 }
+{
+    if processors <= 1 { 0 } else { CROWD_LOOKS }
+}
+
+// Whether another thread may be woken, where this many are awake or to be woken, these of them sleep, and that many are
+// to be awake.
+fn has_place(count: u64, waiting: u64, most: u64) -> bool
+    ensures place { most < 2 ^ 63 → waiting < 2 ^ 63 → count < waiting + most → result ≡ true }
+    ensures none { waiting + most ≤ count → result ≡ false }
+{
+    count < waiting.saturating_add(most)
+}
+
+/// The states of a waker: its thread is awake, and was not woken since it last asked; it was woken; it sleeps at its
+/// sockets; it is parked until the worker answers, or rests so after its share; or it is parked or rests, is answered,
+/// and waits for a place among the threads that are awake.
 const AWAKE: u64 = 0;
 
 const WOKEN: u64 = 1;
 
 const ASLEEP: u64 = 2;
+
+const PARKED: u64 = 3;
+
+const RESTING: u64 = 4;
+
+const ANSWERED: u64 = 5;
+
+const RESTED: u64 = 6;
 
 /// Wakes the thread that waits for it, or has it look again before it sleeps. It carries no data, and no contract
 /// depends on it.
@@ -124,13 +181,73 @@ impl Drop for ThreadWaker {
 }
 
 impl ThreadWaker {
-    /// Wakes the thread: by a system call, where it sleeps. The caller has finished what the thread is to find.
-    pub fn wake(&self) {
+    /// Wakes the thread: by a system call, where it sleeps, and whether it did. It is then to be counted as awake. The
+    /// caller has finished what the thread is to find.
+    pub(crate) fn wake(&self) -> bool {
         if self.state.load(Ordering::SeqCst) == WOKEN {
-            return;
+            return false;
         }
-        if self.state.swap(WOKEN, Ordering::SeqCst) == ASLEEP {
+        let state = self.state.swap(WOKEN, Ordering::SeqCst);
+        if state == ASLEEP {
             let _ = self.waker.wake();
+        }
+        if state > ASLEEP {
+            self.state.wake_one();
+        }
+        state >= ASLEEP
+    }
+
+    /// Whether it sleeps. One that is parked has its answer, and waits for a place from now on.
+    pub(crate) fn sleeps_with_answer(&self) -> bool {
+        let state = self.state.load(Ordering::SeqCst);
+        match state {
+            PARKED => {
+                let _ = self.change(PARKED, ANSWERED);
+            }
+            RESTING => {
+                let _ = self.change(RESTING, RESTED);
+            }
+            _ => {}
+        }
+        state >= ASLEEP
+    }
+
+    /// Whether it had its share, and waits for a place.
+    pub(crate) fn is_resting(&self) -> bool {
+        self.state.load(Ordering::SeqCst) == RESTED
+    }
+
+    /// Wakes the thread where it has something to do, and whether it did. It is then to be counted as awake.
+    pub(crate) fn admit(&self) -> bool {
+        match self.state.load(Ordering::SeqCst) {
+            ASLEEP | ANSWERED | RESTED => self.wake(),
+            _ => false,
+        }
+    }
+
+    // Whether it was woken. It is awake from now on.
+    fn rise(&self) -> bool {
+        self.state.swap(AWAKE, Ordering::SeqCst) == WOKEN
+    }
+
+    // Wakes the thread where it is in this state, parked. Whether it was.
+    fn wake_from(&self, state: u64) -> bool {
+        if self.state.load(Ordering::SeqCst) != state || !self.change(state, WOKEN) {
+            return false;
+        }
+        self.state.wake_one();
+        true
+    }
+
+    // Sleeps until it is woken, for 100 ms at most.
+    fn park<R: Wait>(&self, rt: &R) {
+        for _ in 0..2 {
+            let state = self.state.load(Ordering::SeqCst);
+            if state < PARKED || state > RESTED {
+                return;
+            }
+            let longest = Duration::from_millis(MAX_REST_MS);
+            self.state.park_timeout(rt, state as u32, longest);
         }
     }
 
@@ -143,15 +260,63 @@ impl ThreadWaker {
         true
     }
 
-    // Whether it may sleep: not where it was woken.
-    fn fall_asleep(&self) -> bool {
+    // Whether its state was the first of these, and is now the second.
+    fn change(&self, from: u64, to: u64) -> bool {
         self.state
-            .compare_exchange(AWAKE, ASLEEP, Ordering::SeqCst, Ordering::SeqCst)
+            .compare_exchange(from, to, Ordering::SeqCst, Ordering::SeqCst)
             .is_ok()
     }
 
     fn set_awake(&self) {
         self.state.store(AWAKE, Ordering::SeqCst);
+    }
+}
+
+/// The wakers of a venue's sessions, for one of them, which leaves its place to another one.
+pub struct Peers {
+    wakers: Arc<Vec<Arc<ThreadWaker>>>,
+    own: usize,
+}
+
+// Written-out drop (docs/ARCHITECTURE.md).
+impl Drop for Peers {
+    fn drop(self) {
+        let Peers {
+            wakers: _wakers,
+            own: _own,
+        } = self;
+    }
+}
+
+impl Peers {
+    /// The wakers of all sessions, for the one of this index.
+    pub fn new(wakers: Arc<Vec<Arc<ThreadWaker>>>, own: usize) -> Peers {
+        Peers { wakers, own }
+    }
+
+    // Wakes the next that waits for a place: one that had its share only where none did not.
+    fn admit(&self, awake: &AwakeThreads) {
+        if self.admit_from(ANSWERED) || self.admit_from(RESTED) {
+            awake.add_awake();
+        }
+    }
+
+    // Wakes the next in this state. Whether there was one.
+    fn admit_from(&self, state: u64) -> bool {
+        self.admit_of(state, self.own.saturating_add(1), self.wakers.len())
+            || self.admit_of(state, 0, self.own)
+    }
+
+    // Wakes the first in this state of those from one index up to another.
+    fn admit_of(&self, state: u64, from: usize, to: usize) -> bool {
+        for at in from..to {
+            if let Some(waker) = self.wakers.get(at) {
+                if waker.wake_from(state) {
+                    return true;
+                }
+            }
+        }
+        false
     }
 }
 
@@ -161,8 +326,8 @@ pub struct IdleWait {
     events: Events,
     thread_waker: Arc<ThreadWaker>,
     awake: Arc<AwakeThreads>,
-    /// The greatest count of looks before it sleeps.
-    looks: u64,
+    /// The count of messages that it handed in a crowd since it last had nothing to do, or rested.
+    handed: u64,
     /// The last sleep ended by its time alone: one look is enough before the next.
     is_calm: bool,
 }
@@ -175,37 +340,15 @@ impl Drop for IdleWait {
             events: _events,
             thread_waker: _thread_waker,
             awake: _awake,
-            looks: _looks,
+            handed: _handed,
             is_calm: _is_calm,
         } = self;
     }
 }
 
 impl IdleWait {
-    /// The wait of the worker.
-    pub fn of_worker<R: Net>(
-        rt: &R,
-        alloc: Global,
-        awake: Arc<AwakeThreads>,
-    ) -> io::Result<IdleWait> {
-        IdleWait::new(rt, alloc, awake, WORKER_LOOKS)
-    }
-
-    /// The wait of a session.
-    pub fn of_session<R: Net>(
-        rt: &R,
-        alloc: Global,
-        awake: Arc<AwakeThreads>,
-    ) -> io::Result<IdleWait> {
-        IdleWait::new(rt, alloc, awake, SESSION_LOOKS)
-    }
-
-    fn new<R: Net>(
-        rt: &R,
-        alloc: Global,
-        awake: Arc<AwakeThreads>,
-        looks: u64,
-    ) -> io::Result<IdleWait> {
+    /// The wait of a thread.
+    pub fn new<R: Net>(rt: &R, alloc: Global, awake: Arc<AwakeThreads>) -> io::Result<IdleWait> {
         let poll = Poll::new(rt)?;
         let waker = Waker::new(poll.registry(), WAKER_TOKEN)?;
         let thread_waker = ThreadWaker {
@@ -217,7 +360,7 @@ impl IdleWait {
             events: Events::with_capacity(alloc, 8)?,
             thread_waker: Arc::new(alloc, thread_waker)?,
             awake,
-            looks,
+            handed: 0,
             is_calm: false,
         })
     }
@@ -237,9 +380,63 @@ impl IdleWait {
         self.thread_waker.take()
     }
 
+    /// The threads that are awake.
+    pub(crate) fn awake(&self) -> &AwakeThreads {
+        &self.awake
+    }
+
+    /// Wakes another thread.
+    pub(crate) fn wake(&self, other: &ThreadWaker) {
+        if other.wake() {
+            self.awake.add_awake();
+        }
+    }
+
     /// Whether the worker answers at once.
     pub fn is_answered(&self) -> bool {
-        for _ in 0..self.awake.share(ANSWER_LOOKS) {
+        self.sees_answer(self.awake.share(ANSWER_LOOKS))
+    }
+
+    /// Whether more threads have something to do than are to be awake.
+    pub(crate) fn is_crowded(&self) -> bool {
+        self.awake.is_crowded()
+    }
+
+    /// Waits in a crowd until the worker answers, or for 100 ms. It looks briefly, and then parks. A session that had
+    /// its share parks at once, and rests until it has its turn.
+    pub(crate) fn await_answer<R: Wait>(&mut self, rt: &R, peers: &Peers) {
+        self.handed = self.handed.saturating_add(1);
+        if self.handed > SHARE {
+            self.rest(rt, peers);
+        } else if !self.sees_answer(self.awake.crowd_looks()) {
+            self.park(rt, peers, PARKED);
+        }
+    }
+
+    // Rests, unless the worker has answered.
+    fn rest<R: Wait>(&mut self, rt: &R, peers: &Peers) {
+        if !self.thread_waker.take() {
+            self.handed = 0;
+            self.park(rt, peers, RESTING);
+        }
+    }
+
+    // Parks in this state until the worker answers, for 100 ms at most, and leaves its place to another one. What a
+    // socket has is left for later.
+    fn park<R: Wait>(&self, rt: &R, peers: &Peers, state: u64) {
+        if self.thread_waker.change(AWAKE, state) {
+            self.awake.add_asleep();
+            peers.admit(&self.awake);
+            self.thread_waker.park(rt);
+        }
+        if !self.thread_waker.rise() {
+            self.awake.add_awake();
+        }
+    }
+
+    // Whether the thread is woken within this many looks.
+    fn sees_answer(&self, looks: u64) -> bool {
+        for _ in 0..looks {
             if self.thread_waker.take() {
                 return true;
             }
@@ -248,16 +445,16 @@ impl IdleWait {
         self.thread_waker.take()
     }
 
-    /// Waits until the thread is woken, or for 100 ms.
+    /// Waits, as the worker does, until the thread is woken, or for 100 ms.
     pub fn wait(&mut self) {
-        if !self.spin(false) {
+        if !self.spin(WORKER_LOOKS, false) {
             self.sleep();
         }
     }
 
-    /// Waits until the thread is woken or a socket is ready, or for 100 ms.
+    /// Waits, as a session does, until the thread is woken or a socket is ready, or for 100 ms.
     pub fn wait_at_sockets(&mut self) {
-        if !self.spin(true) {
+        if !self.spin(SESSION_LOOKS, true) {
             self.sleep();
         }
     }
@@ -267,9 +464,14 @@ impl IdleWait {
         self.awake.add_asleep();
     }
 
-    // Looks until the thread is woken, or a socket is ready where that is asked; false where it is to sleep.
-    fn spin(&mut self, at_sockets: bool) -> bool {
-        let most = if self.is_calm { 1 } else { self.looks };
+    // Looks at most this often until the thread is woken, or a socket is ready where that is asked; false where it is
+    // to sleep.
+    fn spin(&mut self, looks: u64, at_sockets: bool) -> bool {
+        let most = if self.is_calm {
+            1
+        } else {
+            self.awake.share(looks)
+        };
         for look in 0..most {
             if self.thread_waker.take() {
                 return true;
@@ -278,13 +480,13 @@ impl IdleWait {
                 if at_sockets && self.is_ready() {
                     return true;
                 }
-                if look >= self.awake.share(most) {
+                if look >= self.awake.share(looks) {
                     return false;
                 }
             }
             hint::spin_loop();
         }
-        false
+        self.thread_waker.take()
     }
 
     // Whether a socket became ready since the last call.
@@ -297,14 +499,26 @@ impl IdleWait {
 
     // Sleeps until the thread is woken or a socket is ready, for 100 ms at most.
     fn sleep(&mut self) {
+        self.handed = 0;
         self.is_calm = false;
-        if self.thread_waker.fall_asleep() {
-            self.awake.add_asleep();
-            let longest = Duration::from_millis(MAX_WAIT_MS);
-            let _ = self.poll.poll(&mut self.events, Some(longest));
-            self.awake.add_awake();
+        if self.sleep_as(ASLEEP, MAX_WAIT_MS) {
             self.is_calm = self.events.is_empty();
         }
         self.thread_waker.set_awake();
+    }
+
+    // Sleeps in this state until the thread is woken or a socket is ready, for this time at most; not where it was
+    // woken already. Whether it slept. Who wakes it counts it as awake; else it does so itself.
+    fn sleep_as(&mut self, state: u64, longest_ms: u64) -> bool {
+        if !self.thread_waker.change(AWAKE, state) {
+            return false;
+        }
+        self.awake.add_asleep();
+        let longest = Duration::from_millis(longest_ms);
+        let _ = self.poll.poll(&mut self.events, Some(longest));
+        if self.thread_waker.change(state, AWAKE) {
+            self.awake.add_awake();
+        }
+        true
     }
 }
