@@ -4,7 +4,7 @@
 --           order b2 to sell 5 BASIS1Y @ -1
 --       row 12 to BETA: 35=8|37=NONE|..
 --           report E18: order b2 to sell BASIS1Y refused, ..
---       row 14 at 20250303-14:30:56.000: the clock: the first held side of a cross that is due enters or is refused
+--       row 14 at 20250303-14:30:56.000: the clock, without a message: the first held side of a cross that is due ..
 use Rattle.std.specs.Prelude.{ℕ, ◌-◌, ◌==◌, List, [], ◌∷◌, Some, codes, decimal, if◌then◌else◌}
 use Rattle.sef_moment.specs.Utc.{utc_text}
 use Rattle.fix_dictionary.specs.declared.messages.App.{App}
@@ -21,7 +21,7 @@ sender_name file who = if who == 0 then [] else name_of file (who - 1)
 
 -- what a row of the clock says
 abbrev pub clock_words : List ℕ
-clock_words = codes "the clock: the first held side of a cross that is due enters or is refused"
+clock_words = codes "the clock, without a message: the first held side of a cross that is due enters or is refused"
 
 -- a message that came: its row and moment, who sent it, and what it says
 abbrev pub came_said : TrailRow → (from text words : List ℕ) → List Part

@@ -1,5 +1,5 @@
 -- A message in words: its parts, in the order of a sentence.
-use Rattle.std.specs.Prelude.{ℕ, Bool, ◌&&◌, ◌==◌, List, [], ◌∷◌, ◌++◌, Option, Some, None, bytes_eq, codes, decimal, if◌then◌else◌}
+use Rattle.std.specs.Prelude.{ℕ, Bool, ◌&&◌, ◌==◌, List, [], ◌∷◌, ◌++◌, Option, Some, None, is_none, bytes_eq, codes, decimal, if◌then◌else◌}
 use Rattle.std.specs.List.{flat_map}
 use Rattle.sef_moment.specs.Utc.{utc_text}
 use Rattle.fix_fields.specs.Forms.{price_text}
@@ -62,6 +62,10 @@ response_name n = if n == 1 then codes "hit of quote " else (if n == 6 then code
 -- QuoteStatus (297)
 abbrev pub status_name : ℕ → List ℕ
 status_name n = if n == 0 then codes "accepted" else (if n == 5 then codes "refused" else (if n == 7 then codes "expired" else (if n == 9 then codes "not found" else (if n == 11 then codes "passed" else (if n == 17 then codes "withdrawn" else codes "of another status")))))
+
+-- the same of a response: one that is not accepted does not do what became of the quote before
+abbrev pub outcome_name : ℕ → List ℕ
+outcome_name n = if n == 7 then codes "refused: the quote had run out" else (if n == 9 then codes "refused: no such live quote" else (if n == 17 then codes "refused: the quote had been withdrawn or passed" else status_name n))
 
 -- CxlRejResponseTo (434)
 abbrev pub change_name : ℕ → List ℕ
@@ -171,17 +175,62 @@ response_parts d =
     ∷ (codes " as ", Some d.response_id)
     ∷ []
 
-abbrev pub status_parts : QuoteStatusReport → List Part
-status_parts d =
+-- of a response (693)
+abbrev pub outcome_parts : List ℕ → QuoteStatusReport → List Part
+outcome_parts response d =
+    (codes "status: response ", Some response)
+    ∷ (codes " to quote ", d.quote_id)
+    ∷ (codes " in request ", d.request_id)
+    ∷ (codes " for ", d.symbol)
+    ∷ (codes " ", Some (outcome_name d.status))
+    ∷ (codes ", 300=", given decimal d.reject_reason)
+    ∷ (codes " ", d.text)
+    ∷ []
+
+-- of a withdrawal that finds none (297=9)
+abbrev pub no_quote_parts : QuoteStatusReport → List Part
+no_quote_parts d =
+    words_alone (codes "status: no live quote")
+    ∷ (codes " ", d.quote_id)
+    ∷ (codes " in request ", d.request_id)
+    ∷ (codes " for ", d.symbol)
+    ∷ (codes ", 300=", given decimal d.reject_reason)
+    ∷ (codes " ", d.text)
+    ∷ []
+
+abbrev pub quote_status_parts : QuoteStatusReport → List Part
+quote_status_parts d =
     words_alone (codes "status:")
     ∷ (codes " quote ", d.quote_id)
     ∷ (codes " in request ", d.request_id)
-    ∷ (codes " by response ", d.response_id)
     ∷ (codes " for ", d.symbol)
     ∷ (codes " ", Some (status_name d.status))
     ∷ (codes ", 300=", given decimal d.reject_reason)
     ∷ (codes " ", d.text)
     ∷ []
+
+-- The answer to a quote names its request (131); without a response only a withdrawal is refused without one.
+abbrev pub is_withdrawal_refused : QuoteStatusReport → Bool
+is_withdrawal_refused d = d.status == 5 && is_none d.request_id
+
+abbrev pub withdrawal_refused_parts : QuoteStatusReport → List Part
+withdrawal_refused_parts d =
+    words_alone (codes "status: withdrawal")
+    ∷ (codes " of quote ", d.quote_id)
+    ∷ (codes " for ", d.symbol)
+    ∷ words_alone (codes " refused")
+    ∷ (codes ", 300=", given decimal d.reject_reason)
+    ∷ (codes " ", d.text)
+    ∷ []
+
+-- of a quote, or of a withdrawal
+abbrev pub named_status : QuoteStatusReport → List ℕ
+named_status d = if is_withdrawal_refused d then parts_text (withdrawal_refused_parts d) else parts_text (quote_status_parts d)
+
+-- by the response
+abbrev pub status_words : Option (List ℕ) → QuoteStatusReport → List ℕ
+status_words (Some response) d = parts_text (outcome_parts response d)
+status_words None d = if d.status == 9 then parts_text (no_quote_parts d) else named_status d
 
 abbrev pub request_refused_parts : QuoteRequestReject → List Part
 request_refused_parts d =
@@ -268,7 +317,7 @@ words (app.QuoteRequest d) = parts_text (request_parts d) ++ flat_map asked_word
 words (app.Quote d) = parts_text (quote_parts d) ++ flat_map maker_words d.parties
 words (app.QuoteCancel d) = parts_text (withdrawal_parts d)
 words (app.QuoteResponse d) = parts_text (response_parts d)
-words (app.QuoteStatusReport d) = parts_text (status_parts d)
+words (app.QuoteStatusReport d) = status_words d.response_id d
 words (app.QuoteRequestReject d) = parts_text (request_refused_parts d)
 words (app.ExecutionReport d) = parts_text (report_parts d)
 words (app.OrderCancelReject d) = parts_text (change_refused_parts d)

@@ -3,7 +3,7 @@ ghost use Rattle.std.specs.Prelude.{◌≡◌, bytes_eq, codes};
 ghost use Rattle.fix_dictionary.specs.Text.{given};
 ghost use Rattle.message_words.specs.Kinds.{report_kind};
 ghost use Rattle.message_words.specs.Parts.{shown_option};
-ghost use Rattle.message_words.specs.Words.{response_name, asked_side, change_name, entry_name, life_name, order_known_as, order_number, other_type, side_name, status_name, to_side, withdrawal_name};
+ghost use Rattle.message_words.specs.Words.{response_name, outcome_name, asked_side, change_name, entry_name, life_name, order_known_as, order_number, other_type, side_name, status_name, to_side, withdrawal_name};
 
 use crate::parts::Value;
 use fix_dictionary::{FixChar, FixInt, Identifier, Side};
@@ -123,6 +123,22 @@ pub(crate) fn status_name(status: FixInt) -> &'static [u8]
         b"withdrawn"
     } else {
         b"of another status"
+    }
+}
+
+/// The status of a quote (297) that answers a response.
+pub(crate) fn outcome_name(status: FixInt) -> &'static [u8]
+    ensures { result.now ≡ outcome_name status }
+{
+    let code = status.get();
+    if code == 7 {
+        b"refused: the quote had run out"
+    } else if code == 9 {
+        b"refused: no such live quote"
+    } else if code == 17 {
+        b"refused: the quote had been withdrawn or passed"
+    } else {
+        status_name(status)
     }
 }
 

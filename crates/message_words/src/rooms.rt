@@ -1,10 +1,12 @@
 //! Requests for quotes, quotes and the responses to them in words.
-ghost use Rattle.std.specs.Prelude.{◌≡◌, ◌++◌, OnOk};
+ghost use Rattle.std.specs.Prelude.{◌≡◌, ◌++◌, None, OnOk};
 ghost use Rattle.std.specs.List.{flat_map};
 ghost use Rattle.message_words.specs.Parts.{parts_text};
-ghost use Rattle.message_words.specs.Words.{response_parts, asked_words, is_asked, maker_words, party_words, quote_parts, request_parts, request_refused_parts, status_parts, withdrawal_parts};
+ghost use Rattle.message_words.specs.Words.{response_parts, asked_words, is_asked, is_withdrawal_refused, maker_words, named_status, no_quote_parts, outcome_parts, party_words, quote_parts, quote_status_parts, request_parts, request_refused_parts, status_words, withdrawal_parts, withdrawal_refused_parts};
 
-use crate::names::{asked_side, response_name, side_value, status_name, withdrawal_name};
+use crate::names::{
+    asked_side, outcome_name, response_name, side_value, status_name, withdrawal_name,
+};
 use crate::parts::{
     Part, Value, append_parts, bytes, identifier_value, moment_value, number, number_value,
     price_value, quantity_value, small_number, text_value,
@@ -196,12 +198,56 @@ pub(crate) fn append_response(
     )
 }
 
-pub(crate) fn append_status(
+fn append_outcome<'a>(
+    alloc: Global,
+    text: &mut Vec<u8>,
+    response: &'a [u8],
+    d: &'a QuoteStatusReport,
+) -> Result<(), AllocError>
+    ensures { OnOk result (text.new.items ≡ text.old.items ++ parts_text (outcome_parts response.now d.now)) }
+{
+    append_parts(
+        alloc,
+        text,
+        &[
+            part!(b"status: response ", bytes(response)),
+            part!(b" to quote ", identifier_value(&d.quote_id)),
+            part!(b" in request ", identifier_value(&d.request_id)),
+            part!(b" for ", identifier_value(&d.symbol)),
+            part!(b" ", bytes(outcome_name(d.status))),
+            part!(b", 300=", number_value(d.reject_reason)),
+            part!(b" ", text_value(&d.text)),
+        ],
+    )
+}
+
+fn append_no_quote(
     alloc: Global,
     text: &mut Vec<u8>,
     d: &QuoteStatusReport,
 ) -> Result<(), AllocError>
-    ensures { OnOk result (text.new.items ≡ text.old.items ++ parts_text (status_parts d.now)) }
+    ensures { OnOk result (text.new.items ≡ text.old.items ++ parts_text (no_quote_parts d.now)) }
+{
+    append_parts(
+        alloc,
+        text,
+        &[
+            part!(b"status: no live quote", bytes(b"")),
+            part!(b" ", identifier_value(&d.quote_id)),
+            part!(b" in request ", identifier_value(&d.request_id)),
+            part!(b" for ", identifier_value(&d.symbol)),
+            part!(b", 300=", number_value(d.reject_reason)),
+            part!(b" ", text_value(&d.text)),
+        ],
+    )
+}
+
+fn append_quote_status(
+    alloc: Global,
+    text: &mut Vec<u8>,
+    d: &QuoteStatusReport,
+) -> Result<(), AllocError>
+    ensures { OnOk result (text.new.items ≡ text.old.items ++ parts_text (quote_status_parts d.now)) }
 {
     append_parts(
         alloc,
@@ -210,13 +256,80 @@ pub(crate) fn append_status(
             part!(b"status:", bytes(b"")),
             part!(b" quote ", identifier_value(&d.quote_id)),
             part!(b" in request ", identifier_value(&d.request_id)),
-            part!(b" by response ", identifier_value(&d.response_id)),
             part!(b" for ", identifier_value(&d.symbol)),
             part!(b" ", bytes(status_name(d.status))),
             part!(b", 300=", number_value(d.reject_reason)),
             part!(b" ", text_value(&d.text)),
         ],
     )
+}
+
+/// Whether a status without a response says that a withdrawal was refused: it names no request (131).
+fn is_withdrawal_refused(d: &QuoteStatusReport) -> bool
+    ensures { result ≡ is_withdrawal_refused d.now }
+{
+    d.status.get() == 5 && d.request_id.is_none()
+}
+
+fn append_withdrawal_refused(
+    alloc: Global,
+    text: &mut Vec<u8>,
+    d: &QuoteStatusReport,
+) -> Result<(), AllocError>
+    ensures { OnOk result (text.new.items ≡ text.old.items ++ parts_text (withdrawal_refused_parts d.now)) }
+{
+    append_parts(
+        alloc,
+        text,
+        &[
+            part!(b"status: withdrawal", bytes(b"")),
+            part!(b" of quote ", identifier_value(&d.quote_id)),
+            part!(b" for ", identifier_value(&d.symbol)),
+            part!(b" refused", bytes(b"")),
+            part!(b", 300=", number_value(d.reject_reason)),
+            part!(b" ", text_value(&d.text)),
+        ],
+    )
+}
+
+fn append_named_status(
+    alloc: Global,
+    text: &mut Vec<u8>,
+    d: &QuoteStatusReport,
+) -> Result<(), AllocError>
+    ensures { OnOk result (text.new.items ≡ text.old.items ++ named_status d.now) }
+{
+    if is_withdrawal_refused(d) {
+        return append_withdrawal_refused(alloc, text, d);
+    }
+    append_quote_status(alloc, text, d)
+}
+
+fn append_unnamed_status(
+    alloc: Global,
+    text: &mut Vec<u8>,
+    d: &QuoteStatusReport,
+) -> Result<(), AllocError>
+    ensures { OnOk result (text.new.items ≡ text.old.items ++ status_words None d.now) }
+{
+    if d.status.get() == 9 {
+        return append_no_quote(alloc, text, d);
+    }
+    append_named_status(alloc, text, d)
+}
+
+/// Appends a status: of a response, of a withdrawal that finds no quote or is refused, or of a quote.
+pub(crate) fn append_status(
+    alloc: Global,
+    text: &mut Vec<u8>,
+    d: &QuoteStatusReport,
+) -> Result<(), AllocError>
+    ensures { OnOk result (text.new.items ≡ text.old.items ++ status_words d.now.response_id d.now) }
+{
+    match &d.response_id {
+        Some(response) => append_outcome(alloc, text, response.as_slice(), d),
+        None => append_unnamed_status(alloc, text, d),
+    }
 }
 
 pub(crate) fn append_request_refused(

@@ -36,7 +36,7 @@ pub fn sender_name(participants: &Participants, who: u32) -> &[u8]
 pub fn clock_words() -> &'static [u8]
     ensures { result.now ≡ clock_words }
 {
-    b"the clock: the first held side of a cross that is due enters or is refused"
+    b"the clock, without a message: the first held side of a cross that is due enters or is refused"
 }
 
 fn append_came_said<'a>(

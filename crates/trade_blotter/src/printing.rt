@@ -31,6 +31,8 @@ pub enum PrintFault {
 }
 
 impl From<AllocError> for PrintFault {
+    ghost from_gives = { λ _ fault. fault ≡ Memory };
+
     fn from(_: AllocError) -> PrintFault {
         PrintFault::Memory
     }

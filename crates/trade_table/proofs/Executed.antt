@@ -6,6 +6,8 @@ use Rattle.std.proofs.lemmas.List.Elements.{filter_map-append}
 use Rattle.venue_rules.specs.declared.facts.Fact.{Fact}
 use Rattle.venue_rules.specs.declared.facts.Fact.TheVariants as fact
 use Rattle.venue_rules.specs.declared.facts.Trade.{Trade}
+use Rattle.venue_rules.specs.declared.facts.TradeSource.{TradeSource}
+use Rattle.venue_rules.specs.declared.facts.TradeSource.TheVariants.{Book as InBook, Room as InRoom}
 use Rattle.venue_rules.specs.declared.trail.TradeFact.{TradeFact}
 use Rattle.venue_rules.specs.declared.trail.TrailRow.{TrailRow}
 use Rattle.venue_rules.specs.Facts.{History, next_trade, no_history, quotes, trade_in as trade_in_fact, trades}
@@ -15,12 +17,15 @@ use Rattle.venue_rules.specs.Run.{Input, after, answer_input, run, run_from}
 use Rattle.venue_core.specs.Replay.{AreEmitted}
 use Rattle.trade_table.specs.declared.execution.Execution.{Execution}
 use Rattle.trade_table.specs.declared.execution.Known.{Known}
+use Rattle.trade_table.specs.declared.execution.Source.{Source}
+use Rattle.trade_table.specs.declared.execution.Source.TheVariants as source
 use Rattle.trade_table.specs.Executions.{execution_of, executions, executions_from, of_trade, taken_in}
-use Rattle.trade_table.specs.Laws.{HasExecution, IsMade, IsSource}
+use Rattle.trade_table.specs.Laws.{AreCrossed, HasExecution, IsMade, IsSource}
 use Rattle.trade_table.specs.Sources.{known_at, made_at}
+use Rattle.trade_table.proofs.Crossing.{AreKept, cross_named, input_kept, nothing_kept}
 use Rattle.trade_table.proofs.Learning.{AreKnown, input_known}
 use Rattle.trade_table.proofs.Members.{In, Contains-from_In, In-append_left, none_is_some, picked_from, same_some}
-use Rattle.trade_table.proofs.Reported.{Aligned, IsReported, input_reported, source_within}
+use Rattle.trade_table.proofs.Reported.{Aligned, IsJoined, IsReported, input_reported, source_within}
 
 -- the facts of inputs, from a history on
 abbrev added : Market → History → List Input → List Fact
@@ -97,19 +102,19 @@ rest_more all every done r rs i is rest = record {
     one_more : (a k b : ℕ) → b ≡ a + 1 → a + suc k ≡ b + k
     one_more a k b e = omega (arith, e)
 
-walked : (m : Market) (all : List TrailRow) (every done : List Input) (ks : List Known) (rs : List TrailRow) (is : List Input) → IsRest all every done rs is → AreEmitted rs is → AreKnown ks (quotes (run m done).history.facts)
+walked : (m : Market) (all : List TrailRow) (every done : List Input) (ks : List Known) (rs : List TrailRow) (is : List Input) → IsRest all every done rs is → AreEmitted rs is → AreKnown ks (quotes (run m done).history.facts) → AreKept m done ks
     → Aligned (IsMade m all every) (next_trade (run m done).history.facts) (trades (added m (run m done).history is)) (executions_from m (run m done).history ks rs is)
-walked m all every done ks [] [] rest emitted known = tt
-walked m all every done ks [] (i ∷ is) rest emitted known = absurd emitted
-walked m all every done ks (r ∷ rs) [] rest emitted known = absurd emitted
-walked m all every done ks (r ∷ rs) (i ∷ is) rest emitted known =
+walked m all every done ks [] [] rest emitted known kept = tt
+walked m all every done ks [] (i ∷ is) rest emitted known kept = absurd emitted
+walked m all every done ks (r ∷ rs) [] rest emitted known kept = absurd emitted
+walked m all every done ks (r ∷ rs) (i ∷ is) rest emitted known kept =
     let h = (run m done).history in
     let a = answer_input m h i in
     let more = ks ++ known_at (taken_in i) a.replies in
     let here = made_at r (taken_in i) ks a.replies in
     let behind = added m (after h a) is in
     let final : (run m every).history.facts ≡ (h.facts ++ a.facts) ++ behind = ap (λ (l : List Input). (run m l).history.facts) rest.inputs ∙ all_facts done in
-    let reported = aligned_in (IsReported r i (h.facts ++ a.facts)) (IsMade m all every) (next_trade h.facts) (trades a.facts) here
+    let reported = aligned_in (IsReported r i ks h (h.facts ++ a.facts)) (IsMade m all every) (next_trade h.facts) (trades a.facts) here
     (λ k t x at p. record {
       earlier = done;
       input = i;
@@ -122,16 +127,23 @@ walked m all every done ks (r ∷ rs) (i ∷ is) rest emitted known =
       at_row = p.at_row;
       moment = p.moment;
       source = subst (λ (fs : List Fact). IsSource fs i t t.place x.source) (sym final) (source_within (h.facts ++ a.facts) ((h.facts ++ a.facts) ++ behind) (λ f j. In-append_left (h.facts ++ a.facts) behind f j) i t t.place x.source p.source);
+      crossed = crossed_by (h.facts ++ a.facts) t t.place x.source p.source p.joined;
     })
     (input_reported r i ks m h known) in
     let next = stepped m no_history done i in
-    let rest_of = walked m all every (done ++ i ∷ []) more rs is (rest_more all every done r rs i is rest) emitted.1 (subst (λ (g : History). AreKnown more (quotes g.facts)) (sym next) (input_known m h ks i known)) in
+    let rest_of = walked m all every (done ++ i ∷ []) more rs is (rest_more all every done r rs i is rest) emitted.1 (subst (λ (g : History). AreKnown more (quotes g.facts)) (sym next) (input_known m h ks i known)) (input_kept m done ks i kept) in
     let on : Aligned (IsMade m all every) (next_trade (after h a).facts) (trades behind) (executions_from m (after h a) more rs is) =
     subst (λ (g : History). Aligned (IsMade m all every) (next_trade g.facts) (trades (added m g is)) (executions_from m g more rs is)) next rest_of in
     let count : next_trade (after h a).facts ≡ next_trade h.facts + length (trades a.facts) = counted h.facts a.facts in
     subst (λ (ts : List Trade). Aligned (IsMade m all every) (next_trade h.facts) ts (here ++ executions_from m (after h a) more rs is)) (sym (filter_map-append trade_in_fact a.facts behind))
     (aligned_append (IsMade m all every) (next_trade h.facts) (trades a.facts) (trades behind) here (executions_from m (after h a) more rs is) reported (subst (λ (k : ℕ). Aligned (IsMade m all every) k (trades behind) (executions_from m (after h a) more rs is)) count on))
   where
+    crossed_by : (facts : List Fact) (t : Trade) (place : TradeSource) (x : Source) → IsSource facts i t place x → IsJoined (run m done).history i ks x → AreCrossed m done i place x
+    crossed_by facts t (InBook old new) (source.Book x) s joined = cross_named m done ks i kept old x.entering x.resting x.cross s.resting.order joined.1 joined.0
+    crossed_by facts t (InRoom room quote) (source.Room x) s joined = tt
+    crossed_by facts t (InBook old new) (source.Room x) s joined = s
+    crossed_by facts t (InRoom room quote) (source.Book x) s joined = s
+
     from_zero : (k : ℕ) → k + 0 ≡ k
     from_zero k = omega arith
 
@@ -175,7 +187,7 @@ found_in xs k number x is at own =
 pub trades_have_executions : (m : Market) (rs : List TrailRow) (is : List Input) (k : ℕ) (t : TradeFact) → AreEmitted rs is → slice_get (trade_facts (run m is).history.facts) k ≡ Some t → HasExecution m rs is t
 trades_have_executions m rs is k t emitted at =
     let read = numbered_at 1 (trades (run m is).history.facts) k t at in
-    let all = walked m rs is [] [] rs is (record { inputs = refl; rows = λ j. ap (slice_get rs) (from_zero j) }) emitted (λ q i. absurd i) in
+    let all = walked m rs is [] [] rs is (record { inputs = refl; rows = λ j. ap (slice_get rs) (from_zero j) }) emitted (λ q i. absurd i) (nothing_kept m) in
     let found = aligned_at (IsMade m rs is) 1 (trades (added m no_history is)) (executions m rs is) k read.0 all (ap (λ (fs : List Fact). slice_get (trades fs) k) (sym (grows m no_history is)) ∙ read.1) in
     let number : t.number ≡ 1 + k = ap (λ (y : TradeFact). y.number) (sym read.2) in
     record {

@@ -3,5 +3,6 @@ pub mod Printed
 pub mod Rows
 pub mod Members
 pub mod Learning
+pub mod Crossing
 pub mod Reported
 pub mod Executed

@@ -1,5 +1,5 @@
 -- Members of lists, and the element at a place.
-use Rattle.std.proofs.Common.{◌≡◌, refl, sym, ap, ◌∙◌, ◌⊎◌, inl, inr, ℕ, zero, suc, ◌<◌, Bool, true, false, cond, List, [], ◌∷◌, ◌++◌, map, length, filter, filter_map, find, slice_index_or, Contains, Option, Some, None, arith}
+use Rattle.std.proofs.Common.{◌≡◌, refl, sym, ap, subst, ◌∙◌, ◌⊎◌, inl, inr, ℕ, zero, suc, ◌<◌, Bool, true, false, cond, List, [], ◌∷◌, ◌++◌, map, length, filter, filter_map, find, slice_index_or, Contains, Option, Some, None, arith}
 use Rattle.std.specs.List.{cons_option}
 
 pub none_is_some : {A : Type 0} (a : A) → None ≡ Some a → ⊥
@@ -66,6 +66,15 @@ picked_cons h z zs y (Some w) e rec (inr i) = let k = rec i in (k.0, inr k.1, k.
 pub picked_from : {X Y : Type 0} (h : X → Option Y) (xs : List X) (y : Y) → In y (filter_map h xs) → (x : X) × In x xs × (h x ≡ Some y)
 picked_from h [] y i = absurd i
 picked_from h (z ∷ zs) y i = picked_cons h z zs y (h z) refl (picked_from h zs y) i
+
+kept_cons : {Y : Type 0} (o : Option Y) (ys : List Y) (y : Y) → In y ys → In y (cons_option o ys)
+kept_cons None ys y i = i
+kept_cons (Some z) ys y i = inr i
+
+pub picked_to : {X Y : Type 0} (h : X → Option Y) (xs : List X) (x : X) (y : Y) → In x xs → h x ≡ Some y → In y (filter_map h xs)
+picked_to h [] x y i e = absurd i
+picked_to h (z ∷ zs) x y (inl same) e = subst (λ o. In y (cons_option o (filter_map h zs))) (sym (ap h same ∙ e)) (inl refl)
+picked_to h (z ∷ zs) x y (inr i) e = kept_cons (h z) (filter_map h zs) y (picked_to h zs x y i e)
 
 -- what `find` finds
 

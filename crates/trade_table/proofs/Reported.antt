@@ -1,6 +1,6 @@
 -- The replies to each message, and to a tick, report the trades that it makes: each as the facts say that it was made.
 use Rattle.std.proofs.Common.{◌≡◌, refl, sym, ap, subst, ◌∙◌, inl, inr, ℕ, ℤ, ◌+◌, ◌==◌, Bool, true, false, nat_lt, not, ◌&&◌, if◌then◌else◌, List, [], ◌∷◌, ◌++◌, map, flat_map, Option, Some, None, append-nil, arith, eq-eqb, ne_eqb}
-use Rattle.std.specs.Prelude.{bytes_eq, filter, sum_by}
+use Rattle.std.specs.Prelude.{bytes_eq, filter, is_none, sum_by}
 use Rattle.std.specs.List.{enumerate_from}
 use Rattle.std.proofs.lemmas.List.Elements.{filter_map-append}
 use Rattle.std.proofs.lemmas.Slice.Eq.{bytes_eq-Decides}
@@ -59,8 +59,9 @@ use Rattle.trade_table.specs.declared.execution.Source.{Source}
 use Rattle.trade_table.specs.declared.execution.Source.TheVariants as source
 use Rattle.trade_table.specs.Executions.{taken_in}
 use Rattle.trade_table.specs.Laws.{IsOrder, IsSource, sender}
-use Rattle.trade_table.specs.Sources.{book_made, executed, hit, made_after, made_at, matched, own_id, responded, responded_in}
+use Rattle.trade_table.specs.Sources.{book_made, cross_joined, executed, hit, made_after, made_at, matched, own_id, responded, responded_in}
 use Rattle.trade_table.specs.Table.{bought, sold}
+use Rattle.trade_table.proofs.Crossing.{EntersAs}
 use Rattle.trade_table.proofs.Learning.{AreKnown, IsKnown}
 use Rattle.trade_table.proofs.Members.{In, Contains-from_In, In-append_left, In-append_right, In-filter, In-from_Contains, In-map, found_passes, none_is_some, picked_from, same_some}
 
@@ -71,16 +72,22 @@ Aligned P n [] (x ∷ xs) = ⊥
 Aligned P n (t ∷ ts) [] = ⊥
 Aligned P n (t ∷ ts) (x ∷ xs) = P n t x × Aligned P (n + 1) ts xs
 
+-- the cross of two orders is looked up by them; at a tick the one that enters has the name of the side that is due
+abbrev pub IsJoined : History → Input → List Known → Source → Type 0
+IsJoined h i ks (source.Book x) = (x.cross ≡ cross_joined ks (is_none (taken_in i)) x.entering x.resting) × EntersAs h i x.entering.who x.entering.id
+IsJoined h i ks (source.Room x) = Unit {0}
+
 -- an execution at a row, of a trade that the answer to an input made, by these facts
-pub record IsReported (r : TrailRow) (i : Input) (facts : List Fact) (n : ℕ) (t : Trade) (x : Execution) : Type 0 where
+pub record IsReported (r : TrailRow) (i : Input) (ks : List Known) (h : History) (facts : List Fact) (n : ℕ) (t : Trade) (x : Execution) : Type 0 where
   pub number_is : x.trade ≡ n
   pub at_row : x.row ≡ r.n
   pub moment : x.moment ≡ r.moment
   pub source : IsSource facts i t t.place x.source
+  pub joined : IsJoined h i ks x.source
 
 -- an answer at a row reports its trades
 abbrev pub AllReported : TrailRow → Input → List Known → History → Answer → Type 0
-AllReported r i ks h a = Aligned (IsReported r i (h.facts ++ a.facts)) (next_trade h.facts) (trades a.facts) (made_at r (taken_in i) ks a.replies)
+AllReported r i ks h a = Aligned (IsReported r i ks h (h.facts ++ a.facts)) (next_trade h.facts) (trades a.facts) (made_at r (taken_in i) ks a.replies)
 
 pub aligned_more : {P Q : ℕ → Trade → Execution → Type 0} → ((n : ℕ) (t : Trade) (x : Execution) → P n t x → Q n t x) → (n : ℕ) (ts : List Trade) (xs : List Execution) → Aligned P n ts xs → Aligned Q n ts xs
 aligned_more f n [] [] a = tt
@@ -127,15 +134,15 @@ source_within fs gs more i t (InRoom room quote) (source.Room x) k = record {
 source_within fs gs more i t (InBook old new) (source.Room x) k = absurd k
 source_within fs gs more i t (InRoom room quote) (source.Book x) k = absurd k
 
-reports_within : (r : TrailRow) (i : Input) (fs gs : List Fact) → Within fs gs → (n : ℕ) (t : Trade) (x : Execution) → IsReported r i fs n t x → IsReported r i gs n t x
-reports_within r i fs gs more n t x k = record { number_is = k.number_is; at_row = k.at_row; moment = k.moment; source = source_within fs gs more i t t.place x.source k.source }
+reports_within : (r : TrailRow) (i : Input) (ks : List Known) (h : History) (fs gs : List Fact) → Within fs gs → (n : ℕ) (t : Trade) (x : Execution) → IsReported r i ks h fs n t x → IsReported r i ks h gs n t x
+reports_within r i ks h fs gs more n t x k = record { number_is = k.number_is; at_row = k.at_row; moment = k.moment; source = source_within fs gs more i t t.place x.source k.source; joined = k.joined }
 
 -- the same replies, and more facts that are no trades
 more_facts : (r : TrailRow) (i : Input) (ks : List Known) (h : History) (a b : Answer) → a.replies ≡ b.replies → trades a.facts ≡ trades b.facts → Within a.facts b.facts → AllReported r i ks h a → AllReported r i ks h b
 more_facts r i ks h a b same_replies same_trades more k =
-    subst (λ (rs : List Reply). Aligned (IsReported r i (h.facts ++ b.facts)) (next_trade h.facts) (trades b.facts) (made_at r (taken_in i) ks rs)) same_replies
-    (subst (λ (ts : List Trade). Aligned (IsReported r i (h.facts ++ b.facts)) (next_trade h.facts) ts (made_at r (taken_in i) ks a.replies)) same_trades
-    (aligned_more (reports_within r i (h.facts ++ a.facts) (h.facts ++ b.facts) (λ f j. behind f (h.facts) j)) (next_trade h.facts) (trades a.facts) (made_at r (taken_in i) ks a.replies) k))
+    subst (λ (rs : List Reply). Aligned (IsReported r i ks h (h.facts ++ b.facts)) (next_trade h.facts) (trades b.facts) (made_at r (taken_in i) ks rs)) same_replies
+    (subst (λ (ts : List Trade). Aligned (IsReported r i ks h (h.facts ++ b.facts)) (next_trade h.facts) ts (made_at r (taken_in i) ks a.replies)) same_trades
+    (aligned_more (reports_within r i ks h (h.facts ++ a.facts) (h.facts ++ b.facts) (λ f j. behind f (h.facts) j)) (next_trade h.facts) (trades a.facts) (made_at r (taken_in i) ks a.replies) k))
   where
     behind : (f : Fact) (before : List Fact) → In f (before ++ a.facts) → In f (before ++ b.facts)
     behind f [] j = more f j
@@ -229,9 +236,9 @@ sold_by : (s : Side) (one other : SideFilled) → (sold s one other).who ≡ buy
 sold_by Buy one other = refl
 sold_by Sell one other = refl
 
-fill_reported : (r : TrailRow) (i : Input) (ks : List Known) (facts : List Fact) (e : Entry) (f : Fill) (n : ℕ) → In (fact.Entered e) facts → In (fact.Entered f.resting.entry) facts
-    → IsReported r i facts n (trade_of e f) (matched r (taken_in i) ks (side_of e n) (side_of f.resting.entry n))
-fill_reported r i ks facts e f n own there = record {
+fill_reported : (r : TrailRow) (i : Input) (ks : List Known) (h : History) (facts : List Fact) (e : Entry) (f : Fill) (n : ℕ) → EntersAs h i e.order.who e.order.id → In (fact.Entered e) facts → In (fact.Entered f.resting.entry) facts
+    → IsReported r i ks h facts n (trade_of e f) (matched r (taken_in i) ks (side_of e n) (side_of f.resting.entry n))
+fill_reported r i ks h facts e f n enters own there = record {
   number_is = refl;
   at_row = refl;
   moment = refl;
@@ -242,6 +249,7 @@ fill_reported r i ks facts e f n own there = record {
     seller = sold_by e.order.side (side_of e n) (side_of f.resting.entry n);
     at_tick = refl;
   };
+  joined = (refl, enters);
 }
 
 -- a report before is of another trade
@@ -269,87 +277,87 @@ unfilled_idle r taken ks m e fs before n false = refl
 abbrev trade_facts : Entry → List Fill → List Fact
 trade_facts e fs = map (λ f. fact.Traded (trade_of e f)) fs
 
-fills_reported : (r : TrailRow) (i : Input) (ks : List Known) (facts : List Fact) (m : Market) (e : Entry) (all : List Fill) (trade j n : ℕ) (fs : List Fill) (before : Option SideFilled) → IsOther before (trade + j) → In (fact.Entered e) facts
+fills_reported : (r : TrailRow) (i : Input) (ks : List Known) (h : History) (facts : List Fact) (m : Market) (e : Entry) (all : List Fill) (trade j n : ℕ) (fs : List Fill) (before : Option SideFilled) → EntersAs h i e.order.who e.order.id → IsOther before (trade + j) → In (fact.Entered e) facts
     → ((f : Fill) → In f fs → In (fact.Entered f.resting.entry) facts)
-    → Aligned (IsReported r i facts) (trade + j) (trades (trade_facts e fs)) (made_after r (taken_in i) ks before (numbered n (flat_map (fill_reports m e all trade) (enumerate_from j fs) ++ unfilled_reports m e all)))
-fills_reported r i ks facts m e all trade j n [] before other own there =
-    subst (Aligned (IsReported r i facts) (trade + j) []) (sym (unfilled_idle r (taken_in i) ks m e all before n (not (is_day e.order.life) && nat_lt (filled_by all) e.order.quantity))) tt
-fills_reported r i ks facts m e all trade j n (f ∷ fs) before other own there =
+    → Aligned (IsReported r i ks h facts) (trade + j) (trades (trade_facts e fs)) (made_after r (taken_in i) ks before (numbered n (flat_map (fill_reports m e all trade) (enumerate_from j fs) ++ unfilled_reports m e all)))
+fills_reported r i ks h facts m e all trade j n [] before enters other own there =
+    subst (Aligned (IsReported r i ks h facts) (trade + j) []) (sym (unfilled_idle r (taken_in i) ks m e all before n (not (is_day e.order.life) && nat_lt (filled_by all) e.order.quantity))) tt
+fills_reported r i ks h facts m e all trade j n (f ∷ fs) before enters other own there =
     let taken = taken_in i in
     let k = trade + j in
     let new = side_of e k in
     let old = side_of f.resting.entry k in
     let next : trade + (j + 1) ≡ k + 1 = omega arith in
     let rest = made_after r taken ks (Some old) (numbered (n + 1 + 1) (flat_map (fill_reports m e all trade) (enumerate_from (j + 1) fs) ++ unfilled_reports m e all)) in
-    let behind = fills_reported r i ks facts m e all trade (j + 1) (n + 1 + 1) fs (Some old) (ne_eqb k (trade + (j + 1)) (λ same. apart k (trade + (j + 1)) next same)) own (λ g x. there g (inr x)) in
+    let behind = fills_reported r i ks h facts m e all trade (j + 1) (n + 1 + 1) fs (Some old) enters (ne_eqb k (trade + (j + 1)) (λ same. apart k (trade + (j + 1)) next same)) own (λ g x. there g (inr x)) in
     let made : (book_made r taken ks before (Some new) ++ []) ++ ((book_made r taken ks (Some new) (Some old) ++ []) ++ rest) ≡ matched r taken ks new old ∷ rest =
     (λ l. (none_made r taken ks before new other l ++ []) ++ ((one_made r taken ks new old refl l ++ []) ++ rest)) in
-    subst (Aligned (IsReported r i facts) k (trades (trade_facts e (f ∷ fs)))) (sym made)
-    (fill_reported r i ks facts e f k own (there f (inl refl)), subst (λ (a : ℕ). Aligned (IsReported r i facts) a (trades (trade_facts e fs)) rest) next behind)
+    subst (Aligned (IsReported r i ks h facts) k (trades (trade_facts e (f ∷ fs)))) (sym made)
+    (fill_reported r i ks h facts e f k enters own (there f (inl refl)), subst (λ (a : ℕ). Aligned (IsReported r i ks h facts) a (trades (trade_facts e fs)) rest) next behind)
   where
     apart : (a b : ℕ) → b ≡ a + 1 → a ≡ b → ⊥
     apart a b h same = omega (arith, h, same)
 
 -- a report of an entry, and those behind it
-entry_reported : (r : TrailRow) (i : Input) (ks : List Known) (h : History) (before : List Fact) (m : Market) (e : Entry) (o : OrderFact) (replies : List Reply) → trades before ≡ []
+entry_reported : (r : TrailRow) (i : Input) (ks : List Known) (h : History) (before : List Fact) (m : Market) (e : Entry) (o : OrderFact) (replies : List Reply) → EntersAs h i e.order.who e.order.id → trades before ≡ []
     → made_after r (taken_in i) ks None replies ≡ made_after r (taken_in i) ks None (numbered (h.reports + 1) (entry_reports m h.facts e (fills h.facts o)))
     → AllReported r i ks h (record { facts = before ++ entry_facts e (fills h.facts o); replies = replies })
-entry_reported r i ks h before m e o replies none same =
+entry_reported r i ks h before m e o replies enters none same =
     let fs = fills h.facts o in
     let facts = h.facts ++ (before ++ entry_facts e fs) in
     let own : In (fact.Entered e) facts = In-append_right h.facts (before ++ entry_facts e fs) (fact.Entered e) (In-append_right before (entry_facts e fs) (fact.Entered e) (inl refl)) in
-    let reported = fills_reported r i ks facts m e fs (next_trade h.facts) 0 (h.reports + 1) fs None tt own (λ f x. In-append_left h.facts (before ++ entry_facts e fs) (fact.Entered f.resting.entry) (resting_entered h.facts o f x)) in
+    let reported = fills_reported r i ks h facts m e fs (next_trade h.facts) 0 (h.reports + 1) fs None enters tt own (λ f x. In-append_left h.facts (before ++ entry_facts e fs) (fact.Entered f.resting.entry) (resting_entered h.facts o f x)) in
     let listed : trades (trade_facts e fs) ≡ trades (before ++ entry_facts e fs) = sym (filter_map-append trade_in_fact before (entry_facts e fs) ∙ ap (λ (l : List Trade). l ++ trades (trade_facts e fs)) none) in
-    subst (Aligned (IsReported r i facts) (next_trade h.facts) (trades (before ++ entry_facts e fs))) (sym same)
-    (subst (λ (ts : List Trade). Aligned (IsReported r i facts) (next_trade h.facts) ts (made_after r (taken_in i) ks None (numbered (h.reports + 1) (entry_reports m h.facts e fs)))) listed
-    (subst (λ (a : ℕ). Aligned (IsReported r i facts) a (trades (trade_facts e fs)) (made_after r (taken_in i) ks None (numbered (h.reports + 1) (entry_reports m h.facts e fs)))) (from_zero (next_trade h.facts)) reported))
+    subst (Aligned (IsReported r i ks h facts) (next_trade h.facts) (trades (before ++ entry_facts e fs))) (sym same)
+    (subst (λ (ts : List Trade). Aligned (IsReported r i ks h facts) (next_trade h.facts) ts (made_after r (taken_in i) ks None (numbered (h.reports + 1) (entry_reports m h.facts e fs)))) listed
+    (subst (λ (a : ℕ). Aligned (IsReported r i ks h facts) a (trades (trade_facts e fs)) (made_after r (taken_in i) ks None (numbered (h.reports + 1) (entry_reports m h.facts e fs)))) (from_zero (next_trade h.facts)) reported))
   where
     from_zero : (k : ℕ) → k + 0 ≡ k
     from_zero k = omega arith
 
-accepted_reported : (r : TrailRow) (i : Input) (ks : List Known) (m : Market) (h : History) (o : OrderFact) (t : ℕ) → AllReported r i ks h (accepted m h o t)
-accepted_reported r i ks m h o t = entry_reported r i ks h [] m (entering h.facts o 0 t) o (accepted m h o t).replies refl refl
+accepted_reported : (r : TrailRow) (i : Input) (ks : List Known) (m : Market) (h : History) (o : OrderFact) (t : ℕ) → EntersAs h i o.who o.id → AllReported r i ks h (accepted m h o t)
+accepted_reported r i ks m h o t enters = entry_reported r i ks h [] m (entering h.facts o 0 t) o (accepted m h o t).replies enters refl refl
 
 -- Messages.
 
-order_reported : (r : TrailRow) (i : Input) (ks : List Known) (m : Market) (h : History) (s : Sender) (d : OrderMessage) (t : ℕ) → AllReported r i ks h (answer_order m h s d t)
-order_reported r i ks m h s d t = first_reported r i ks h (order_refusals m h s d t) (accepted m h (order_asked m s.who d) t) (tt, (tt, (tt, (tt, (tt, (tt, (tt, (tt, tt)))))))) (accepted_reported r i ks m h (order_asked m s.who d) t)
+order_reported : (r : TrailRow) (i : Input) (ks : List Known) (m : Market) (h : History) (s : Sender) (d : OrderMessage) (t : ℕ) → ((who : ℕ) (id : List ℕ) → EntersAs h i who id) → AllReported r i ks h (answer_order m h s d t)
+order_reported r i ks m h s d t any = first_reported r i ks h (order_refusals m h s d t) (accepted m h (order_asked m s.who d) t) (tt, (tt, (tt, (tt, (tt, (tt, (tt, (tt, tt)))))))) (accepted_reported r i ks m h (order_asked m s.who d) t (any s.who d.order_id))
 
 cancel_reported : (r : TrailRow) (i : Input) (ks : List Known) (m : Market) (h : History) (s : Sender) (d : CancelMessage) (n : Named) → AllReported r i ks h (answer_cancel_of m h s d n)
 cancel_reported r i ks m h s d IsUnknown = tt
 cancel_reported r i ks m h s d (IsHeld k) = first_reported r i ks h (cancel_refusals h s d None) (held_cancelled m h s d k) (tt, tt) tt
 cancel_reported r i ks m h s d (IsResting x) = first_reported r i ks h (cancel_refusals h s d (Some (standing x))) (cancelled m h s d x) (tt, tt) tt
 
-replaced_reported : (r : TrailRow) (i : Input) (ks : List Known) (m : Market) (h : History) (s : Sender) (d : ReplaceMessage) (x : Resting) (t : ℕ) → AllReported r i ks h (replaced m h s d x t)
-replaced_reported r i ks m h s d x t =
+replaced_reported : (r : TrailRow) (i : Input) (ks : List Known) (m : Market) (h : History) (s : Sender) (d : ReplaceMessage) (x : Resting) (t : ℕ) → ((who : ℕ) (id : List ℕ) → EntersAs h i who id) → AllReported r i ks h (replaced m h s d x t)
+replaced_reported r i ks m h s d x t any =
     let o = replacement d x in
-    entry_reported r i ks h (fact.Removed (record { order = x.entry.number; who = s.who; id = d.order_id }) ∷ []) m (entering h.facts o (filled x) t) o (replaced m h s d x t).replies refl refl
+    entry_reported r i ks h (fact.Removed (record { order = x.entry.number; who = s.who; id = d.order_id }) ∷ []) m (entering h.facts o (filled x) t) o (replaced m h s d x t).replies (any o.who o.id) refl refl
 
-replace_reported : (r : TrailRow) (i : Input) (ks : List Known) (m : Market) (h : History) (s : Sender) (d : ReplaceMessage) (t : ℕ) (n : Named) → AllReported r i ks h (answer_replace_of m h s d t n)
-replace_reported r i ks m h s d t IsUnknown = tt
-replace_reported r i ks m h s d t (IsHeld k) = first_reported r i ks h (held_replace_refusals h s d) (replace_refused s d None IsHeldSide) (tt, tt) tt
-replace_reported r i ks m h s d t (IsResting x) = first_reported r i ks h (replace_refusals m h s d x t) (replaced m h s d x t) (tt, (tt, (tt, (tt, (tt, (tt, (tt, tt))))))) (replaced_reported r i ks m h s d x t)
+replace_reported : (r : TrailRow) (i : Input) (ks : List Known) (m : Market) (h : History) (s : Sender) (d : ReplaceMessage) (t : ℕ) (n : Named) → ((who : ℕ) (id : List ℕ) → EntersAs h i who id) → AllReported r i ks h (answer_replace_of m h s d t n)
+replace_reported r i ks m h s d t IsUnknown any = tt
+replace_reported r i ks m h s d t (IsHeld k) any = first_reported r i ks h (held_replace_refusals h s d) (replace_refused s d None IsHeldSide) (tt, tt) tt
+replace_reported r i ks m h s d t (IsResting x) any = first_reported r i ks h (replace_refusals m h s d x t) (replaced m h s d x t) (tt, (tt, (tt, (tt, (tt, (tt, (tt, tt))))))) (replaced_reported r i ks m h s d x t any)
 
 -- Crosses, and held sides as they enter.
 
-cross_accepted_reported : (r : TrailRow) (i : Input) (ks : List Known) (m : Market) (h : History) (s : Sender) (d : CrossMessage) (t : ℕ) → AllReported r i ks h (cross_accepted m h s d t)
-cross_accepted_reported r i ks m h s d t =
+cross_accepted_reported : (r : TrailRow) (i : Input) (ks : List Known) (m : Market) (h : History) (s : Sender) (d : CrossMessage) (t : ℕ) → ((who : ℕ) (id : List ℕ) → EntersAs h i who id) → AllReported r i ks h (cross_accepted m h s d t)
+cross_accepted_reported r i ks m h s d t any =
     let first = accepted m h (side_order m s.who d (first_side d)) t in
     let held : Fact = fact.Held (record { order = side_order m s.who d (second_side d); cross = d.cross_id; due = t + delay_of m.instruments (instrument_of m.instruments d.symbol) }) in
     more_facts r i ks h first (cross_accepted m h s d t) refl (sym (filter_map-append trade_in_fact first.facts (held ∷ []) ∙ append-nil (trades first.facts))) (λ f x. In-append_left first.facts (held ∷ []) f x)
-    (accepted_reported r i ks m h (side_order m s.who d (first_side d)) t)
+    (accepted_reported r i ks m h (side_order m s.who d (first_side d)) t (any s.who (first_side d).order_id))
 
-cross_reported : (r : TrailRow) (i : Input) (ks : List Known) (m : Market) (h : History) (s : Sender) (d : CrossMessage) (t : ℕ) → AllReported r i ks h (answer_cross m h s d t)
-cross_reported r i ks m h s d t = first_reported r i ks h (cross_refusals m h s d t) (cross_accepted m h s d t) (tt, (tt, (tt, (tt, (tt, (tt, (tt, (tt, (tt, (tt, (tt, tt))))))))))) (cross_accepted_reported r i ks m h s d t)
+cross_reported : (r : TrailRow) (i : Input) (ks : List Known) (m : Market) (h : History) (s : Sender) (d : CrossMessage) (t : ℕ) → ((who : ℕ) (id : List ℕ) → EntersAs h i who id) → AllReported r i ks h (answer_cross m h s d t)
+cross_reported r i ks m h s d t any = first_reported r i ks h (cross_refusals m h s d t) (cross_accepted m h s d t) (tt, (tt, (tt, (tt, (tt, (tt, (tt, (tt, (tt, (tt, (tt, tt))))))))))) (cross_accepted_reported r i ks m h s d t any)
 
-due_reported : (r : TrailRow) (i : Input) (ks : List Known) (m : Market) (h : History) (k : HeldSide) → AllReported r i ks h (answer_due m h k)
-due_reported r i ks m h k =
+due_reported : (r : TrailRow) (i : Input) (ks : List Known) (m : Market) (h : History) (k : HeldSide) → EntersAs h i k.order.who k.order.id → AllReported r i ks h (answer_due m h k)
+due_reported r i ks m h k enters =
     let entered = first_of (due_refusals m h k) (accepted m h k.order k.due) in
-    more_facts r i ks h entered (answer_due m h k) refl refl (λ f x. inr x) (first_reported r i ks h (due_refusals m h k) (accepted m h k.order k.due) (tt, (tt, tt)) (accepted_reported r i ks m h k.order k.due))
+    more_facts r i ks h entered (answer_due m h k) refl refl (λ f x. inr x) (first_reported r i ks h (due_refusals m h k) (accepted m h k.order k.due) (tt, (tt, tt)) (accepted_reported r i ks m h k.order k.due enters))
 
-due_or_none_reported : (r : TrailRow) (i : Input) (ks : List Known) (m : Market) (h : History) (o : Option HeldSide) → AllReported r i ks h (answer_due_of m h o)
-due_or_none_reported r i ks m h None = tt
-due_or_none_reported r i ks m h (Some k) = due_reported r i ks m h k
+due_or_none_reported : (r : TrailRow) (i : Input) (ks : List Known) (m : Market) (h : History) (o : Option HeldSide) → ((k : HeldSide) → o ≡ Some k → EntersAs h i k.order.who k.order.id) → AllReported r i ks h (answer_due_of m h o)
+due_or_none_reported r i ks m h None enters = tt
+due_or_none_reported r i ks m h (Some k) enters = due_reported r i ks m h k (enters k refl)
 
 -- Requests, quotes and withdrawals.
 
@@ -361,7 +369,7 @@ request_reported : (r : TrailRow) (i : Input) (ks : List Known) (m : Market) (h 
 request_reported r i ks m h s d t =
     let room = opened m h s d t in
     first_reported r i ks h (request_refusals m h s d t) (request_accepted m room) (tt, (tt, (tt, (tt, (tt, (tt, (tt, (tt, (tt, (tt, tt))))))))))
-    (subst (Aligned (IsReported r i (h.facts ++ (request_accepted m room).facts)) (next_trade h.facts) []) (sym (requests_idle r (taken_in i) ks m room room.recipients)) tt)
+    (subst (Aligned (IsReported r i ks h (h.facts ++ (request_accepted m room).facts)) (next_trade h.facts) []) (sym (requests_idle r (taken_in i) ks m room room.recipients)) tt)
 
 quote_accepted_reported : (r : TrailRow) (i : Input) (ks : List Known) (m : Market) (h : History) (s : Sender) (room : Room) (d : QuoteMessage) (q : Option RoomQuote)
     → made_after r (taken_in i) ks None (quote_status s d (Some (symbol_of m.instruments room.instrument)) Accepted ∷ shown_with m h room q ++ quote_sent m room (quoted h s room d) ∷ []) ≡ []
@@ -371,7 +379,7 @@ quote_accepted_reported r i ks m h s room d (Some q) = refl
 quote_reported : (r : TrailRow) (i : Input) (ks : List Known) (m : Market) (h : History) (s : Sender) (d : QuoteMessage) (t : ℕ) (o : Option Room) → AllReported r i ks h (answer_quote_of m h s d t o)
 quote_reported r i ks m h s d t None = tt
 quote_reported r i ks m h s d t (Some room) = first_reported r i ks h (quote_refusals m h s room d t) (quote_accepted m h s room d) (tt, (tt, (tt, (tt, (tt, (tt, (tt, (tt, tt))))))))
-    (subst (Aligned (IsReported r i (h.facts ++ (quote_accepted m h s room d).facts)) (next_trade h.facts) []) (sym (quote_accepted_reported r i ks m h s room d (first_quote h.facts room.number))) tt)
+    (subst (Aligned (IsReported r i ks h (h.facts ++ (quote_accepted m h s room d).facts)) (next_trade h.facts) []) (sym (quote_accepted_reported r i ks m h s room d (first_quote h.facts room.number))) tt)
 
 withdrawn_idle : (r : TrailRow) (taken : Option Taken) (ks : List Known) (m : Market) (q : RoomQuote) (o : Option Room) (rs : List Reply) → made_after r taken ks None rs ≡ []
     → made_after r taken ks None (elim o [ None ↦ [] | Some x ↦ to_maker m x q Withdrawn ∷ to_requester m x q Withdrawn ∷ [] ] ++ rs) ≡ []
@@ -390,8 +398,8 @@ withdrawn_reported : (r : TrailRow) (i : Input) (ks : List Known) (m : Market) (
 withdrawn_reported r i ks m h x [] k = k
 withdrawn_reported r i ks m h x (q ∷ qs) k =
     let facts = h.facts ++ (withdrawn_or m h x (q ∷ qs)).facts in
-    subst (Aligned (IsReported r i facts) (next_trade h.facts) (trades (map (λ (y : RoomQuote). fact.Withdrawn (record { quote = y.number })) (q ∷ qs)))) (sym (all_idle r (taken_in i) ks m h (q ∷ qs)))
-    (subst (λ (ts : List Trade). Aligned (IsReported r i facts) (next_trade h.facts) ts []) (sym (none_traded (q ∷ qs))) tt)
+    subst (Aligned (IsReported r i ks h facts) (next_trade h.facts) (trades (map (λ (y : RoomQuote). fact.Withdrawn (record { quote = y.number })) (q ∷ qs)))) (sym (all_idle r (taken_in i) ks m h (q ∷ qs)))
+    (subst (λ (ts : List Trade). Aligned (IsReported r i ks h facts) (next_trade h.facts) ts []) (sym (none_traded (q ∷ qs))) tt)
 
 withdraw_one_reported : (r : TrailRow) (i : Input) (ks : List Known) (m : Market) (h : History) (s : Sender) (t : ℕ) (id : Option (List ℕ)) → AllReported r i ks h (withdraw_one m h s t id)
 withdraw_one_reported r i ks m h s t None = tt
@@ -430,8 +438,8 @@ hit_at_reported r i ks m h s room q d t side (Some p) known is =
     let made : List ℕ → Execution = λ quote. executed r trade (source.Room (record { quote = quote; side = side; id = own_id ks quote })) in
     let report : RoomReport = record { report = h.reports + 1; room = room.number; symbol = symbol_of m.instruments room.instrument; side = side; quantity = room.quantity; price = p; trade = trade; response_id = Some d.response_id } in
     let listed : made_at r taken ks (answer_hit_at m h s room q d t side (Some p)).replies ≡ made (printed 81 q.number) ∷ [] = ap (λ (o : Option (List ℕ)). hit r ks report (Some d.response_id) o ++ []) is.1 in
-    subst (Aligned (IsReported r i facts) trade (hit_trade s room q side p t ∷ [])) (sym listed)
-    (record { number_is = refl; at_row = refl; moment = refl; source = record { quote_is = refl; quoted = known.one; was_quoted = Contains-from_In facts (fact.Quoted known.one) (In-append_left h.facts (answer_hit_at m h s room q d t side (Some p)).facts (fact.Quoted known.one) (was_quoted h.facts known.one known.quoted)); named = known.printed_is; id = known.id; requester = s.who; maker = q.maker; hit_by = is.0; buyer_is = refl; seller_is = refl } }, tt)
+    subst (Aligned (IsReported r i ks h facts) trade (hit_trade s room q side p t ∷ [])) (sym listed)
+    (record { number_is = refl; at_row = refl; moment = refl; joined = tt; source = record { quote_is = refl; quoted = known.one; was_quoted = Contains-from_In facts (fact.Quoted known.one) (In-append_left h.facts (answer_hit_at m h s room q d t side (Some p)).facts (fact.Quoted known.one) (was_quoted h.facts known.one known.quoted)); named = known.printed_is; id = known.id; requester = s.who; maker = q.maker; hit_by = is.0; buyer_is = refl; seller_is = refl } }, tt)
 
 hit_reported : (r : TrailRow) (i : Input) (ks : List Known) (m : Market) (h : History) (s : Sender) (room : Room) (q : RoomQuote) (d : ResponseMessage) (t : ℕ) (side : Option Side) → IsKnown ks (quotes h.facts) q → Responds i s (printed 81 q.number) → AllReported r i ks h (answer_hit m h s room q d t side)
 hit_reported r i ks m h s room q d t None known is = tt
@@ -456,26 +464,26 @@ market_data_reported r i ks m h s d = first_reported r i ks h (market_data_refus
 
 -- Any message, and a tick.
 
-app_reported : (r : TrailRow) (i : Input) (ks : List Known) (m : Market) (h : History) (s : Sender) (a : App) (t : ℕ) → AreKnown ks (quotes h.facts) → ((d : ResponseMessage) → a ≡ QuoteResponse d → Responds i s d.quote_id) → AllReported r i ks h (answer_app m h s a t)
-app_reported r i ks m h s (QuoteRequest d) t known is = request_reported r i ks m h s d t
-app_reported r i ks m h s (Quote d) t known is = quote_reported r i ks m h s d t (find_room h.facts d.request_id)
-app_reported r i ks m h s (QuoteCancel d) t known is = withdrawal_reported r i ks m h s d t (d.cancel_type == 5) (d.cancel_type == 4)
-app_reported r i ks m h s (QuoteResponse d) t known is = response_reported r i ks m h s d t known (is d refl)
-app_reported r i ks m h s (NewOrderSingle d) t known is = order_reported r i ks m h s d t
-app_reported r i ks m h s (OrderCancelRequest d) t known is = cancel_reported r i ks m h s d (named h s.who d.original_id)
-app_reported r i ks m h s (OrderCancelReplaceRequest d) t known is = replace_reported r i ks m h s d t (named h s.who d.original_id)
-app_reported r i ks m h s (NewOrderCross d) t known is = cross_reported r i ks m h s d t
-app_reported r i ks m h s (MarketDataRequest d) t known is = market_data_reported r i ks m h s d
-app_reported r i ks m h s (BusinessMessageReject d) t known is = tt
-app_reported r i ks m h s (QuoteStatusReport d) t known is = tt
-app_reported r i ks m h s (QuoteRequestReject d) t known is = tt
-app_reported r i ks m h s (ExecutionReport d) t known is = tt
-app_reported r i ks m h s (OrderCancelReject d) t known is = tt
-app_reported r i ks m h s (MarketDataSnapshot d) t known is = tt
-app_reported r i ks m h s (MarketDataRequestReject d) t known is = tt
-app_reported r i ks m h s (Unsupported kind) t known is = tt
+app_reported : (r : TrailRow) (i : Input) (ks : List Known) (m : Market) (h : History) (s : Sender) (a : App) (t : ℕ) → ((who : ℕ) (id : List ℕ) → EntersAs h i who id) → AreKnown ks (quotes h.facts) → ((d : ResponseMessage) → a ≡ QuoteResponse d → Responds i s d.quote_id) → AllReported r i ks h (answer_app m h s a t)
+app_reported r i ks m h s (QuoteRequest d) t any known is = request_reported r i ks m h s d t
+app_reported r i ks m h s (Quote d) t any known is = quote_reported r i ks m h s d t (find_room h.facts d.request_id)
+app_reported r i ks m h s (QuoteCancel d) t any known is = withdrawal_reported r i ks m h s d t (d.cancel_type == 5) (d.cancel_type == 4)
+app_reported r i ks m h s (QuoteResponse d) t any known is = response_reported r i ks m h s d t known (is d refl)
+app_reported r i ks m h s (NewOrderSingle d) t any known is = order_reported r i ks m h s d t any
+app_reported r i ks m h s (OrderCancelRequest d) t any known is = cancel_reported r i ks m h s d (named h s.who d.original_id)
+app_reported r i ks m h s (OrderCancelReplaceRequest d) t any known is = replace_reported r i ks m h s d t (named h s.who d.original_id) any
+app_reported r i ks m h s (NewOrderCross d) t any known is = cross_reported r i ks m h s d t any
+app_reported r i ks m h s (MarketDataRequest d) t any known is = market_data_reported r i ks m h s d
+app_reported r i ks m h s (BusinessMessageReject d) t any known is = tt
+app_reported r i ks m h s (QuoteStatusReport d) t any known is = tt
+app_reported r i ks m h s (QuoteRequestReject d) t any known is = tt
+app_reported r i ks m h s (ExecutionReport d) t any known is = tt
+app_reported r i ks m h s (OrderCancelReject d) t any known is = tt
+app_reported r i ks m h s (MarketDataSnapshot d) t any known is = tt
+app_reported r i ks m h s (MarketDataRequestReject d) t any known is = tt
+app_reported r i ks m h s (Unsupported kind) t any known is = tt
 
 pub input_reported : (r : TrailRow) (i : Input) (ks : List Known) (m : Market) (h : History) → AreKnown ks (quotes h.facts) → AllReported r i ks h (answer_input m h i)
 input_reported r (Message taken t) ks m h known =
-    app_reported r (Message taken t) ks m h (record { who = taken.from; number = taken.item.number; kind = type_of taken.item.app }) taken.item.app t known (λ d e. (refl, ap responded e))
-input_reported r (Tick t) ks m h known = due_or_none_reported r (Tick t) ks m h (due h.facts t)
+    app_reported r (Message taken t) ks m h (record { who = taken.from; number = taken.item.number; kind = type_of taken.item.app }) taken.item.app t (λ who id. tt) known (λ d e. (refl, ap responded e))
+input_reported r (Tick t) ks m h known = due_or_none_reported r (Tick t) ks m h (due h.facts t) (λ k e. (k, e, refl, refl))

@@ -1,15 +1,21 @@
 -- The law of every day: each trade has its execution, which is what the facts of the day say of it.
 use Rattle.std.specs.Prelude.{◌≡◌, ℕ, List, ◌∷◌, ◌++◌, Contains, Option, None, Some, is_none, length, slice_get}
+use Rattle.fix_dictionary.specs.declared.messages.App.TheVariants.{NewOrderCross}
+use Rattle.fix_dictionary.specs.declared.messages.NewOrderCross.{NewOrderCross as CrossMessage}
 use Rattle.venue_rules.specs.declared.facts.Entry.{Entry}
 use Rattle.venue_rules.specs.declared.facts.Fact.{Fact}
 use Rattle.venue_rules.specs.declared.facts.Fact.TheVariants as fact
+use Rattle.venue_rules.specs.declared.facts.HeldSide.{HeldSide}
 use Rattle.venue_rules.specs.declared.facts.RoomQuote.{RoomQuote}
 use Rattle.venue_rules.specs.declared.facts.Trade.{Trade}
 use Rattle.venue_rules.specs.declared.facts.TradeSource.{TradeSource}
 use Rattle.venue_rules.specs.declared.facts.TradeSource.TheVariants.{Book as InBook, Room as InRoom}
+use Rattle.venue_rules.specs.declared.trail.Taken.{Taken}
 use Rattle.venue_rules.specs.declared.trail.TradeFact.{TradeFact}
 use Rattle.venue_rules.specs.declared.trail.TrailRow.{TrailRow}
+use Rattle.venue_rules.specs.Delay.{due}
 use Rattle.venue_rules.specs.Entering.{buyer}
+use Rattle.venue_rules.specs.Facts.{History}
 use Rattle.venue_rules.specs.Market.{Market}
 use Rattle.venue_rules.specs.Readings.{trade_fact, trade_facts}
 use Rattle.venue_rules.specs.Rooms.{printed}
@@ -67,6 +73,47 @@ IsSource facts i t (InRoom room quote) (source.Room x) = IsHit facts i quote t x
 IsSource facts i t (InBook old new) (source.Room x) = ⊥
 IsSource facts i t (InRoom room quote) (source.Book x) = ⊥
 
+-- the held side that enters by an input: at a tick the first that is due
+abbrev pub side_due : History → Input → Option HeldSide
+side_due h (Message taken t) = None
+side_due h (Tick t) = due h.facts t
+
+-- A cross of these inputs: a message NewOrderCross (s), the answer to which entered the order with a number, and held
+-- this side with the cross's identifier (548).
+pub record IsCross (m : Market) (is : List Input) (order : ℕ) (side : HeldSide) : Type 0 where
+  pub earlier : List Input
+  pub taken : Taken
+  pub at : ℕ
+  pub later : List Input
+  pub inputs : is ≡ earlier ++ Message taken at ∷ later
+  pub message : CrossMessage
+  pub crosses : taken.item.app ≡ NewOrderCross message
+  pub named : message.cross_id ≡ side.cross
+  pub entry : Entry
+  pub number_is : entry.number ≡ order
+  pub entered : Contains (answer_input m (run m earlier).history (Message taken at)).facts (fact.Entered entry)
+  pub was_held : Contains (answer_input m (run m earlier).history (Message taken at)).facts (fact.Held side)
+
+-- both orders of a trade came from the cross with this identifier (548): the one that rested entered by it, and the
+-- other was held by it, until it entered at this input
+pub record CameFrom (m : Market) (before : List Input) (input : Input) (old : ℕ) (cross : List ℕ) : Type 0 where
+  pub side : HeldSide
+  pub was_due : side_due (run m before).history input ≡ Some side
+  pub crossed : IsCross m before old side
+  pub named : side.cross ≡ cross
+
+-- the cross that is named is that from which both orders came, and there is one if and only if one is named
+pub record IsCrossNamed (m : Market) (before : List Input) (input : Input) (old : ℕ) (named : Option (List ℕ)) : Type 0 where
+  pub sound : (cross : List ℕ) → named ≡ Some cross → CameFrom m before input old cross
+  pub complete : (cross : List ℕ) → CameFrom m before input old cross → named ≡ Some cross
+
+-- no trade in a room came from a cross
+abbrev pub AreCrossed : Market → List Input → Input → TradeSource → Source → Type 0
+AreCrossed m before i (InBook old new) (source.Book x) = IsCrossNamed m before i old x.cross
+AreCrossed m before i (InRoom room quote) (source.Room x) = Unit {0}
+AreCrossed m before i (InBook old new) (source.Room x) = ⊥
+AreCrossed m before i (InRoom room quote) (source.Book x) = ⊥
+
 -- an execution is that of a trade: at the row of the input whose answer made it
 pub record IsMade (m : Market) (rs : List TrailRow) (is : List Input) (number : ℕ) (t : Trade) (x : Execution) : Type 0 where
   pub earlier : List Input
@@ -80,6 +127,7 @@ pub record IsMade (m : Market) (rs : List TrailRow) (is : List Input) (number : 
   pub at_row : x.row ≡ row.n
   pub moment : x.moment ≡ row.moment
   pub source : IsSource (run m is).history.facts input t t.place x.source
+  pub crossed : AreCrossed m earlier input t.place x.source
 
 -- a trade has its execution, so that its ten fields are those of it, and none of them is left out
 pub record HasExecution (m : Market) (rs : List TrailRow) (is : List Input) (t : TradeFact) : Type 0 where
