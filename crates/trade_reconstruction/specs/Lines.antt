@@ -433,7 +433,7 @@ link_line order (Some l) = named_line order (codes " carries the link ") l.link 
 
 abbrev pub original_line : ℕ → Option (List ℕ) → ℕ → List ℕ
 original_line order None row = []
-original_line order (Some id) row = named_line order (codes " takes the place of the order with the identifier ") id row
+original_line order (Some id) row = named_line order (codes " takes the place, for 38 less what was filled before, of the order with the identifier ") id row
 
 abbrev pub held_said : List TrailRow → ParticipantFile → ℕ → EvidenceEvent → EventKind → List ℕ
 held_said rs file order w (said.Held x) = codes "O" ++ (decimal order ++ (codes " was held as the second side of cross " ++ (x.cross ++ (codes " for " ++ (decimal x.delay ++ (codes " ms from " ++ (utc_text w.moment ++ sent_row rs file w.row)))))))

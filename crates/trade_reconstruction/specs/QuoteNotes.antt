@@ -1,7 +1,9 @@
 -- What had become of each quote in a room just before a trade there, and which quotes had ended by the reports to the
 -- requester.
-use Rattle.std.specs.Prelude.{ℕ, ◌==◌, nat_lt, Bool, true, false, ◌&&◌, List, [], ◌∷◌, find, Option, Some, None, bytes_eq, if◌then◌else◌}
+use Rattle.std.specs.Prelude.{ℕ, ℤ, ◌==◌, nat_lt, Bool, true, false, ◌&&◌, List, [], ◌∷◌, find, Option, Some, None, bytes_eq, if◌then◌else◌}
 use Rattle.std.specs.List.{flat_map}
+use Rattle.fix_dictionary.specs.declared.values.Side.{Side}
+use Rattle.fix_dictionary.specs.declared.values.Side.TheVariants.{Buy, Sell}
 use Rattle.fix_dictionary.specs.declared.messages.App.{App}
 use Rattle.fix_dictionary.specs.declared.messages.App.TheVariants.{QuoteResponse}
 use Rattle.venue_rules.specs.declared.facts.Fact.{Fact}
@@ -110,7 +112,7 @@ abbrev pub is_hit : Option (List ℕ) → ℕ → Bool
 is_hit None quote = false
 is_hit (Some id) quote = bytes_eq (printed 81 quote) id
 
--- the newest report of the end of a quote that was withdrawn or passed
+-- the newest report of the end of a quote that was withdrawn or passed, also before its maker quoted again
 
 abbrev pub is_end_of : Asked → ℕ → Ended → Bool
 is_end_of a quote e = is_to a e.requester e.request && bytes_eq (printed 81 quote) e.quote
@@ -129,12 +131,26 @@ newest pick (e ∷ es) = or (newest pick es) (pick e)
 abbrev pub end_with : Asked → ℕ → List Ended → Fate → Option Ended
 end_with a quote ended fate.Withdrawn = newest (end_of a quote) ended
 end_with a quote ended fate.Live = None
-end_with a quote ended fate.Replaced = None
+end_with a quote ended fate.Replaced = newest (end_of a quote) ended
 end_with a quote ended fate.RunOut = None
+
+-- of a request for both sides, the side on which a quote has no price
+
+abbrev pub lacks_offer : Option ℤ → Option Side
+lacks_offer None = Some Sell
+lacks_offer (Some price) = None
+
+abbrev pub lacks_in : (bid offer : Option ℤ) → Option Side
+lacks_in None offer = Some Buy
+lacks_in (Some price) offer = lacks_offer offer
+
+abbrev pub lacks : Option Side → Quoted → Option Side
+lacks None q = lacks_in q.bid q.offer
+lacks (Some side) q = None
 
 abbrev pub fate_note : HitAt → Asked → List Ended → Quoted → Option Fate → List QuoteFate
 fate_note x a ended q None = []
-fate_note x a ended q (Some f) = record { row = x.row; quote = q.quote; maker = q.maker; is_hit = is_hit x.quote q.quote; fate = f; end = end_with a q.quote ended f } ∷ []
+fate_note x a ended q (Some f) = record { row = x.row; quote = q.quote; maker = q.maker; is_hit = is_hit x.quote q.quote; fate = f; end = end_with a q.quote ended f; lacks = lacks a.side q } ∷ []
 
 abbrev pub fate_said : Market → History → HitAt → Asked → List Ended → ℕ → EventKind → List QuoteFate
 fate_said m h x a ended to (said.Quoted q) = if is_to a to q.request then fate_note x a ended q (fate_at m h a x.moment q.quote) else []

@@ -132,7 +132,7 @@ fn append_original(
         Some(id) => append_named(
             text,
             order,
-            b" takes the place of the order with the identifier ",
+            b" takes the place, for 38 less what was filled before, of the order with the identifier ",
             id,
             row,
         ),

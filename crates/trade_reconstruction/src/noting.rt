@@ -7,7 +7,7 @@ ghost use Rattle.venue_rules.specs.Run.{answer_input};
 ghost use Rattle.venue_core.specs.Plan.{most_items};
 ghost use Rattle.venue_core.specs.VenueFacts.{IsHistory};
 ghost use Rattle.venue_core.specs.State.{standing};
-ghost use Rattle.trade_reconstruction.specs.QuoteNotes.{earlier, end_of, end_with, ended_at, ended_as, ended_by, ended_state, fate_at, fate_in, fate_note, fate_of, fate_state, fate_what, fates_in, hit_at, is_end_of, is_hit, newest, passes, responded, responded_in, room_after, room_what};
+ghost use Rattle.trade_reconstruction.specs.QuoteNotes.{earlier, end_of, end_with, ended_at, ended_as, ended_by, ended_state, fate_at, fate_in, fate_note, fate_of, fate_state, fate_what, fates_in, hit_at, is_end_of, is_hit, lacks, lacks_offer, newest, passes, responded, responded_in, room_after, room_what};
 ghost use Rattle.trade_reconstruction.specs.Standing.{input_of};
 
 use crate::events::{Events, pick};
@@ -18,7 +18,9 @@ use crate::pushing::push_quote_fate;
 use crate::quote_note::{Ended, Fate, HitAt, QuoteFate};
 use crate::room::is_to;
 use crate::standing::plan_item;
-use fix_dictionary::{App, BoxedApp, FixInt, Identifier, Item, QuoteResponse, SequenceNumber};
+use fix_dictionary::{
+    App, BoxedApp, FixInt, Identifier, Item, Price, QuoteResponse, SequenceNumber, Side,
+};
 use participants::Who;
 use sef_moment::Moment;
 use std::alloc::{AllocError, Global};
@@ -348,15 +350,37 @@ fn newest_end(ended: &[Ended], asked: &Asked, quote: u64) -> Option<Ended>
     None
 }
 
-/// The report that a quote was withdrawn or passed, if it was.
+/// The report that a quote was withdrawn or passed, if it was, also where its maker quoted again.
 fn end_with(ended: &[Ended], asked: &Asked, quote: u64, fate: Fate) -> Option<Ended>
     ensures { result ≡ end_with asked.now quote ended.now fate }
 {
     match fate {
         Fate::Withdrawn => newest_end(ended, asked, quote),
         Fate::Live => None,
-        Fate::Replaced => None,
+        Fate::Replaced => newest_end(ended, asked, quote),
         Fate::RunOut => None,
+    }
+}
+
+fn lacks_offer(offer: Option<Price>) -> Option<Side>
+    ensures { result ≡ lacks_offer offer }
+{
+    match offer {
+        Some(_) => None,
+        None => Some(Side::Sell),
+    }
+}
+
+/// Of a request for both sides, the side on which a quote has no price.
+fn lacks(asked: Option<Side>, quoted: &Quoted) -> Option<Side>
+    ensures { result ≡ lacks asked quoted.now }
+{
+    match asked {
+        Some(_) => None,
+        None => match quoted.bid {
+            Some(_) => lacks_offer(quoted.offer),
+            None => Some(Side::Buy),
+        },
     }
 }
 
@@ -380,6 +404,7 @@ fn push_fate_note(
                 is_hit: is_hit(&hit.quote, quoted.quote),
                 fate,
                 end: end_with(ended, asked, quoted.quote, fate),
+                lacks: lacks(asked.side, quoted),
             },
         ),
         None => Ok(()),

@@ -53,6 +53,7 @@ pub(crate) fn push_quote_fate(fates: &mut Vec<QuoteFate>, fate: QuoteFate) -> Re
     let _end: Option<Ended> = None;
     let _kind: Option<Fate> = None;
     let _name: Option<Identifier> = None;
+    let _side: Option<Side> = None;
     let _who: Option<Who> = None;
     match fates.push(fate) {
         Ok(()) => Ok(()),

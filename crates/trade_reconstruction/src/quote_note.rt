@@ -1,6 +1,6 @@
 //! Notes on quotes: which had ended before a trade in their room, and what had become of each when it was made.
 
-use fix_dictionary::Identifier;
+use fix_dictionary::{Identifier, Side};
 use participants::Who;
 use sef_moment::Moment;
 
@@ -20,7 +20,7 @@ pub struct Ended {
 /// What had become of a quote.
 #[derive(Clone, Copy)]
 pub enum Fate {
-    /// a hit of it would have traded
+    /// a hit of it, on a side with a price, would have traded
     Live,
     /// its maker had quoted again
     Replaced,
@@ -39,8 +39,10 @@ pub struct QuoteFate {
     /// the trade was made by a hit of this quote
     pub is_hit: bool,
     pub fate: Fate,
-    /// of one that was withdrawn or passed, the report of it
+    /// of one that was withdrawn or passed, the report of it, also where its maker quoted again
     pub end: Option<Ended>,
+    /// of a request for both sides, the side without a price: a hit there would not have traded
+    pub lacks: Option<Side>,
 }
 
 /// The row and the moment of a hit, and the quote that the message named (117).
