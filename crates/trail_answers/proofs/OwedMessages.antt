@@ -15,7 +15,7 @@ use Rattle.message_words.specs.declared.form.Form.{Form}
 use Rattle.trail_answers.specs.Entries.{heading, reply_if, reply_text}
 use Rattle.trail_answers.specs.Laws.{MessagesAreOwed, MessagesAreEmitted}
 use Rattle.trail_answers.specs.Owed.{OwedMessage, EmitsOwed, owed_message, owed_message_text, owed_messages_from, owed_messages_of, messages, owed_to}
-use Rattle.trail_answers.specs.Emitted.{EmitsAnswers, emitted_from}
+use Rattle.trail_answers.specs.Emitted.{EmitsAnswers, emitted_from, or_none}
 use Rattle.trail_answers.specs.Sought.{Seen, seen_after, unseen}
 
 abbrev to_messages : List Reply → List App
@@ -100,5 +100,5 @@ emits_owed law same form m rs who before after emitted = record {
   owed_messages = owed_messages_of m who rs emitted.items;
   owes = law m who rs emitted.items emitted.emitted.emitted;
   rows = refl;
-  written = subst (Appends before after) (same form m who rs emitted.items) emitted.written;
+  written = subst (λ (text : List ℕ). Appends before after (or_none form text)) (same form m who rs emitted.items) emitted.written;
 }

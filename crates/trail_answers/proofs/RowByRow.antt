@@ -21,7 +21,7 @@ use Rattle.trail_answers.specs.declared.fault.AnswersFault.{AnswersFault}
 use Rattle.trail_answers.specs.declared.fault.AnswersFault.TheVariants.{Memory, Output, NoOrder, NoRoom}
 use Rattle.trail_answers.specs.declared.scope.Scope.{Scope}
 use Rattle.trail_answers.specs.Entries.{entries_text, heading}
-use Rattle.trail_answers.specs.Emitted.{BeginsRows, HasNoOrder, HasNoRoom, IsEmittedOf, IsFailed, EmitsAnswers, EmitsRow, above, comes, emitted_at, emitted_from, emitted_on, seen_from, seen_on}
+use Rattle.trail_answers.specs.Emitted.{BeginsRows, HasNoOrder, HasNoRoom, IsEmittedOf, IsFailed, EmitsAnswers, EmitsRow, above, comes, emitted_at, emitted_from, emitted_on, is_nothing, none_text, or_none, seen_from, seen_on}
 use Rattle.trail_answers.specs.Life.{Life, after_replies, after_reply, at_input, is_about, is_asked, life_after, with_reply}
 use Rattle.trail_answers.specs.Sought.{Seen, is_order_there, is_room_there, is_row_sought, is_sender_sought, is_sought, is_there, seen_after, unseen}
 use Rattle.trail_answers.specs.Talk.{Talk, opens, talk_after}
@@ -57,23 +57,26 @@ abbrev pub TakesOne : Type 0
 TakesOne = (i : Input) (s between s' : State) (a : Answer) → IsSame s between → IsAnswer s i a → s'.market ≡ between.market → IsAfter between a s' → Takes s i a s'
 
 -- a venue plans the input of a row, what it says is noted, the text of its replies is written, and it applies the plan
-pub emits : TakesOne → (form : Form) (scope : Scope) (r : TrailRow) (i : Input) (s mid s' : State) (a : Answer) (replies : List Reply) (known knows : Seen) (now : Bool) (text : List ℕ) (before after : Option (List ℕ))
+pub emits : TakesOne → (form : Form) (scope : Scope) (r : TrailRow) (i : Input) (s mid s' : State) (a : Answer) (replies : List Reply) (known knows : Seen) (now : Bool) (none : Bool) (text : List ℕ) (before after : Option (List ℕ))
     → Emits r i → IsSame s mid → IsAnswer s i a → s'.market ≡ mid.market → IsAfter mid a s' → replies ≡ a.replies → knows ≡ seen_after scope known i replies → now ≡ comes scope known knows
-    → text ≡ above form now ++ emitted_at form s.market.participants scope knows r i replies → Appends before after text → EmitsRow form scope r known knows s s' before after
-emits law form scope r i s mid s' a replies known knows now text held after item same own market goes said noted come is written = record {
+    → text ≡ above form now ++ emitted_at form s.market.participants scope knows r i replies → Appends before after text → none ≡ is_nothing text → EmitsRow form scope r none known knows s s' before after
+emits law form scope r i s mid s' a replies known knows now none text held after item same own market goes said noted come is written silent = record {
   input = i;
   answer = a;
   emits = item;
   takes = law i s mid s' a same own market goes;
   seen = λ h stands. noted ∙ ap (seen_after scope known i) (answered h stands);
-  written = λ h stands. subst (Appends held after)
-      (is ∙ ap (λ (b : Bool). above form b ++ emitted_at form s.market.participants scope knows r i replies) come
-      ∙ ap (λ (l : List Reply). above form (comes scope known knows) ++ emitted_at form s.market.participants scope knows r i l) (answered h stands))
-      written;
+  written = λ h stands. subst (Appends held after) (printed h stands) written;
+  nothing = λ h stands. silent ∙ ap is_nothing (printed h stands);
 }
   where
     answered : (h : History) → IsHistory s h → replies ≡ (answer_input s.market h i).replies
     answered h stands = said ∙ ap (λ (x : Answer). x.replies) (own h stands)
+
+    printed : (h : History) → IsHistory s h → text ≡ above form (comes scope known knows) ++ emitted_at form s.market.participants scope knows r i (answer_input s.market h i).replies
+    printed h stands =
+        is ∙ ap (λ (b : Bool). above form b ++ emitted_at form s.market.participants scope knows r i replies) come
+        ∙ ap (λ (l : List Reply). above form (comes scope known knows) ++ emitted_at form s.market.participants scope knows r i l) (answered h stands)
 
 -- What is there stays there.
 
@@ -163,9 +166,16 @@ here_in form m scope r i known knows h s mid after same noted written = (
   subst (λ (n : Market). Appends mid after (above form (comes scope known knows) ++ emitted_at form n.participants scope knows r i (answer_input n h i).replies)) same written,
 )
 
-one_more : StandsOn → (form : Form) (m : Market) (scope : Scope) (rs : List TrailRow) (r : TrailRow) (known knows : Seen) (s s' : State) (before mid after : Option (List ℕ))
-    → IsEmittedOf form m scope rs known s before mid → EmitsRow form scope r known knows s s' mid after → IsEmittedOf form m scope (rs ++ r ∷ []) knows s' before after
-one_more law form m scope rs r known knows s s' before mid after so_far here =
+nothing_in_both : (xs ys : List ℕ) → (is_nothing xs && is_nothing ys) ≡ is_nothing (xs ++ ys)
+nothing_in_both [] ys = refl
+nothing_in_both (x ∷ xs) ys = refl
+
+both_nothing : (a b c d : Bool) → a ≡ c → b ≡ d → (a && b) ≡ (c && d)
+both_nothing a b c d one two = λ k. one k && two k
+
+one_more : StandsOn → (form : Form) (m : Market) (scope : Scope) (rs : List TrailRow) (r : TrailRow) (none silent : Bool) (known knows : Seen) (s s' : State) (before mid after : Option (List ℕ))
+    → IsEmittedOf form m scope rs none known s before mid → EmitsRow form scope r silent known knows s s' mid after → IsEmittedOf form m scope (rs ++ r ∷ []) (none && silent) knows s' before after
+one_more law form m scope rs r none silent known knows s s' before mid after so_far here =
     let h = (run m so_far.items).history in
     let i = here.input in
     let replies = (answer_input m h i).replies in
@@ -177,6 +187,8 @@ one_more law form m scope rs r known knows s s' before mid after so_far here =
     text_more form m scope (unseen scope) no_history rs so_far.items r i so_far.emitted ∙ ap (λ (k : Seen). text ++ emitted_at form m.participants scope k r i replies) (sym noted) in
     let stays : is_there scope known ≡ true → is_there scope knows ≡ true = λ is. subst (λ (k : Seen). is_there scope k ≡ true) (sym own.0) (stays_there scope known i replies is) in
     let quiet : is_there scope knows ≡ false → row ≡ [] = no_text form m.participants scope knows r i replies in
+    let said : silent ≡ is_nothing (above form (comes scope known knows) ++ row) =
+    subst (λ (n : Market). silent ≡ is_nothing (above form (comes scope known knows) ++ emitted_at form n.participants scope knows r i (answer_input n h i).replies)) so_far.stands.market (here.nothing h so_far.stands.history) in
     record {
       items = so_far.items ++ i ∷ [];
       emitted = more_rows rs so_far.items r i so_far.emitted here.emits;
@@ -185,24 +197,31 @@ one_more law form m scope rs r known knows s s' before mid after so_far here =
       silent = λ never. longer ∙ still_silent (is_there scope known) (is_there scope knows) text row stays so_far.silent quiet never;
       written = subst (λ (l : List ℕ). Appends before after (above form (is_there scope knows) ++ l)) (sym longer)
           (subst (Appends before after) (joined form (is_there scope known) (is_there scope knows) text row stays so_far.silent quiet) (Appends-trans before mid after _ _ so_far.written own.1));
+      nothing =
+          both_nothing none silent _ _ so_far.nothing said
+          ∙ nothing_in_both (above form (is_there scope known) ++ text) (above form (comes scope known knows) ++ row)
+          ∙ ap is_nothing (joined form (is_there scope known) (is_there scope knows) text row stays so_far.silent quiet)
+          ∙ ap (λ (l : List ℕ). is_nothing (above form (is_there scope knows) ++ l)) (sym longer);
     }
 
-pub emitted_more : StandsOn → (form : Form) (m : Market) (scope : Scope) (rs : List TrailRow) (k : ℕ) (r : TrailRow) (known knows : Seen) (s s' : State) (before mid after : Option (List ℕ)) → k < length rs → r ≡ get_or rs k r
-    → IsEmittedOf form m scope (take k rs) known s before mid → EmitsRow form scope r known knows s s' mid after → IsEmittedOf form m scope (take (k + 1) rs) knows s' before after
-emitted_more law form m scope rs k r known knows s s' before mid after low at_k so_far here =
+pub emitted_more : StandsOn → (form : Form) (m : Market) (scope : Scope) (rs : List TrailRow) (k : ℕ) (r : TrailRow) (none silent both : Bool) (known knows : Seen) (s s' : State) (before mid after : Option (List ℕ)) → k < length rs → r ≡ get_or rs k r → both ≡ (none && silent)
+    → IsEmittedOf form m scope (take k rs) none known s before mid → EmitsRow form scope r silent known knows s s' mid after → IsEmittedOf form m scope (take (k + 1) rs) both knows s' before after
+emitted_more law form m scope rs k r none silent both known knows s s' before mid after low at_k is so_far here =
     let longer : take (k + 1) rs ≡ take k rs ++ r ∷ [] = take_more rs k r low ∙ ap (λ (x : TrailRow). take k rs ++ x ∷ []) (sym at_k) in
-    subst (λ (l : List TrailRow). IsEmittedOf form m scope l knows s' before after) (sym longer) (one_more law form m scope (take k rs) r known knows s s' before mid after so_far here)
+    subst (λ (b : Bool). IsEmittedOf form m scope (take (k + 1) rs) b knows s' before after) (sym is)
+    (subst (λ (l : List TrailRow). IsEmittedOf form m scope l (none && silent) knows s' before after) (sym longer) (one_more law form m scope (take k rs) r none silent known knows s s' before mid after so_far here))
 
 -- before the first
-pub emitted_nothing : (form : Form) (scope : Scope) (s : State) (known : Seen) (there : Bool) (before after : Option (List ℕ)) → IsHistory s no_history → known ≡ unseen scope → there ≡ is_there scope known → Appends before after (above form there)
-    → IsEmittedOf form s.market scope [] known s before after
-emitted_nothing form scope s known there before after fresh noted is written = record {
+pub emitted_nothing : (form : Form) (scope : Scope) (s : State) (none : Bool) (known : Seen) (there : Bool) (before after : Option (List ℕ)) → IsHistory s no_history → known ≡ unseen scope → there ≡ is_there scope known → Appends before after (above form there) → none ≡ is_nothing (above form there)
+    → IsEmittedOf form s.market scope [] none known s before after
+emitted_nothing form scope s none known there before after fresh noted is written silent = record {
   items = [];
   emitted = tt;
   stands = record { market = refl; history = fresh };
   seen = noted;
   silent = λ _. refl;
   written = subst (Appends before after) (ap (above form) is ∙ sym (append-nil (above form (is_there scope known)))) written;
+  nothing = silent ∙ ap is_nothing (ap (above form) is ∙ sym (append-nil (above form (is_there scope known))));
 }
 
 nothing_appended : (before after : Option (List ℕ)) (text : List ℕ) → text ≡ [] → Appends before after text → Keeps before after
@@ -211,9 +230,9 @@ nothing_appended (Some xs) None text none written = absurd written
 nothing_appended (Some xs) (Some ys) text none written = written ∙ ap (λ (l : List ℕ). xs ++ l) none ∙ append-nil xs
 
 -- an allocation fails at a row
-pub begins : (form : Form) (m : Market) (scope : Scope) (rs : List TrailRow) (k : ℕ) (known : Seen) (s : State) (before mid after : Option (List ℕ)) → k < length rs → IsEmittedOf form m scope (take k rs) known s before mid → Keeps mid after
+pub begins : (form : Form) (m : Market) (scope : Scope) (rs : List TrailRow) (k : ℕ) (none : Bool) (known : Seen) (s : State) (before mid after : Option (List ℕ)) → k < length rs → IsEmittedOf form m scope (take k rs) none known s before mid → Keeps mid after
     → Keeps before after ⊎ BeginsRows form m scope rs before after
-begins form m scope rs k known s before mid after low so_far kept = by (is_there scope known) so_far.silent so_far.written
+begins form m scope rs k none known s before mid after low so_far kept = by (is_there scope known) so_far.silent so_far.written
   where
     by : (b : Bool) → (b ≡ false → emitted_on form m scope (take k rs) so_far.items ≡ []) → Appends before mid (above form b ++ emitted_on form m scope (take k rs) so_far.items) → Keeps before after ⊎ BeginsRows form m scope rs before after
     by true silent written = inr (record { count = k; few = low; items = so_far.items; emitted = so_far.emitted; written = Appends-kept before mid after _ written kept })
@@ -222,36 +241,37 @@ begins form m scope rs k known s before mid after low so_far kept = by (is_there
 there_on : (scope : Scope) (known knows : Seen) (b : Bool) → known ≡ knows → is_there scope known ≡ b → is_there scope knows ≡ b
 there_on scope known knows b same is = subst (λ (k : Seen). is_there scope k ≡ b) same is
 
-pub emits_all : AreTheirs → (form : Form) (m : Market) (scope : Scope) (rs : List TrailRow) (known : Seen) (s : State) (before after : Option (List ℕ)) → IsEmittedOf form m scope rs known s before after → is_there scope known ≡ true
-    → EmitsAnswers form m scope rs before after
-emits_all law form m scope rs known s before after done is = record {
+pub emits_all : AreTheirs → (form : Form) (m : Market) (scope : Scope) (rs : List TrailRow) (none : Bool) (known : Seen) (s : State) (before mid after : Option (List ℕ)) → IsEmittedOf form m scope rs none known s before mid → is_there scope known ≡ true
+    → Appends mid after (none_text form none) → EmitsAnswers form m scope rs before after
+emits_all law form m scope rs none known s before mid after done is last = record {
   items = done.items;
   emitted = law rs done.items done.emitted;
   there = there_on scope known (seen_on m scope done.items) true done.seen is;
-  written = subst (λ (b : Bool). Appends before after (above form b ++ emitted_on form m scope rs done.items)) is done.written;
+  written = subst (λ (b : Bool). Appends before after (or_none form (above form b ++ emitted_on form m scope rs done.items))) is
+      (Appends-trans before mid after _ _ done.written (subst (λ (b : Bool). Appends mid after (none_text form b)) done.nothing last));
 }
 
 -- the order is not there
-pub no_order : AreTheirs → (form : Form) (m : Market) (scope : Scope) (rs : List TrailRow) (known : Seen) (s : State) (before after : Option (List ℕ)) → IsEmittedOf form m scope rs known s before after → is_order_there scope known ≡ false
+pub no_order : AreTheirs → (form : Form) (m : Market) (scope : Scope) (rs : List TrailRow) (none : Bool) (known : Seen) (s : State) (before after : Option (List ℕ)) → IsEmittedOf form m scope rs none known s before after → is_order_there scope known ≡ false
     → HasNoOrder m scope rs
-no_order law form m scope rs known s before after done none = record {
+no_order law form m scope rs silent known s before after done none = record {
   items = done.items;
   emitted = law rs done.items done.emitted;
   none = subst (λ (k : Seen). is_order_there scope k ≡ false) done.seen none;
 }
 
 -- or the room
-pub no_room : AreTheirs → (form : Form) (m : Market) (scope : Scope) (rs : List TrailRow) (known : Seen) (s : State) (before after : Option (List ℕ)) → IsEmittedOf form m scope rs known s before after → is_room_there scope known ≡ false
+pub no_room : AreTheirs → (form : Form) (m : Market) (scope : Scope) (rs : List TrailRow) (none : Bool) (known : Seen) (s : State) (before after : Option (List ℕ)) → IsEmittedOf form m scope rs none known s before after → is_room_there scope known ≡ false
     → HasNoRoom m scope rs
-no_room law form m scope rs known s before after done none = record {
+no_room law form m scope rs silent known s before after done none = record {
   items = done.items;
   emitted = law rs done.items done.emitted;
   none = subst (λ (k : Seen). is_room_there scope k ≡ false) done.seen none;
 }
 
-pub nothing_there : (form : Form) (m : Market) (scope : Scope) (rs : List TrailRow) (known : Seen) (s : State) (before after : Option (List ℕ)) → IsEmittedOf form m scope rs known s before after → is_there scope known ≡ false
+pub nothing_there : (form : Form) (m : Market) (scope : Scope) (rs : List TrailRow) (none : Bool) (known : Seen) (s : State) (before after : Option (List ℕ)) → IsEmittedOf form m scope rs none known s before after → is_there scope known ≡ false
     → Keeps before after
-nothing_there form m scope rs known s before after done none = nothing_appended before after _ (done.silent none) (subst (λ (b : Bool). Appends before after (above form b ++ emitted_on form m scope rs done.items)) none done.written)
+nothing_there form m scope rs silent known s before after done none = nothing_appended before after _ (done.silent none) (subst (λ (b : Bool). Appends before after (above form b ++ emitted_on form m scope rs done.items)) none done.written)
 
 -- what failed is not that it is not there
 pub never_none : {R : Type 0} (fault : AnswersFault) → IsFailed fault → fault ≡ NoOrder → R
@@ -272,3 +292,14 @@ not_memory Memory never is = absurd (never tt)
 not_memory Output never is = absurd (cc)
 not_memory NoOrder never is = absurd (cc)
 not_memory NoRoom never is = absurd (cc)
+
+-- nor is a write that failed one of memory, or of what is not there
+
+pub not_for_memory : {R : Type 0} (fault : AnswersFault) → fault ≡ Output → fault ≡ Memory → R
+not_for_memory fault is held = absurd (cc)
+
+pub not_for_order : {R : Type 0} (fault : AnswersFault) → fault ≡ Output → fault ≡ NoOrder → R
+not_for_order fault is held = absurd (cc)
+
+pub not_for_room : {R : Type 0} (fault : AnswersFault) → fault ≡ Output → fault ≡ NoRoom → R
+not_for_room fault is held = absurd (cc)

@@ -12,6 +12,7 @@ use Rattle.venue_rules.specs.Messages.{message}
 use Rattle.venue_rules.specs.Run.{Input, after, answer_input, owed, replies_to}
 use Rattle.message_words.specs.declared.form.Form.{Form}
 use Rattle.trail_answers.specs.declared.scope.Scope.{Scope}
+use Rattle.trail_answers.specs.Emitted.{or_none}
 use Rattle.trail_answers.specs.Entries.{heading, message_text}
 use Rattle.row_replay.specs.Inputs.{AreOf}
 
@@ -49,11 +50,11 @@ abbrev pub owed_to : ℕ → Scope
 owed_to who = record { to = Some who; from = None; rows = None; order = None; room = None }
 
 -- What was written are the messages that a participant is owed (`owed`, the word of the headline) for the inputs of
--- these rows, in order, each once, each with its row, and no other byte.
+-- these rows, in order, each once, each with its row, and no other byte; of none a line, if they are lines.
 pub record EmitsOwed (form : Form) (m : Market) (rs : List TrailRow) (who : ℕ) (before after : Option (List ℕ)) : Type 0 where
   pub items : List Input
   pub emitted : AreOf rs items
   pub owed_messages : List OwedMessage
   pub owes : messages owed_messages ≡ owed m who items
   pub rows : owed_messages ≡ owed_messages_of m who rs items
-  pub written : Appends before after (owed_messages_text form m.participants owed_messages)
+  pub written : Appends before after (or_none form (owed_messages_text form m.participants owed_messages))
