@@ -11,6 +11,7 @@ pub mod Figures
 pub mod Meanings
 -- whether a link alone is why
 pub mod Linking
+pub mod Listed
 -- what is printed
 pub mod Printed
 -- a row of the sample day

@@ -32,10 +32,10 @@ use Rattle.venue_rules.specs.Requests.{has_twice, named_recipients, recipients}
 use Rattle.venue_rules.specs.Responses.{is_other_side, taken_side}
 use Rattle.venue_rules.specs.Rooms.{find_quote, find_room, is_closed, is_open, is_replaced, is_withdrawn, live_quotes, open_rooms, room_by_number}
 use Rattle.venue_rules.specs.Run.{Input, Message, Tick, answer_input}
-use Rattle.message_words.specs.Parts.{parts_text}
 use Rattle.refusal_causes.specs.Causes.{is_empty, is_no_response, is_of_all, is_of_one, is_pass, named_quotes, price_taken}
 use Rattle.refusal_causes.specs.Places.{due_named, named_by}
-use Rattle.refusal_causes.specs.Printed.{cause_parts, verdict}
+use Rattle.refusal_causes.specs.Listed.{many_at, number_at}
+use Rattle.refusal_causes.specs.Printed.{cause_text, verdict}
 use Rattle.refusal_causes.specs.Sentences.{sentence}
 use Rattle.refusal_causes.specs.Why.{count_at, place_at}
 
@@ -218,12 +218,12 @@ said_at (Tick t) rs = first_said due_named rs
 abbrev pub SaysWhatHolds : Type 0
 SaysWhatHolds = (m : Market) (h : History) (i : Input) → said_at i (answer_input m h i).replies ≡ first_meant (meanings_at m h i)
 
--- What is printed of a cause (the verdict of `why_text`): its place in the list, and the sentence. Where the place is 0
--- no cause is printed.
+-- What is printed of a cause (the verdict of `why_text`): its number in docs/PROTOCOL.md, and the sentence. Where the
+-- place is 0 no cause is printed.
 abbrev pub Prints : Market → Input → List Reply → Option (List ℕ) → Type 0
 Prints m i rs None = place_at i rs ≡ 0
-Prints m i rs (Some s) = (more : List ℕ) × (verdict m i (place_at i rs) (count_at i rs) rs ≡ parts_text (cause_parts (place_at i rs) (count_at i rs) s) ++ more)
+Prints m i rs (Some s) = (more : List ℕ) × (verdict m i (place_at i rs) (count_at i rs) rs ≡ cause_text (number_at i rs) (many_at i (count_at i rs)) s ++ more)
 
--- A sentence is printed, with the place of its cause, exactly where its test holds, and none of those before it.
+-- A sentence is printed, with the number of its cause, exactly where its test holds, and none of those before it.
 abbrev pub PrintsWhatHolds : Type 0
 PrintsWhatHolds = (m : Market) (h : History) (i : Input) → Prints m i (answer_input m h i).replies (first_meant (meanings_at m h i))

@@ -44,6 +44,7 @@ use Rattle.message_words.specs.RowLines.{came_parts, clock_parts, reply_parts}
 use Rattle.message_words.specs.Words.{words}
 use Rattle.row_replay.specs.Inputs.{AreOf}
 use Rattle.refusal_causes.specs.Linking.{link_lines}
+use Rattle.refusal_causes.specs.Listed.{many_in, number_in}
 use Rattle.refusal_causes.specs.declared.fault.WhyFault.{WhyFault}
 use Rattle.refusal_causes.specs.declared.fault.WhyFault.TheVariants as fault
 use Rattle.refusal_causes.specs.declared.figures.Figures.{Figures}
@@ -63,17 +64,28 @@ reply_lines file r reply = parts_text (reply_parts file r reply.to (message repl
 abbrev pub row_lines : ParticipantFile → TrailRow → Input → List Reply → List ℕ
 row_lines file r i replies = came_lines file r i ++ flat_map (reply_lines file r) replies
 
--- The cause, with its place, and the figures that decide.
+-- The cause, with its number in docs/PROTOCOL.md, and the figures that decide.
 
-abbrev pub cause_parts : (place count : ℕ) → List ℕ → List Part
-cause_parts place count said = (codes "refused for cause ", Some (decimal place)) ∷ (codes " of ", Some (decimal count)) ∷ (codes ": ", Some said) ∷ []
+abbrev pub cause_parts : (number many : ℕ) → List ℕ → List Part
+cause_parts number many said = (codes "refused for cause ", Some (decimal number)) ∷ (codes " of ", Some (decimal many)) ∷ (codes ": ", Some said) ∷ []
+
+-- without a number where there is no list
+abbrev pub unlisted_parts : List ℕ → List Part
+unlisted_parts said = (codes "refused: ", Some said) ∷ []
+
+abbrev pub cause_text : (number many : ℕ) → List ℕ → List ℕ
+cause_text number many said = if number == 0 then parts_text (unlisted_parts said) else parts_text (cause_parts number many said)
 
 -- that the causes before it do not hold
 abbrev pub many_before : ℕ → List Part
 many_before last = (codes "\n    causes 1 to ", Some (decimal last)) ∷ words_alone (codes " do not hold") ∷ []
 
+-- two of them, or more
+abbrev pub several_before : ℕ → List ℕ
+several_before number = if number == 3 then codes "\n    causes 1 and 2 do not hold" else parts_text (many_before (number - 1))
+
 abbrev pub before_lines : ℕ → List ℕ
-before_lines place = if nat_lt place 2 then [] else (if place == 2 then codes "\n    cause 1 does not hold" else parts_text (many_before (place - 1)))
+before_lines number = if nat_lt number 2 then [] else (if number == 2 then codes "\n    cause 1 does not hold" else several_before number)
 
 -- of a request for quotes, which of the sender and the recipients are related
 
@@ -107,22 +119,26 @@ related_lines file who _ w = []
 -- that a message is not refused
 
 abbrev pub unrefused : ReplyBody → List ℕ
-unrefused (what.BusinessReject r) = codes "not refused for a cause of a list: the venue does not process messages of this type"
+unrefused (what.BusinessReject r) = codes "not processed: the venue takes no messages of this type (BusinessMessageReject, 380=3)"
 unrefused _ = codes "not refused"
 
-abbrev pub refused_lines : (place count : ℕ) → ReplyBody → Figures → List ℕ
-refused_lines place count w f = parts_text (cause_parts place count (sentence w)) ++ (parts_text (figures_parts f) ++ before_lines place)
+abbrev pub refused_lines : (number many : ℕ) → ReplyBody → Figures → List ℕ
+refused_lines number many w f = cause_text number many (sentence w) ++ (parts_text (figures_parts f) ++ before_lines number)
 
-abbrev pub verdict_lines : (place count : ℕ) → ReplyBody → Figures → List ℕ
-verdict_lines place count w f = if place == 0 then unrefused w else refused_lines place count w f
+abbrev pub verdict_lines : (place number many : ℕ) → ReplyBody → Figures → List ℕ
+verdict_lines place number many w f = if place == 0 then unrefused w else refused_lines number many w f
 
 abbrev pub message_verdict : Market → Taken → (place count : ℕ) → ReplyBody → List ℕ
-message_verdict m taken place count w = verdict_lines place count w (figures m.instruments taken.item.app w) ++ related_lines m.participants taken.from taken.item.app w
+message_verdict m taken place count w = verdict_lines place (number_in taken.item.app place w) (many_in taken.item.app count) w (figures m.instruments taken.item.app w) ++ related_lines m.participants taken.from taken.item.app w
+
+-- of a held side that is due: docs/PROTOCOL.md has no list
+abbrev pub due_lines : (place count : ℕ) → ReplyBody → List ℕ
+due_lines place count w = if place == 0 then codes "not refused: no message came at this row" else refused_lines 0 count w (due_figures w)
 
 -- by the first reply
 abbrev pub first_verdict : Market → Input → (place count : ℕ) → ReplyBody → List ℕ
 first_verdict m (Message taken t) place count w = message_verdict m taken place count w
-first_verdict m (Tick t) place count w = verdict_lines place count w (due_figures w)
+first_verdict m (Tick t) place count w = due_lines place count w
 
 abbrev pub verdict : Market → Input → (place count : ℕ) → List Reply → List ℕ
 verdict m i place count [] = codes "not refused: there is no answer"

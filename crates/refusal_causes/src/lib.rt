@@ -5,6 +5,7 @@ mod fault;
 mod figures;
 mod laws;
 mod linking;
+mod listed;
 mod passing;
 mod places;
 mod printing;

@@ -122,10 +122,10 @@ fn why_of(
     Ok(text)
 }
 
-/// Prints why the message of a row was refused: the message and the replies to it, the cause with its place in the
-/// rules' list and the figures that decide, and where the cause ends by time alone, the first moment at which it no
-/// longer holds and the answer then. A row whose message was not refused says so. `NoRow` where no row has this number;
-/// nothing is written then, nor where an allocation fails.
+/// Prints why the message of a row was refused: the message and the replies to it, the cause with its number in
+/// docs/PROTOCOL.md and the figures that decide, and where the cause ends by time alone, the first moment at which it
+/// no longer holds and the answer then. A row whose message was not refused says so. `NoRow` where no row has this
+/// number; nothing is written then, nor where an allocation fails.
 #[tactic(auto, using(crate::proofs::Texts::row_kept, crate::proofs::Texts::kept_before, crate::proofs::Texts::keeps_own))]
 pub fn print_why<W: Write>(
     alloc: Global,

@@ -1,13 +1,14 @@
 //! The lines of a row, and of the cause for which its message was refused.
 
-ghost use Rattle.std.specs.Prelude.{◌≡◌, ◌++◌, ℕ, OnOk};
+ghost use Rattle.std.specs.Prelude.{◌≡◌, ◌++◌, ◌≤◌, ℕ, OnOk};
 ghost use Rattle.std.specs.List.{flat_map};
 ghost use Rattle.message_words.specs.Parts.{parts_text};
 ghost use Rattle.row_replay.specs.Inputs.{input_of};
 ghost use Rattle.refusal_causes.specs.Figures.{figures_parts};
-ghost use Rattle.refusal_causes.specs.Printed.{before_lines, came_lines, cause_parts, first_verdict, is_named, is_recipient, many_before, message_verdict, pair_lines, pair_said, pairs_lines, refused_lines, related_lines, reply_lines, request_lines, row_lines, takes_part, unrefused, verdict, verdict_lines};
+ghost use Rattle.refusal_causes.specs.Printed.{before_lines, came_lines, cause_parts, cause_text, due_lines, first_verdict, is_named, is_recipient, many_before, message_verdict, pair_lines, pair_said, pairs_lines, refused_lines, related_lines, reply_lines, request_lines, row_lines, several_before, takes_part, unlisted_parts, unrefused, verdict, verdict_lines};
 
 use crate::figures::{Figures, append_figures, due_figures, figures_for};
+use crate::listed::listed_place;
 use crate::sentences::sentence;
 use fix_dictionary::{App, Party, QuoteRequest};
 use instruments::Instruments;
@@ -113,6 +114,27 @@ fn append_cause(
     )
 }
 
+fn append_unlisted(alloc: Global, text: &mut Vec<u8>, said: &[u8]) -> Result<(), AllocError>
+    ensures { OnOk result (text.new.items ≡ text.old.items ++ parts_text (unlisted_parts said.now)) }
+{
+    append_parts(alloc, text, &[part!(b"refused: ", bytes(said))])
+}
+
+/// Appends a cause by its number in docs/PROTOCOL.md, or without one.
+fn append_said(
+    alloc: Global,
+    text: &mut Vec<u8>,
+    listed: Place,
+    said: &[u8],
+) -> Result<(), AllocError>
+    ensures { OnOk result (text.new.items ≡ text.old.items ++ cause_text listed.cause listed.count said.now) }
+{
+    if listed.cause == 0 {
+        return append_unlisted(alloc, text, said);
+    }
+    append_cause(alloc, text, listed, said)
+}
+
 fn append_many_before(alloc: Global, text: &mut Vec<u8>, last: u64) -> Result<(), AllocError>
     ensures { OnOk result (text.new.items ≡ text.old.items ++ parts_text (many_before last)) }
 {
@@ -126,6 +148,16 @@ fn append_many_before(alloc: Global, text: &mut Vec<u8>, last: u64) -> Result<()
     )
 }
 
+fn append_several_before(alloc: Global, text: &mut Vec<u8>, cause: u64) -> Result<(), AllocError>
+    requires { 3 ≤ cause }
+    ensures { OnOk result (text.new.items ≡ text.old.items ++ several_before cause) }
+{
+    if cause == 3 {
+        return text.extend_from_slice(b"\n    causes 1 and 2 do not hold");
+    }
+    append_many_before(alloc, text, cause - 1)
+}
+
 /// Appends that the causes before one do not hold.
 fn append_before(alloc: Global, text: &mut Vec<u8>, cause: u64) -> Result<(), AllocError>
     ensures { OnOk result (text.new.items ≡ text.old.items ++ before_lines cause) }
@@ -136,21 +168,21 @@ fn append_before(alloc: Global, text: &mut Vec<u8>, cause: u64) -> Result<(), Al
     if cause == 2 {
         return text.extend_from_slice(b"\n    cause 1 does not hold");
     }
-    append_many_before(alloc, text, cause - 1)
+    append_several_before(alloc, text, cause)
 }
 
 fn append_refused(
     alloc: Global,
     text: &mut Vec<u8>,
-    place: Place,
+    listed: Place,
     what: &ReplyBody,
     figures: &Figures,
 ) -> Result<(), AllocError>
-    ensures { OnOk result (text.new.items ≡ text.old.items ++ refused_lines place.cause place.count what.now figures.now) }
+    ensures { OnOk result (text.new.items ≡ text.old.items ++ refused_lines listed.cause listed.count what.now figures.now) }
 {
-    append_cause(alloc, text, place, sentence(what))?;
+    append_said(alloc, text, listed, sentence(what))?;
     append_figures(alloc, text, figures)?;
-    append_before(alloc, text, place.cause)
+    append_before(alloc, text, listed.cause)
 }
 
 fn unrefused(what: &ReplyBody) -> &'static [u8]
@@ -158,7 +190,7 @@ fn unrefused(what: &ReplyBody) -> &'static [u8]
 {
     match what {
         ReplyBody::BusinessReject(_) => {
-            b"not refused for a cause of a list: the venue does not process messages of this type"
+            b"not processed: the venue takes no messages of this type (BusinessMessageReject, 380=3)"
         }
         _ => b"not refused",
     }
@@ -168,15 +200,16 @@ fn append_verdict_lines(
     alloc: Global,
     text: &mut Vec<u8>,
     place: Place,
+    listed: Place,
     what: &ReplyBody,
     figures: &Figures,
 ) -> Result<(), AllocError>
-    ensures { OnOk result (text.new.items ≡ text.old.items ++ verdict_lines place.cause place.count what.now figures.now) }
+    ensures { OnOk result (text.new.items ≡ text.old.items ++ verdict_lines place.cause listed.cause listed.count what.now figures.now) }
 {
     if place.cause == 0 {
         return text.extend_from_slice(unrefused(what));
     }
-    append_refused(alloc, text, place, what, figures)
+    append_refused(alloc, text, listed, what, figures)
 }
 
 /// Whether a party is a recipient (447=D, 452=35) of this name.
@@ -329,9 +362,31 @@ fn append_message_verdict(
 ) -> Result<(), AllocError>
     ensures { OnOk result (text.new.items ≡ text.old.items ++ message_verdict (record { participants = participants.now; instruments = instruments.now }) taken.now place.cause place.count what.now) }
 {
-    let figures = figures_for(instruments, taken.item.app.get(), what);
-    append_verdict_lines(alloc, text, place, what, &figures)?;
+    let app = taken.item.app.get();
+    let figures = figures_for(instruments, app, what);
+    let listed = listed_place(app, place, what);
+    append_verdict_lines(alloc, text, place, listed, what, &figures)?;
     append_related(alloc, text, participants, taken, what)
+}
+
+/// Appends the same of a held side that is due: of it docs/PROTOCOL.md has no list.
+fn append_due_lines(
+    alloc: Global,
+    text: &mut Vec<u8>,
+    place: Place,
+    what: &ReplyBody,
+) -> Result<(), AllocError>
+    ensures { OnOk result (text.new.items ≡ text.old.items ++ due_lines place.cause place.count what.now) }
+{
+    let is_entered = place.cause == 0;
+    if is_entered {
+        return text.extend_from_slice(b"not refused: no message came at this row");
+    }
+    let unlisted = Place {
+        cause: 0,
+        count: place.count,
+    };
+    append_refused(alloc, text, unlisted, what, &due_figures(what))
 }
 
 fn append_first_verdict(
@@ -355,12 +410,12 @@ fn append_first_verdict(
             place,
             what,
         ),
-        None => append_verdict_lines(alloc, text, place, what, &due_figures(what)),
+        None => append_due_lines(alloc, text, place, what),
     }
 }
 
-/// Appends the cause for which a message, or a held side, was refused, with its place in the list and the figures that
-/// decide; or that it was not.
+/// Appends the cause for which a message, or a held side, was refused, with its number in docs/PROTOCOL.md and the
+/// figures that decide; or that it was not.
 pub(crate) fn append_verdict(
     alloc: Global,
     text: &mut Vec<u8>,
