@@ -19,13 +19,16 @@ use Rattle.resting_orders.specs.declared.form.Form.{Form}
 use Rattle.resting_orders.specs.declared.rested.RestedOrder.{RestedOrder}
 use Rattle.resting_orders.specs.declared.rests_text.DayEnd.{DayEnd}
 use Rattle.resting_orders.specs.declared.asking.Request.{Request}
+use Rattle.resting_orders.specs.declared.quoting.OwnQuote.{OwnQuote}
 use Rattle.resting_orders.specs.Asking.{still_open}
 use Rattle.resting_orders.specs.Book.{EmitsBook, IsBook, book_text, last_moment, sheet_of}
 use Rattle.resting_orders.specs.Noting.{entered_on}
+use Rattle.resting_orders.specs.Quoting.{still_live_at}
 use Rattle.resting_orders.specs.Replayed.{IsNoted, Notes}
 use Rattle.resting_orders.specs.Resting.{book_of, books_of, books_shown, rested_shown}
 use Rattle.resting_orders.specs.Rests.{EmitsRests, Rests, IsRests, end_of, participant_text, participants_text, rests_text}
 use Rattle.resting_orders.proofs.Booking.{book_shown, books_are, entered_are}
+use Rattle.resting_orders.proofs.OwnQuotes.{live_are}
 use Rattle.resting_orders.proofs.Requesting.{still_open_is}
 
 -- The book's text.
@@ -60,10 +63,10 @@ emits_book form m rs sheet text before after same book written = record {
 
 -- The text of what rests or is held.
 
-pub rests_are : PlacesOn → AreTheirs → (form : Form) (m : Market) (rs : List TrailRow) (s : State) (n : Notes) (file : ParticipantFile) (xs : List Instrument) (end : DayEnd) (orders : List RestedOrder) (held : List HeldSide) (asked_open : List Request) (who : Option ℕ) (text : List ℕ) → IsNoted m rs s n
-    → ((h : History) → IsHistory s h → orders ≡ books_shown n.orders s.market h s.market.instruments) → held ≡ n.held → asked_open ≡ still_open n.closed n.requests (last_moment rs) → file ≡ s.market.participants → xs ≡ s.market.instruments → end ≡ end_of rs
-    → text ≡ rests_text form file xs end (record { orders = orders; held = held; requests = asked_open }) who → IsRests form m rs who text
-rests_are places theirs form m rs s n file xs end orders sides asked who text noted shown kept standing own own_instruments ends is =
+pub rests_are : PlacesOn → AreTheirs → (form : Form) (m : Market) (rs : List TrailRow) (s : State) (n : Notes) (file : ParticipantFile) (xs : List Instrument) (end : DayEnd) (orders : List RestedOrder) (held : List HeldSide) (asked_open : List Request) (live : List OwnQuote) (who : Option ℕ) (text : List ℕ) → IsNoted m rs s n
+    → ((h : History) → IsHistory s h → orders ≡ books_shown n.orders s.market h s.market.instruments) → held ≡ n.held → asked_open ≡ still_open n.closed n.requests (last_moment rs) → ((h : History) → IsHistory s h → live ≡ still_live_at s.market h (last_moment rs) n.quotes) → file ≡ s.market.participants → xs ≡ s.market.instruments → end ≡ end_of rs
+    → text ≡ rests_text form file xs end (record { orders = orders; held = held; requests = asked_open; quotes = live }) who → IsRests form m rs who text
+rests_are places theirs form m rs s n file xs end orders sides asked live who text noted shown kept standing alive own own_instruments ends is =
     let h = (run m noted.items).history in
     let os = entered_on m rs noted.items in
     let all : orders ≡ books_of os h.facts m.instruments m.instruments =
@@ -76,7 +79,7 @@ rests_are places theirs form m rs s n file xs end orders sides asked who text no
       is = is
           ∙ (λ j.
           rests_text form ((own ∙ ap (λ (x : Market). x.participants) noted.stands.market) j) ((own_instruments ∙ ap (λ (x : Market). x.instruments) noted.stands.market) j) (ends j)
-          (record { orders = all j; held = (kept ∙ ap (λ (x : Notes). x.held) noted.notes) j; requests = (standing ∙ (ap (λ (x : Notes). still_open x.closed x.requests (last_moment rs)) noted.notes ∙ still_open_is h.facts (last_moment rs))) j }) who);
+          (record { orders = all j; held = (kept ∙ ap (λ (x : Notes). x.held) noted.notes) j; requests = (standing ∙ (ap (λ (x : Notes). still_open x.closed x.requests (last_moment rs)) noted.notes ∙ still_open_is h.facts (last_moment rs))) j; quotes = (alive h noted.stands.history ∙ ((λ k. still_live_at (noted.stands.market k) h (last_moment rs) (noted.notes k).quotes) ∙ live_are m noted.items (last_moment rs))) j }) who);
     }
 
 pub emits_rests : (form : Form) (m : Market) (rs : List TrailRow) (who : Option ℕ) (text : List ℕ) (before after : Option (List ℕ)) → IsRests form m rs who text → Appends before after text → EmitsRests form m rs who before after

@@ -53,17 +53,16 @@ use Rattle.resting_orders.proofs.Entering.{first_turns}
 
 -- Answers with no fact of a kind.
 
-abbrev Lacks : {X : Type 0} → (Fact → Option X) → Answer → Type 0
+abbrev pub Lacks : {X : Type 0} → (Fact → Option X) → Answer → Type 0
 Lacks h a = filter_map h a.facts ≡ []
 
 -- facts of other kinds are not picked
-record Misses {X : Type 0} (h : Fact → Option X) : Type 0 where
+pub record Misses {X : Type 0} (h : Fact → Option X) : Type 0 where
   pub entered : (e : Entry) → h (Entered e) ≡ None
   pub traded : (t : Trade) → h (Traded t) ≡ None
   pub removed : (r : Removal) → h (Removed r) ≡ None
   pub held : (k : HeldSide) → h (Held k) ≡ None
   pub unheld : (u : Release) → h (Unheld u) ≡ None
-  pub quoted : (q : RoomQuote) → h (Quoted q) ≡ None
   pub withdrawn : (w : Withdrawal) → h (Withdrawn w) ≡ None
 
 skip : {X : Type 0} (h : Fact → Option X) (f : Fact) (fs : List Fact) → h f ≡ None → filter_map h fs ≡ [] → filter_map h (f ∷ fs) ≡ []
@@ -79,7 +78,7 @@ entry_lacks h misses e fs = skip h (Entered e) (map (λ (f : Fill). Traded (trad
 accepted_lacks : {X : Type 0} (h : Fact → Option X) → Misses h → (m : Market) (s : History) (o : OrderFact) (t : ℕ) → Lacks h (accepted m s o t)
 accepted_lacks h misses m s o t = entry_lacks h misses (entering s.facts o 0 t) (fills s.facts o)
 
-order_lacks : {X : Type 0} (h : Fact → Option X) → Misses h → (m : Market) (g : History) (s : Sender) (d : OrderMessage) (t : ℕ) → Lacks h (answer_order m g s d t)
+pub order_lacks : {X : Type 0} (h : Fact → Option X) → Misses h → (m : Market) (g : History) (s : Sender) (d : OrderMessage) (t : ℕ) → Lacks h (answer_order m g s d t)
 order_lacks h misses m g s d t =
     first_turns (Lacks h) (order_refusals m g s d t) (accepted m g (order_asked m s.who d) t) (refl, (refl, (refl, (refl, (refl, (refl, (refl, (refl, tt))))))))
     (λ n. accepted_lacks h misses m g (order_asked m s.who d) t)
@@ -91,12 +90,12 @@ replaced_lacks h misses m g s d r t =
     let gone : Removal = record { order = r.entry.number; who = s.who; id = d.order_id } in
     skip h (Removed gone) (Entered e ∷ map (λ (f : Fill). Traded (trade_of e f)) (fills g.facts o)) (misses.removed gone) (entry_lacks h misses e (fills g.facts o))
 
-replace_lacks : {X : Type 0} (h : Fact → Option X) → Misses h → (m : Market) (g : History) (s : Sender) (d : ReplaceMessage) (t : ℕ) (n : Named) → Lacks h (answer_replace_of m g s d t n)
+pub replace_lacks : {X : Type 0} (h : Fact → Option X) → Misses h → (m : Market) (g : History) (s : Sender) (d : ReplaceMessage) (t : ℕ) (n : Named) → Lacks h (answer_replace_of m g s d t n)
 replace_lacks h misses m g s d t IsUnknown = refl
 replace_lacks h misses m g s d t (IsHeld k) = first_turns (Lacks h) (held_replace_refusals g s d) (replace_refused s d None IsHeldSide) (refl, tt) (λ n. refl)
 replace_lacks h misses m g s d t (IsResting r) = first_turns (Lacks h) (replace_refusals m g s d r t) (replaced m g s d r t) (refl, (refl, (refl, (refl, (refl, (refl, (refl, tt))))))) (λ n. replaced_lacks h misses m g s d r t)
 
-cancel_lacks : {X : Type 0} (h : Fact → Option X) → Misses h → (m : Market) (g : History) (s : Sender) (d : CancelMessage) (n : Named) → Lacks h (answer_cancel_of m g s d n)
+pub cancel_lacks : {X : Type 0} (h : Fact → Option X) → Misses h → (m : Market) (g : History) (s : Sender) (d : CancelMessage) (n : Named) → Lacks h (answer_cancel_of m g s d n)
 cancel_lacks h misses m g s d IsUnknown = refl
 cancel_lacks h misses m g s d (IsHeld k) =
     let u : Release = record { who = s.who; id = k.order.id; cancel = Some d.order_id } in
@@ -105,24 +104,24 @@ cancel_lacks h misses m g s d (IsResting r) =
     let gone : Removal = record { order = r.entry.number; who = s.who; id = d.order_id } in
     first_turns (Lacks h) (cancel_refusals g s d (Some (standing r))) (cancelled m g s d r) (refl, tt) (λ n. skip h (Removed gone) [] (misses.removed gone) refl)
 
-cross_lacks : {X : Type 0} (h : Fact → Option X) → Misses h → (m : Market) (g : History) (s : Sender) (d : CrossMessage) (t : ℕ) → Lacks h (answer_cross m g s d t)
+pub cross_lacks : {X : Type 0} (h : Fact → Option X) → Misses h → (m : Market) (g : History) (s : Sender) (d : CrossMessage) (t : ℕ) → Lacks h (answer_cross m g s d t)
 cross_lacks h misses m g s d t =
     let o = side_order m s.who d (first_side d) in
     let k : HeldSide = record { order = side_order m s.who d (second_side d); cross = d.cross_id; due = t + delay_of m.instruments (instrument_of m.instruments d.symbol) } in
     first_turns (Lacks h) (cross_refusals m g s d t) (cross_accepted m g s d t) (refl, (refl, (refl, (refl, (refl, (refl, (refl, (refl, (refl, (refl, (refl, tt)))))))))))
     (λ n. filter_map-append h (accepted m g o t).facts (Held k ∷ []) ∙ (λ j. accepted_lacks h misses m g o t j ++ skip h (Held k) [] (misses.held k) refl j))
 
-due_lacks : {X : Type 0} (h : Fact → Option X) → Misses h → (m : Market) (g : History) (o : Option HeldSide) → Lacks h (answer_due_of m g o)
+pub due_lacks : {X : Type 0} (h : Fact → Option X) → Misses h → (m : Market) (g : History) (o : Option HeldSide) → Lacks h (answer_due_of m g o)
 due_lacks h misses m g None = refl
 due_lacks h misses m g (Some k) =
     let u : Release = record { who = k.order.who; id = k.order.id; cancel = None } in
     let entered = first_of (due_refusals m g k) (accepted m g k.order k.due) in
     skip h (Unheld u) entered.facts (misses.unheld u) (first_turns (Lacks h) (due_refusals m g k) (accepted m g k.order k.due) (refl, (refl, tt)) (λ n. accepted_lacks h misses m g k.order k.due))
 
-quote_lacks : {X : Type 0} (h : Fact → Option X) → Misses h → (m : Market) (g : History) (s : Sender) (d : QuoteMessage) (t : ℕ) (r : Option Room) → Lacks h (answer_quote_of m g s d t r)
-quote_lacks h misses m g s d t None = refl
-quote_lacks h misses m g s d t (Some r) =
-    first_turns (Lacks h) (quote_refusals m g s r d t) (quote_accepted m g s r d) (refl, (refl, (refl, (refl, (refl, (refl, (refl, (refl, tt)))))))) (λ n. skip h (Quoted (quoted g s r d)) [] (misses.quoted (quoted g s r d)) refl)
+quote_lacks : {X : Type 0} (h : Fact → Option X) → ((q : RoomQuote) → h (Quoted q) ≡ None) → (m : Market) (g : History) (s : Sender) (d : QuoteMessage) (t : ℕ) (r : Option Room) → Lacks h (answer_quote_of m g s d t r)
+quote_lacks h none m g s d t None = refl
+quote_lacks h none m g s d t (Some r) =
+    first_turns (Lacks h) (quote_refusals m g s r d t) (quote_accepted m g s r d) (refl, (refl, (refl, (refl, (refl, (refl, (refl, (refl, tt)))))))) (λ n. skip h (Quoted (quoted g s r d)) [] (none (quoted g s r d)) refl)
 
 withdrawals_lack : {X : Type 0} (h : Fact → Option X) → Misses h → (qs : List RoomQuote) → filter_map h (map (λ (q : RoomQuote). Withdrawn (record { quote = q.number })) qs) ≡ []
 withdrawals_lack h misses [] = refl
@@ -136,18 +135,18 @@ withdraw_one_lacks : {X : Type 0} (h : Fact → Option X) → Misses h → (m : 
 withdraw_one_lacks h misses m g s t None = refl
 withdraw_one_lacks h misses m g s t (Some id) = withdrawn_lacks h misses m g (not_found s (Some id)) (filter (λ (q : RoomQuote). bytes_eq q.id id) (live_quotes g.facts s.who t)) refl
 
-withdrawal_lacks : {X : Type 0} (h : Fact → Option X) → Misses h → (m : Market) (g : History) (s : Sender) (d : WithdrawalMessage) (t : ℕ) (one all : Bool) → Lacks h (answer_withdrawal_of m g s d t one all)
+pub withdrawal_lacks : {X : Type 0} (h : Fact → Option X) → Misses h → (m : Market) (g : History) (s : Sender) (d : WithdrawalMessage) (t : ℕ) (one all : Bool) → Lacks h (answer_withdrawal_of m g s d t one all)
 withdrawal_lacks h misses m g s d t true all = withdraw_one_lacks h misses m g s t d.quote_id
 withdrawal_lacks h misses m g s d t false true = withdrawn_lacks h misses m g (not_found s None) (live_quotes g.facts s.who t) refl
 withdrawal_lacks h misses m g s d t false false = refl
 
-market_data_lacks : {X : Type 0} (h : Fact → Option X) (m : Market) (g : History) (s : Sender) (d : MarketDataMessage) → Lacks h (answer_market_data m g s d)
+pub market_data_lacks : {X : Type 0} (h : Fact → Option X) (m : Market) (g : History) (s : Sender) (d : MarketDataMessage) → Lacks h (answer_market_data m g s d)
 market_data_lacks h m g s d = first_turns (Lacks h) (market_data_refusals m s d) (market_data m g s d) (refl, (refl, (refl, tt))) (λ n. refl)
 
 -- Requests.
 
 no_rooms : Misses room_in
-no_rooms = record { entered = λ e. refl; traded = λ t. refl; removed = λ r. refl; held = λ k. refl; unheld = λ u. refl; quoted = λ q. refl; withdrawn = λ w. refl }
+no_rooms = record { entered = λ e. refl; traded = λ t. refl; removed = λ r. refl; held = λ k. refl; unheld = λ u. refl; withdrawn = λ w. refl }
 
 hit_asks_not : (m : Market) (g : History) (s : Sender) (r : Room) (q : RoomQuote) (d : ResponseMessage) (t : ℕ) (side : Option Side) → Lacks room_in (answer_hit m g s r q d t side)
 hit_asks_not m g s r q d t None = refl
@@ -190,7 +189,7 @@ none_asked a lacks = ap (map request_of) lacks
 
 app_asks : (m : Market) (g : History) (s : Sender) (a : App) (t : ℕ) → AreAsked (answer_app m g s a t) (asked_by_app m.instruments s.who a t (answer_app m g s a t).replies)
 app_asks m g s (QuoteRequest d) t = request_asks m g s d t
-app_asks m g s (Quote d) t = none_asked (answer_quote_of m g s d t (find_room g.facts d.request_id)) (quote_lacks room_in no_rooms m g s d t (find_room g.facts d.request_id))
+app_asks m g s (Quote d) t = none_asked (answer_quote_of m g s d t (find_room g.facts d.request_id)) (quote_lacks room_in (λ q. refl) m g s d t (find_room g.facts d.request_id))
 app_asks m g s (QuoteCancel d) t = ap (map request_of) (withdrawal_lacks room_in no_rooms m g s d t (d.cancel_type == 5) (d.cancel_type == 4))
 app_asks m g s (QuoteResponse d) t = ap (map request_of) (response_asks_not m g s d t)
 app_asks m g s (NewOrderSingle d) t = ap (map request_of) (order_lacks room_in no_rooms m g s d t)
@@ -214,7 +213,7 @@ requests_agree m is (Tick t) = ap (map request_of) (due_lacks room_in no_rooms m
 -- Rooms that trade.
 
 no_closings : Misses closed_in
-no_closings = record { entered = λ e. refl; traded = λ t. refl; removed = λ r. refl; held = λ k. refl; unheld = λ u. refl; quoted = λ q. refl; withdrawn = λ w. refl }
+no_closings = record { entered = λ e. refl; traded = λ t. refl; removed = λ r. refl; held = λ k. refl; unheld = λ u. refl; withdrawn = λ w. refl }
 
 abbrev AreClosed : Answer → Option ℕ → Type 0
 AreClosed a room = closings a.facts ≡ cons_option room []
@@ -245,7 +244,7 @@ request_closes_not m g s d t = first_turns (Lacks closed_in) (request_refusals m
 
 app_closes : (m : Market) (g : History) (s : Sender) (a : App) (t : ℕ) → AreClosed (answer_app m g s a t) (closed_by_app a (answer_app m g s a t).replies)
 app_closes m g s (QuoteRequest d) t = request_closes_not m g s d t
-app_closes m g s (Quote d) t = quote_lacks closed_in no_closings m g s d t (find_room g.facts d.request_id)
+app_closes m g s (Quote d) t = quote_lacks closed_in (λ q. refl) m g s d t (find_room g.facts d.request_id)
 app_closes m g s (QuoteCancel d) t = withdrawal_lacks closed_in no_closings m g s d t (d.cancel_type == 5) (d.cancel_type == 4)
 app_closes m g s (QuoteResponse d) t = response_closes m g s d t
 app_closes m g s (NewOrderSingle d) t = order_lacks closed_in no_closings m g s d t

@@ -4,6 +4,8 @@ pub mod Noting
 pub mod Holding
 -- the requests for quotes that each input opens and closes
 pub mod Asking
+-- the quotes that each input makes, and those that are live
+pub mod Quoting
 -- that it agrees with the facts
 pub mod Laws
 -- a venue after rows, with what is kept

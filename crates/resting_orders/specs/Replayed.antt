@@ -16,20 +16,24 @@ use Rattle.venue_core.specs.VenueFacts.{IsHistory}
 use Rattle.resting_orders.specs.declared.noted.EnteredOrder.{EnteredOrder}
 use Rattle.resting_orders.specs.declared.replaying.Kept.{Kept}
 use Rattle.resting_orders.specs.declared.asking.Request.{Request}
+use Rattle.resting_orders.specs.declared.quoting.OwnQuote.{OwnQuote}
 use Rattle.resting_orders.specs.Asking.{asked_at, closed_at, closings, requests}
 use Rattle.resting_orders.specs.Holding.{entry_moment, held_after}
 use Rattle.resting_orders.specs.Noting.{entered_on, orders_after}
+use Rattle.resting_orders.specs.Quoting.{quoted_at, quoted_on}
 
--- what is kept: the orders that entered, the sides that are held, the requests for quotes, and the rooms that traded
+-- what is kept: the orders that entered, the sides that are held, the requests for quotes, the rooms that traded, and
+-- the quotes
 pub record Notes : Type 0 where
   pub orders : List EnteredOrder
   pub held : List HeldSide
   pub requests : List Request
   pub closed : List ℕ
+  pub quotes : List OwnQuote
 
 -- the same of what the program keeps
 abbrev pub notes_of : Kept → Notes
-notes_of k = record { orders = k.orders.items; held = k.held.items; requests = k.requests.items; closed = k.closed.items }
+notes_of k = record { orders = k.orders.items; held = k.held.items; requests = k.requests.items; closed = k.closed.items; quotes = k.quotes.items }
 
 -- what is kept after the answer to the input of a row
 abbrev pub notes_after : Market → TrailRow → Input → List Reply → Notes → Notes
@@ -38,6 +42,7 @@ notes_after m r i replies n = record {
   held = held_after m.instruments n.held i replies;
   requests = n.requests ++ cons_option (asked_at m.instruments i replies) [];
   closed = n.closed ++ cons_option (closed_at i replies) [];
+  quotes = n.quotes ++ quoted_at i replies;
 }
 
 -- a venue takes the input of a row, and what it changes is kept
@@ -49,11 +54,11 @@ pub record NotesRow (r : TrailRow) (s s' : State) (before after : Notes) : Type 
   pub notes : (h : History) → IsHistory s h → after ≡ notes_after s.market r input (answer_input s.market h input).replies before
 
 -- what is kept is what the facts say: every order that entered, with its row, every side that is held, every request,
--- and every room that traded
+-- every room that traded, and every quote, as it was sent on to the requester
 abbrev pub notes_on : Market → List TrailRow → List Input → Notes
 notes_on m rs is =
     let facts = (run m is).history.facts in
-    record { orders = entered_on m rs is; held = held facts; requests = requests facts; closed = closings facts }
+    record { orders = entered_on m rs is; held = held facts; requests = requests facts; closed = closings facts; quotes = quoted_on m is }
 
 -- a venue is where the inputs of these rows lead, and so is what is kept
 pub record IsNoted (m : Market) (rs : List TrailRow) (s : State) (n : Notes) : Type 0 where

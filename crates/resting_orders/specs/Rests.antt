@@ -1,20 +1,22 @@
--- What rests, is held or is open in the venue after the rows of a day, participant by participant. Live quotes are not
--- printed.
+-- What rests, is held, is open or is quoted in the venue after the rows of a day, participant by participant.
 --
 --   As lines:
 --       after row 13 at 20250303-14:30:41.000
---       ALPHA: 1 order rests, 1 side is held, 1 request is open
+--       ALPHA: 1 order rests, 1 side is held, 1 request is open, 0 quotes are live
 --         IRS5Y bid O1 as a1 @ 2.5: 60 left of 100, 40 filled, entered 20250303-14:30:00.000 (row 1)
 --         BASIS1Y offer of cross x1 as h2: 50 @ 0.25, held until 20250303-14:30:45.000
 --         IRS5Y request R3 as q1: buy 100, open until 20250303-14:30:50.000
---       BETA: no order rests, no side is held, no request is open
+--       BETA: 0 orders rest, 0 sides are held, 0 requests are open, 1 quote is live
+--         IRS5Y quote Q3 as e1 in R3: 100, offer 2.5025, live until 20250303-14:30:50.000
+--       GAMMA: no order rests, no side is held, no request is open, no quote is live
 --   As a table for a spreadsheet (RFC 4180):
 --       participant,row,moment_utc,kind,number,identifier,instrument,side,left,quantity,filled,price,cross,entered_utc,
---       entered_row,until_utc (in one line)
---       ALPHA,13,20250303-14:30:41.000,order,O1,a1,IRS5Y,bid,60,100,40,2.5,,20250303-14:30:00.000,1,
---       ALPHA,13,20250303-14:30:41.000,held,,h2,BASIS1Y,offer,,50,,0.25,x1,,,20250303-14:30:45.000
---       ALPHA,13,20250303-14:30:41.000,request,R3,q1,IRS5Y,buy,,100,,,,,,20250303-14:30:50.000
-use Rattle.std.specs.Prelude.{◌≡◌, ℕ, zero, suc, ◌==◌, ◌&&◌, Bool, nat_le, List, [], ◌∷◌, ◌++◌, filter, length, Option, Some, None, codes, decimal, if◌then◌else◌}
+--       entered_row,until_utc,request,bid,offer (in one line)
+--       ALPHA,13,20250303-14:30:41.000,order,O1,a1,IRS5Y,bid,60,100,40,2.5,,20250303-14:30:00.000,1,,,,
+--       ALPHA,13,20250303-14:30:41.000,held,,h2,BASIS1Y,offer,,50,,0.25,x1,,,20250303-14:30:45.000,,,
+--       ALPHA,13,20250303-14:30:41.000,request,R3,q1,IRS5Y,buy,,100,,,,,,20250303-14:30:50.000,,,
+--       BETA,13,20250303-14:30:41.000,quote,Q3,e1,IRS5Y,,,100,,,,,,20250303-14:30:50.000,R3,,2.5025
+use Rattle.std.specs.Prelude.{◌≡◌, ℕ, ℤ, zero, suc, ◌==◌, ◌&&◌, Bool, nat_le, List, [], ◌∷◌, ◌++◌, filter, length, Option, Some, None, codes, decimal, if◌then◌else◌}
 use Rattle.std.specs.List.{flat_map}
 use Rattle.std.specs.Io.KnownBytes.{Appends}
 use Rattle.csv.specs.Writing.{row_text}
@@ -39,20 +41,24 @@ use Rattle.resting_orders.specs.declared.form.Form.{Form}
 use Rattle.resting_orders.specs.declared.form.Form.TheVariants.{Lines, Table}
 use Rattle.resting_orders.specs.declared.rested.RestedOrder.{RestedOrder}
 use Rattle.resting_orders.specs.declared.asking.Request.{Request}
+use Rattle.resting_orders.specs.declared.quoting.OwnQuote.{OwnQuote}
 use Rattle.resting_orders.specs.declared.rests_text.Counts.{Counts}
 use Rattle.resting_orders.specs.declared.rests_text.DayEnd.{DayEnd}
 use Rattle.resting_orders.specs.Asking.{open_requests}
 use Rattle.resting_orders.specs.Book.{last_moment, quoted_side, shown_moment}
 use Rattle.resting_orders.specs.Noting.{entered_on}
+use Rattle.resting_orders.specs.Quoting.{live_at, quoted_on}
 use Rattle.resting_orders.specs.Resting.{books_of}
 
 -- What is printed.
 
--- all that rests, in the order of the books, all that is held, in order of arrival, and every request that is open
+-- all that rests, in the order of the books, all that is held, in order of arrival, every request that is open, and
+-- every quote that is live
 pub record Rests : Type 0 where
   pub orders : List RestedOrder
   pub held : List HeldSide
   pub requests : List Request
+  pub quotes : List OwnQuote
 
 abbrev pub is_order_of : ℕ → RestedOrder → Bool
 is_order_of who o = o.owner == who
@@ -63,9 +69,12 @@ is_side_of who k = k.order.who == who
 abbrev pub is_request_of : ℕ → Request → Bool
 is_request_of who q = q.requester == who
 
+abbrev pub is_quote_of : ℕ → OwnQuote → Bool
+is_quote_of who q = q.maker == who
+
 -- what a participant has of it
 abbrev pub rests_of : ℕ → Rests → Rests
-rests_of who r = record { orders = filter (is_order_of who) r.orders; held = filter (is_side_of who) r.held; requests = filter (is_request_of who) r.requests }
+rests_of who r = record { orders = filter (is_order_of who) r.orders; held = filter (is_side_of who) r.held; requests = filter (is_request_of who) r.requests; quotes = filter (is_quote_of who) r.quotes }
 
 -- the due moment of a held side; none where no moment is so late, so that it never enters
 abbrev pub due_moment : ℕ → Option ℕ
@@ -85,14 +94,17 @@ sides_words n = if n == 1 then codes " side is held" else codes " sides are held
 abbrev pub requests_words : ℕ → List ℕ
 requests_words n = if n == 1 then codes " request is open" else codes " requests are open"
 
+abbrev pub quotes_words : ℕ → List ℕ
+quotes_words n = if n == 1 then codes " quote is live" else codes " quotes are live"
+
 abbrev pub counted_parts : List ℕ → Counts → List Part
-counted_parts name n = (name, Some []) ∷ (codes ": ", Some (decimal n.orders)) ∷ words_alone (orders_words n.orders) ∷ (codes ", ", Some (decimal n.sides)) ∷ words_alone (sides_words n.sides) ∷ (codes ", ", Some (decimal n.requests)) ∷ words_alone (requests_words n.requests) ∷ words_alone (codes "\n") ∷ []
+counted_parts name n = (name, Some []) ∷ (codes ": ", Some (decimal n.orders)) ∷ words_alone (orders_words n.orders) ∷ (codes ", ", Some (decimal n.sides)) ∷ words_alone (sides_words n.sides) ∷ (codes ", ", Some (decimal n.requests)) ∷ words_alone (requests_words n.requests) ∷ (codes ", ", Some (decimal n.quotes)) ∷ words_alone (quotes_words n.quotes) ∷ words_alone (codes "\n") ∷ []
 
 abbrev pub nothing_parts : List ℕ → List Part
-nothing_parts name = (name, Some []) ∷ words_alone (codes ": no order rests, no side is held, no request is open\n") ∷ []
+nothing_parts name = (name, Some []) ∷ words_alone (codes ": no order rests, no side is held, no request is open, no quote is live\n") ∷ []
 
 abbrev pub heading_parts : List ℕ → Counts → List Part
-heading_parts name n = if n.orders == 0 && (n.sides == 0 && n.requests == 0) then nothing_parts name else counted_parts name n
+heading_parts name n = if n.orders == 0 && (n.sides == 0 && (n.requests == 0 && n.quotes == 0)) then nothing_parts name else counted_parts name n
 
 abbrev pub order_parts : RestedOrder → List Part
 order_parts o =
@@ -145,6 +157,19 @@ request_words symbol q =
 abbrev pub request_parts : List Instrument → Request → List Part
 request_parts xs q = request_words (symbol_of xs q.instrument) q
 
+abbrev pub quote_parts : OwnQuote → List Part
+quote_parts q =
+    (codes "  ", Some q.symbol)
+    ∷ (codes " quote Q", Some (decimal q.number))
+    ∷ (codes " as ", Some q.id)
+    ∷ (codes " in ", Some q.request)
+    ∷ (codes ": ", Some (decimal q.quantity))
+    ∷ (codes ", bid ", given price_text q.bid)
+    ∷ (codes ", offer ", given price_text q.offer)
+    ∷ (codes ", live until ", Some (utc_text q.end))
+    ∷ words_alone (codes "\n")
+    ∷ []
+
 -- As a table.
 
 abbrev pub rests_names : List (List ℕ)
@@ -165,6 +190,9 @@ rests_names =
     ∷ codes "entered_utc"
     ∷ codes "entered_row"
     ∷ codes "until_utc"
+    ∷ codes "request"
+    ∷ codes "bid"
+    ∷ codes "offer"
     ∷ []
 
 -- the first fields of each row: whose it is, after which row, and its kind
@@ -174,16 +202,25 @@ first_fields file d who kind = name_of file who ∷ decimal d.row ∷ shown_mome
 abbrev pub order_fields : ParticipantFile → DayEnd → ℕ → RestedOrder → List (List ℕ)
 order_fields file d who o =
     first_fields file d who (codes "order")
-    ++ (codes "O" ++ decimal o.number) ∷ o.id ∷ o.symbol ∷ quoted_side o.side ∷ decimal o.left ∷ decimal o.quantity ∷ decimal o.filled ∷ price_text o.price ∷ [] ∷ utc_text o.at.moment ∷ decimal o.at.row ∷ [] ∷ []
+    ++ (codes "O" ++ decimal o.number) ∷ o.id ∷ o.symbol ∷ quoted_side o.side ∷ decimal o.left ∷ decimal o.quantity ∷ decimal o.filled ∷ price_text o.price ∷ [] ∷ utc_text o.at.moment ∷ decimal o.at.row ∷ [] ∷ [] ∷ [] ∷ [] ∷ []
 
 abbrev pub side_fields : ParticipantFile → List Instrument → DayEnd → ℕ → HeldSide → List (List ℕ)
 side_fields file xs d who k =
     first_fields file d who (codes "held")
-    ++ [] ∷ k.order.id ∷ symbol_of xs k.order.instrument ∷ quoted_side k.order.side ∷ [] ∷ decimal k.order.quantity ∷ [] ∷ price_text k.order.price ∷ k.cross ∷ [] ∷ [] ∷ shown_moment (due_moment k.due) ∷ []
+    ++ [] ∷ k.order.id ∷ symbol_of xs k.order.instrument ∷ quoted_side k.order.side ∷ [] ∷ decimal k.order.quantity ∷ [] ∷ price_text k.order.price ∷ k.cross ∷ [] ∷ [] ∷ shown_moment (due_moment k.due) ∷ [] ∷ [] ∷ [] ∷ []
 
 abbrev pub request_fields : ParticipantFile → List Instrument → DayEnd → ℕ → Request → List (List ℕ)
 request_fields file xs d who q =
-    first_fields file d who (codes "request") ++ (codes "R" ++ decimal q.number) ∷ q.id ∷ symbol_of xs q.instrument ∷ asked_words q.side ∷ [] ∷ decimal q.quantity ∷ [] ∷ [] ∷ [] ∷ [] ∷ [] ∷ utc_text q.end ∷ []
+    first_fields file d who (codes "request") ++ (codes "R" ++ decimal q.number) ∷ q.id ∷ symbol_of xs q.instrument ∷ asked_words q.side ∷ [] ∷ decimal q.quantity ∷ [] ∷ [] ∷ [] ∷ [] ∷ [] ∷ utc_text q.end ∷ [] ∷ [] ∷ [] ∷ []
+
+abbrev pub shown_price : Option ℤ → List ℕ
+shown_price None = []
+shown_price (Some p) = price_text p
+
+abbrev pub quote_fields : ParticipantFile → DayEnd → ℕ → OwnQuote → List (List ℕ)
+quote_fields file d who q =
+    first_fields file d who (codes "quote")
+    ++ (codes "Q" ++ decimal q.number) ∷ q.id ∷ q.symbol ∷ [] ∷ [] ∷ decimal q.quantity ∷ [] ∷ [] ∷ [] ∷ [] ∷ [] ∷ utc_text q.end ∷ q.request ∷ shown_price q.bid ∷ shown_price q.offer ∷ []
 
 -- In the form that is asked for.
 
@@ -207,13 +244,17 @@ abbrev pub request_text : Form → ParticipantFile → List Instrument → DayEn
 request_text Lines file xs d who q = parts_text (request_parts xs q)
 request_text Table file xs d who q = row_text setup (request_fields file xs d who q)
 
+abbrev pub quote_text : Form → ParticipantFile → DayEnd → ℕ → OwnQuote → List ℕ
+quote_text Lines file d who q = parts_text (quote_parts q)
+quote_text Table file d who q = row_text setup (quote_fields file d who q)
+
 abbrev pub counts_of : Rests → Counts
-counts_of r = record { orders = length r.orders; sides = length r.held; requests = length r.requests }
+counts_of r = record { orders = length r.orders; sides = length r.held; requests = length r.requests; quotes = length r.quotes }
 
 abbrev pub owned_text : Form → ParticipantFile → List Instrument → DayEnd → ℕ → Rests → List ℕ
 owned_text form file xs d who r =
     owner_heading form (name_of file who) (counts_of r)
-    ++ (flat_map (order_text form file d who) r.orders ++ (flat_map (side_text form file xs d who) r.held ++ flat_map (request_text form file xs d who) r.requests))
+    ++ (flat_map (order_text form file d who) r.orders ++ (flat_map (side_text form file xs d who) r.held ++ (flat_map (request_text form file xs d who) r.requests ++ flat_map (quote_text form file d who) r.quotes)))
 
 -- of one participant
 abbrev pub participant_text : Form → ParticipantFile → List Instrument → DayEnd → Rests → ℕ → List ℕ
@@ -237,21 +278,21 @@ rests_text form file xs d r who = rests_head form d ++ wanted_text form file xs 
 abbrev pub end_of : List TrailRow → DayEnd
 end_of rs = record { row = length rs; moment = last_moment rs }
 
--- after the inputs of rows: every resting order of every instrument, every held side, and every request that is open at
--- the moment of the last row, as the rules have them
+-- after the inputs of rows, as the rules have them: every resting order of every instrument, every held side, every
+-- request that is open at the moment of the last row, and every quote that is live then (`is_live`), as it was sent
 abbrev pub rests_after : Market → List TrailRow → List Input → Rests
 rests_after m rs is =
     let facts = (run m is).history.facts in
-    record { orders = books_of (entered_on m rs is) facts m.instruments m.instruments; held = held facts; requests = open_requests facts (last_moment rs) }
+    record { orders = books_of (entered_on m rs is) facts m.instruments m.instruments; held = held facts; requests = open_requests facts (last_moment rs); quotes = live_at facts (last_moment rs) (quoted_on m is) }
 
--- a text has what rests, is held or is open after the inputs of these rows
+-- a text has what rests, is held, is open or is live after the inputs of these rows
 pub record IsRests (form : Form) (m : Market) (rs : List TrailRow) (who : Option ℕ) (text : List ℕ) : Type 0 where
   pub items : List Input
   pub emitted : AreOf rs items
   pub is : text ≡ rests_text form m.participants m.instruments (end_of rs) (rests_after m rs items) who
 
--- What was written is what rests, is held or is open after the inputs of these rows: of one participant, or of all,
--- every resting order, every held side and every open request by the facts, and no other byte.
+-- What was written is what rests, is held, is open or is live after the inputs of these rows: of one participant, or of
+-- all, every resting order, every held side, every open request and every live quote by the facts, and no other byte.
 pub record EmitsRests (form : Form) (m : Market) (rs : List TrailRow) (who : Option ℕ) (before after : Option (List ℕ)) : Type 0 where
   pub items : List Input
   pub emitted : AreOf rs items

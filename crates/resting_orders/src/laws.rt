@@ -1,6 +1,6 @@
 //! What is kept agrees with the facts, on every day.
 
-ghost use Rattle.resting_orders.specs.Laws.{ClosingsAgree, OrdersAgree, RequestsAgree, SidesAgree};
+ghost use Rattle.resting_orders.specs.Laws.{ClosingsAgree, OrdersAgree, QuotesAgree, RequestsAgree, SidesAgree};
 
 use cross_delay::{delay_is_read_alone, due_side_is_held};
 
@@ -25,4 +25,11 @@ pub fn kept_sides_agree()
 pub fn kept_requests_agree()
     ensures asked { RequestsAgree }
     ensures closed { ClosingsAgree }
+{}
+
+/// The quotes that are kept are all that were made, in order, each with its maker's identifiers, its prices, its end,
+/// and the instrument and quantity of its room. It is so after every list of inputs.
+#[tactic(auto, using(crate::proofs::OwnQuotes::quotes_agree))]
+pub fn kept_quotes_agree()
+    ensures { QuotesAgree }
 {}

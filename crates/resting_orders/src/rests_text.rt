@@ -1,4 +1,4 @@
-//! What rests, is held or is open, as it is printed of one participant.
+//! What rests, is held, is open or is live, as it is printed of one participant.
 
 ghost use Rattle.std.specs.Prelude.{◌≡◌, ◌++◌, ◌∷◌, ◌==◌, [], Some, codes, decimal, length, IfOk, OnOk};
 ghost use Rattle.std.specs.List.{flat_map};
@@ -8,17 +8,18 @@ ghost use Rattle.instruments.specs.Listing.{symbol_of};
 ghost use Rattle.message_words.specs.Cells.{setup};
 ghost use Rattle.message_words.specs.Parts.{parts_text, shown_option};
 ghost use Rattle.resting_orders.specs.Book.{shown_moment};
-ghost use Rattle.resting_orders.specs.Rests.{asked_words, counted_parts, due_moment, due_parts, due_words, end_parts, first_fields, heading_parts, nothing_parts, order_fields, order_parts, order_text, orders_words, owner_heading, request_fields, request_parts, request_text, request_words, requests_words, rests_head, rests_names, side_fields, side_parts, side_text, sides_words};
+ghost use Rattle.resting_orders.specs.Rests.{asked_words, counted_parts, due_moment, due_parts, due_words, end_parts, first_fields, heading_parts, nothing_parts, order_fields, order_parts, order_text, orders_words, owner_heading, quote_fields, quote_parts, quote_text, quotes_words, request_fields, request_parts, request_text, request_words, requests_words, rests_head, rests_names, side_fields, side_parts, side_text, shown_price, sides_words};
 
 use crate::asking::Request;
 use crate::book::{append_row, push_order, push_price, push_shown_moment, quoted_side};
 use crate::form::Form;
+use crate::quoting::OwnQuote;
 use crate::rested::RestedOrder;
 use csv::ByteRecord;
-use fix_dictionary::Side;
+use fix_dictionary::{Price, Side};
 use instruments::Instruments;
 use message_words::{
-    Part, Value, append_parts, bytes, moment_value, number, push_moment, push_number,
+    Part, Value, append_parts, bytes, moment_value, number, price_value, push_moment, push_number,
 };
 use participants::{Participants, Who};
 use sef_moment::Moment;
@@ -42,12 +43,13 @@ pub struct DayEnd {
     pub moment: Option<Moment>,
 }
 
-/// How many orders rest, how many sides are held, and how many requests are open.
+/// How many orders rest, how many sides are held, how many requests are open, and how many quotes are live.
 #[derive(Clone, Copy)]
 pub struct Counts {
     pub orders: u64,
     pub sides: u64,
     pub requests: u64,
+    pub quotes: u64,
 }
 
 /// The form, the files, and the last row.
@@ -96,6 +98,16 @@ fn requests_words(count: u64) -> &'static [u8]
         b" request is open"
     } else {
         b" requests are open"
+    }
+}
+
+fn quotes_words(count: u64) -> &'static [u8]
+    ensures { result.now ≡ quotes_words count }
+{
+    if count == 1 {
+        b" quote is live"
+    } else {
+        b" quotes are live"
     }
 }
 
@@ -156,7 +168,7 @@ fn append_nothing(alloc: Global, text: &mut Vec<u8>, name: &[u8]) -> Result<(), 
         &[
             part!(name, bytes(b"")),
             part!(
-                b": no order rests, no side is held, no request is open\n",
+                b": no order rests, no side is held, no request is open, no quote is live\n",
                 bytes(b"")
             ),
         ],
@@ -182,6 +194,8 @@ fn append_counted(
             part!(sides_words(counts.sides), bytes(b"")),
             part!(b", ", number(counts.requests)),
             part!(requests_words(counts.requests), bytes(b"")),
+            part!(b", ", number(counts.quotes)),
+            part!(quotes_words(counts.quotes), bytes(b"")),
             part!(b"\n", bytes(b"")),
         ],
     )
@@ -195,7 +209,7 @@ fn append_heading_line(
 ) -> Result<(), AllocError>
     ensures { OnOk result (text.new.items ≡ text.old.items ++ parts_text (heading_parts name.now counts.now)) }
 {
-    if counts.orders == 0 && (counts.sides == 0 && counts.requests == 0) {
+    if counts.orders == 0 && (counts.sides == 0 && (counts.requests == 0 && counts.quotes == 0)) {
         append_nothing(alloc, text, name)
     } else {
         append_counted(alloc, text, name, counts)
@@ -314,6 +328,26 @@ fn append_request_words<'a>(
     )
 }
 
+fn append_quote_line(alloc: Global, text: &mut Vec<u8>, quote: &OwnQuote) -> Result<(), AllocError>
+    ensures { OnOk result (text.new.items ≡ text.old.items ++ parts_text (quote_parts quote.now)) }
+{
+    append_parts(
+        alloc,
+        text,
+        &[
+            part!(b"  ", bytes(quote.symbol.as_slice())),
+            part!(b" quote Q", number(quote.number)),
+            part!(b" as ", bytes(quote.id.as_slice())),
+            part!(b" in ", bytes(quote.request.as_slice())),
+            part!(b": ", number(quote.quantity.get())),
+            part!(b", bid ", price_value(quote.bid)),
+            part!(b", offer ", price_value(quote.offer)),
+            part!(b", live until ", Some(Value::Moment(quote.end))),
+            part!(b"\n", bytes(b"")),
+        ],
+    )
+}
+
 fn append_rests_names(alloc: Global, text: &mut Vec<u8>) -> Result<(), AllocError>
     ensures { OnOk result (text.new.items ≡ text.old.items ++ row_text setup rests_names) }
 {
@@ -336,6 +370,9 @@ fn append_rests_names(alloc: Global, text: &mut Vec<u8>) -> Result<(), AllocErro
             b"entered_utc",
             b"entered_row",
             b"until_utc",
+            b"request",
+            b"bid",
+            b"offer",
         ],
     )?;
     append_row(alloc, text, &names)
@@ -359,6 +396,17 @@ fn first_fields(
     Ok(made)
 }
 
+/// Adds the fields of a quote alone, empty.
+fn push_none(made: &mut ByteRecord) -> Result<(), AllocError>
+    requires { partial_of made.old ≡ [] }
+    ensures partial { OnOk result (partial_of made.new ≡ []) }
+    ensures fields { OnOk result (fields_of made.new ≡ fields_of made.old ++ [] ∷ [] ∷ [] ∷ []) }
+{
+    made.push_field(b"")?;
+    made.push_field(b"")?;
+    made.push_field(b"")
+}
+
 fn order_fields(
     alloc: Global,
     page: &Page<'_>,
@@ -380,6 +428,7 @@ fn order_fields(
     push_moment(&mut made, order.at.moment)?;
     push_number(&mut made, order.at.row)?;
     made.push_field(b"")?;
+    push_none(&mut made)?;
     Ok(made)
 }
 
@@ -404,6 +453,7 @@ fn side_fields(
     made.push_field(b"")?;
     made.push_field(b"")?;
     push_shown_moment(&mut made, due_moment(side.due))?;
+    push_none(&mut made)?;
     Ok(made)
 }
 
@@ -438,6 +488,59 @@ fn request_fields(
     made.push_field(b"")?;
     made.push_field(b"")?;
     push_moment(&mut made, request.end)?;
+    push_none(&mut made)?;
+    Ok(made)
+}
+
+fn push_quote(alloc: Global, made: &mut ByteRecord, quote: u64) -> Result<(), AllocError>
+    requires { partial_of made.old ≡ [] }
+    ensures partial { OnOk result (partial_of made.new ≡ []) }
+    ensures fields { OnOk result (fields_of made.new ≡ fields_of made.old ++ (codes "Q" ++ decimal quote) ∷ []) }
+{
+    let mut text = Vec::new(alloc);
+    append_number(&mut text, b"Q", quote)?;
+    made.push_field(&text)
+}
+
+fn push_shown_price(
+    alloc: Global,
+    made: &mut ByteRecord,
+    price: Option<Price>,
+) -> Result<(), AllocError>
+    requires { partial_of made.old ≡ [] }
+    ensures partial { OnOk result (partial_of made.new ≡ []) }
+    ensures fields { OnOk result (fields_of made.new ≡ fields_of made.old ++ shown_price price ∷ []) }
+{
+    match price {
+        Some(price) => push_price(alloc, made, price),
+        None => made.push_field(b""),
+    }
+}
+
+fn quote_fields(
+    alloc: Global,
+    page: &Page<'_>,
+    who: Who,
+    quote: &OwnQuote,
+) -> Result<ByteRecord, AllocError>
+    ensures { IfOk result (λ made. fields_of made ≡ quote_fields page.now.participants.now page.now.end who quote.now) }
+{
+    let mut made = first_fields(alloc, page, who, b"quote")?;
+    push_quote(alloc, &mut made, quote.number)?;
+    made.push_field(quote.id.as_slice())?;
+    made.push_field(quote.symbol.as_slice())?;
+    made.push_field(b"")?;
+    made.push_field(b"")?;
+    push_number(&mut made, quote.quantity.get())?;
+    made.push_field(b"")?;
+    made.push_field(b"")?;
+    made.push_field(b"")?;
+    made.push_field(b"")?;
+    made.push_field(b"")?;
+    push_moment(&mut made, quote.end)?;
+    made.push_field(quote.request.as_slice())?;
+    push_shown_price(alloc, &mut made, quote.bid)?;
+    push_shown_price(alloc, &mut made, quote.offer)?;
     Ok(made)
 }
 
@@ -477,6 +580,19 @@ fn append_request_row(
     ensures { OnOk result (text.new.items ≡ text.old.items ++ row_text setup (request_fields page.now.participants.now page.now.instruments.now page.now.end who request.now)) }
 {
     let fields = request_fields(alloc, page, who, request)?;
+    append_row(alloc, text, &fields)
+}
+
+fn append_quote_row(
+    alloc: Global,
+    text: &mut Vec<u8>,
+    page: &Page<'_>,
+    who: Who,
+    quote: &OwnQuote,
+) -> Result<(), AllocError>
+    ensures { OnOk result (text.new.items ≡ text.old.items ++ row_text setup (quote_fields page.now.participants.now page.now.end who quote.now)) }
+{
+    let fields = quote_fields(alloc, page, who, quote)?;
     append_row(alloc, text, &fields)
 }
 
@@ -555,6 +671,21 @@ fn append_request(
     }
 }
 
+fn append_quote(
+    alloc: Global,
+    text: &mut Vec<u8>,
+    page: &Page<'_>,
+    who: Who,
+    quote: &OwnQuote,
+) -> Result<(), AllocError>
+    ensures { OnOk result (text.new.items ≡ text.old.items ++ quote_text page.now.form page.now.participants.now page.now.end who quote.now) }
+{
+    match page.form {
+        Form::Lines => append_quote_line(alloc, text, quote),
+        Form::Table => append_quote_row(alloc, text, page, who, quote),
+    }
+}
+
 /// Appends the resting orders of a participant.
 pub(crate) fn append_orders(
     alloc: Global,
@@ -599,6 +730,22 @@ pub(crate) fn append_requests(
 {
     for request in requests {
         append_request(alloc, text, page, who, request)?;
+    }
+    Ok(())
+}
+
+/// Appends the live quotes of a participant.
+pub(crate) fn append_quotes(
+    alloc: Global,
+    text: &mut Vec<u8>,
+    page: &Page<'_>,
+    who: Who,
+    quotes: &[OwnQuote],
+) -> Result<(), AllocError>
+    ensures { OnOk result (text.new.items ≡ text.old.items ++ flat_map (quote_text page.now.form page.now.participants.now page.now.end who) quotes.now) }
+{
+    for quote in quotes {
+        append_quote(alloc, text, page, who, quote)?;
     }
     Ok(())
 }
