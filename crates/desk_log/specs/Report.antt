@@ -1,14 +1,14 @@
 -- What is printed of a comparison:
 --
---       all 412 messages that BETA was owed were received, in order
+--       the log has all 412 messages that BETA was owed, in order
 --
 --   or
---       the first 400 of the 412 messages that BETA was owed were received, in order;
+--       the log has the first 400 of the 412 messages that BETA was owed, in order;
 --         the last 12 are not in the log (rows 870 to 880)
 --           messages 403 to 414 are missing; the log goes on with message 415
 --
 --   or
---       the first 13 of the 412 messages that BETA was owed were received, in order; then the log differs
+--       the log has the first 13 of the 412 messages that BETA was owed, in order; then the log differs
 --           message 15 (an execution report on O3) is missing; the log goes on with message 16
 --           owed at row 37: 35=8|37=O3|..
 --           in the log, number 16 of era 1, line 30: 35=8|37=O4|..
@@ -49,13 +49,13 @@ use Rattle.message_words.specs.Visible.{readable}
 abbrev pub all_received : ℕ → List ℕ → List ℕ
 all_received n desk =
     if n == 0 then joined (desk ∷ codes " was owed no message, and the log has none\n" ∷ []) else
-    (if n == 1 then joined (codes "the one message that " ∷ desk ∷ codes " was owed was received\n" ∷ []) else
-    joined (codes "all " ∷ decimal n ∷ codes " messages that " ∷ desk ∷ codes " was owed were received, in order\n" ∷ []))
+    (if n == 1 then joined (codes "the log has the one message that " ∷ desk ∷ codes " was owed\n" ∷ []) else
+    joined (codes "the log has all " ∷ decimal n ∷ codes " messages that " ∷ desk ∷ codes " was owed, in order\n" ∷ []))
 
 abbrev pub first_received : (count n : ℕ) → List ℕ → List ℕ
 first_received count n desk =
-    if count == 1 then joined (codes "the first of the " ∷ decimal n ∷ codes " messages that " ∷ desk ∷ codes " was owed was received; " ∷ []) else
-    joined (codes "the first " ∷ decimal count ∷ codes " of the " ∷ decimal n ∷ codes " messages that " ∷ desk ∷ codes " was owed were received, in order; " ∷ [])
+    if count == 1 then joined (codes "the log has the first of the " ∷ decimal n ∷ codes " messages that " ∷ desk ∷ codes " was owed; " ∷ []) else
+    joined (codes "the log has the first " ∷ decimal count ∷ codes " of the " ∷ decimal n ∷ codes " messages that " ∷ desk ∷ codes " was owed, in order; " ∷ [])
 
 abbrev pub row_of : Option Owed → ℕ
 row_of None = 0

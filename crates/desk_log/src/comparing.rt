@@ -13,9 +13,9 @@ use std::alloc::{AllocError, Global};
 /// What a log says of the messages that were owed.
 #[derive(Clone, Copy)]
 pub enum Comparison {
-    /// All were received, in order.
+    /// The log has all, in order.
     All,
-    /// The first ones were received, in order, and no other.
+    /// The log has the first ones, in order, and no other.
     FirstPart,
     /// The log has another message, or two of one number.
     Differs,

@@ -1,6 +1,6 @@
 //! What is printed of a comparison.
 
-ghost use Rattle.std.specs.Prelude.{◌≡◌, ◌++◌, OnOk, IfOk, option_map, slice_get};
+ghost use Rattle.std.specs.Prelude.{◌≡◌, ◌++◌, codes, OnOk, IfOk, option_map, slice_get};
 ghost use Rattle.message_words.specs.Visible.{readable};
 ghost use Rattle.desk_log.specs.Numbered.{text_at};
 ghost use Rattle.desk_log.specs.Report as specs;
@@ -32,20 +32,20 @@ fn append_all(out: &mut Vec<u8>, owed: usize, desk: &[u8]) -> Result<(), AllocEr
         return append_parts(
             out,
             &[
-                Part::Bytes(b"the one message that "),
+                Part::Bytes(b"the log has the one message that "),
                 Part::Bytes(desk),
-                Part::Bytes(b" was owed was received\n"),
+                Part::Bytes(b" was owed\n"),
             ],
         );
     }
     append_parts(
         out,
         &[
-            Part::Bytes(b"all "),
+            Part::Bytes(b"the log has all "),
             Part::Number(owed as u64),
             Part::Bytes(b" messages that "),
             Part::Bytes(desk),
-            Part::Bytes(b" was owed were received, in order\n"),
+            Part::Bytes(b" was owed, in order\n"),
         ],
     )
 }
@@ -57,24 +57,24 @@ fn append_first(out: &mut Vec<u8>, count: usize, owed: usize, desk: &[u8]) -> Re
         return append_parts(
             out,
             &[
-                Part::Bytes(b"the first of the "),
+                Part::Bytes(b"the log has the first of the "),
                 Part::Number(owed as u64),
                 Part::Bytes(b" messages that "),
                 Part::Bytes(desk),
-                Part::Bytes(b" was owed was received; "),
+                Part::Bytes(b" was owed; "),
             ],
         );
     }
     append_parts(
         out,
         &[
-            Part::Bytes(b"the first "),
+            Part::Bytes(b"the log has the first "),
             Part::Number(count as u64),
             Part::Bytes(b" of the "),
             Part::Number(owed as u64),
             Part::Bytes(b" messages that "),
             Part::Bytes(desk),
-            Part::Bytes(b" was owed were received, in order; "),
+            Part::Bytes(b" was owed, in order; "),
         ],
     )
 }
@@ -169,6 +169,24 @@ fn append_part_head(
     append_last(out, owed.saturating_sub(count))
 }
 
+fn append_differs(out: &mut Vec<u8>) -> Result<(), AllocError>
+    ensures { OnOk result (out.new.items ≡ out.old.items ++ codes "then the log differs\n") }
+{
+    out.extend_from_slice(b"then the log differs\n")
+}
+
+fn append_first_differs(
+    out: &mut Vec<u8>,
+    count: usize,
+    owed: usize,
+    desk: &[u8],
+) -> Result<(), AllocError>
+    ensures { OnOk result (out.new.items ≡ out.old.items ++ (specs.first_received count owed desk.now ++ codes "then the log differs\n")) }
+{
+    append_first(out, count, owed, desk)?;
+    append_differs(out)
+}
+
 fn append_differs_head(
     out: &mut Vec<u8>,
     count: usize,
@@ -198,8 +216,7 @@ fn append_differs_head(
             ],
         );
     }
-    append_first(out, count, owed, desk)?;
-    out.extend_from_slice(b"then the log differs\n")
+    append_first_differs(out, count, owed, desk)
 }
 
 fn append_owed_row(alloc: Global, out: &mut Vec<u8>, owed: &Owed) -> Result<(), AllocError>

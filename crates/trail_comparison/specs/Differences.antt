@@ -58,8 +58,12 @@ count_pieces count rows = codes "answers: " ∷ decimal count ∷ codes " of " �
 abbrev pub none_pieces : ℕ → List (List ℕ)
 none_pieces rows = codes "answers: each of " ∷ decimal rows ∷ codes " shared rows has the same\n" ∷ []
 
+-- no row has others: of some, or because there is none
+abbrev pub none_line : ℕ → List ℕ
+none_line rows = if rows == 0 then codes "answers: no row is shared, none is compared\n" else flat_map (λ (p : List ℕ). p) (none_pieces rows)
+
 unfoldable pub count_line : ℕ → ℕ → List ℕ
-count_line count rows = if count == 0 then flat_map (λ (p : List ℕ). p) (none_pieces rows) else flat_map (λ (p : List ℕ). p) (count_pieces count rows)
+count_line count rows = if count == 0 then none_line rows else flat_map (λ (p : List ℕ). p) (count_pieces count rows)
 
 -- each row that has other answers, and their count
 abbrev pub answers_text : (m n : Market) → List TrailRow → List Input → List ℕ

@@ -3,8 +3,8 @@
 --     lost: T5 BASIS1Y 5 @ -1 buyer GAMMA seller BETA
 --     gained: T5 BASIS1Y 5 @ -1 buyer GAMMA seller ALPHA
 --     trades: 5 in A, 5 in B: 1 lost, 1 gained
-use Rattle.std.specs.Prelude.{ℕ, ◌+◌, ◌==◌, ◌&&◌, Bool, nat_lt, List, [], ◌∷◌, ◌++◌, length, take, codes, decimal, if◌then◌else◌}
-use Rattle.std.specs.List.{count_by, flat_map}
+use Rattle.std.specs.Prelude.{ℕ, ◌+◌, ◌==◌, ◌&&◌, ◌||◌, Bool, is_some, nat_lt, List, [], ◌∷◌, ◌++◌, length, take, codes, decimal, if◌then◌else◌}
+use Rattle.std.specs.List.{count_by, flat_map, list_any}
 use Rattle.std.specs.Ordering.{int_eq}
 use Rattle.venue_rules.specs.declared.trail.TradeFact.{TradeFact}
 use Rattle.venue_rules.specs.Market.{Market}
@@ -39,6 +39,20 @@ abbrev pub counts_line : (one other fewer more : ℕ) → List ℕ
 counts_line one other fewer more =
     flat_map (λ (p : List ℕ). p) (codes "trades: " ∷ decimal one ∷ codes " in A, " ∷ decimal other ∷ codes " in B: " ∷ decimal fewer ∷ codes " lost, " ∷ decimal more ∷ codes " gained\n" ∷ [])
 
+-- a trade by a quote: quotes and hits name the numbers that A gave
+abbrev pub is_in_room : TradeFact → Bool
+is_in_room t = is_some t.room
+
+abbrev pub numbers_said : List ℕ
+numbers_said = codes "quotes and hits name the numbers that A gave to requests and quotes; where B gives others, trades in rooms may be lost or gained by that alone\n"
+
+abbrev pub numbers_line : Bool → List ℕ
+numbers_line in_room = if in_room then numbers_said else []
+
+-- where such a trade is lost or gained
+abbrev pub rooms_line : (one other : List TradeFact) → List ℕ
+rooms_line one other = numbers_line (list_any is_in_room (alone one other) || list_any is_in_room (alone other one))
+
 abbrev pub lost : List ℕ
 lost = codes "lost: T"
 
@@ -49,4 +63,5 @@ abbrev pub trades_text : (m n : Market) → (one other : List TradeFact) → Lis
 trades_text m n one other =
     trade_lines lost m (alone one other)
     ++ (trade_lines gained n (alone other one)
-    ++ counts_line (length one) (length other) (length (alone one other)) (length (alone other one)))
+    ++ (counts_line (length one) (length other) (length (alone one other)) (length (alone other one))
+    ++ rooms_line one other))

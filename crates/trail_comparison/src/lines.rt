@@ -1,9 +1,9 @@
 //! The lines of a row to which the venues of two trails reply differently.
 
-ghost use Rattle.std.specs.Prelude.{◌≡◌, ◌++◌, ◌==◌, length, if◌then◌else◌, codes, IfOk, OnOk};
+ghost use Rattle.std.specs.Prelude.{◌≡◌, ◌++◌, ◌==◌, ℕ, List, length, if◌then◌else◌, codes, IfOk, OnOk};
 ghost use Rattle.std.specs.List.{flat_map};
 ghost use Rattle.row_replay.specs.Inputs.{input_of};
-ghost use Rattle.trail_comparison.specs.Differences.{have, count_line, count_pieces, difference_at, difference_text, none_pieces};
+ghost use Rattle.trail_comparison.specs.Differences.{have, count_line, count_pieces, difference_at, difference_text, none_line};
 ghost use Rattle.trail_comparison.specs.Lines.{came_text, input_text, label_a, label_b, replies_text, reply_text};
 
 use crate::sent::{Names, are_same};
@@ -166,33 +166,51 @@ fn have(count: usize) -> &'static [u8]
     }
 }
 
+/// That none of the shared rows has other answers, in a line.
+fn none_line(alloc: Global, rows: usize) -> Result<Vec<u8>, AllocError>
+    ensures { IfOk result (λ text. text.items ≡ none_line rows) }
+{
+    let mut text = Vec::new(alloc);
+    if rows == 0 {
+        text.extend_from_slice(b"answers: no row is shared, none is compared\n")?;
+        return Ok(text);
+    }
+    let mut of = Buffer::new();
+    let pieces = [
+        b"answers: each of ",
+        of.format(rows).as_bytes(),
+        b" shared rows has the same\n",
+    ];
+    append(&mut text, &pieces)?;
+    Ok(text)
+}
+
 /// How many of the shared rows have other answers, in a line.
+fn some_line(alloc: Global, count: usize, rows: usize) -> Result<Vec<u8>, AllocError>
+    ensures { IfOk result (λ text. text.items ≡ flat_map (λ (p : List ℕ). p) (count_pieces count rows)) }
+{
+    let mut text = Vec::new(alloc);
+    let mut of = Buffer::new();
+    let mut digits = Buffer::new();
+    let pieces = [
+        b"answers: ",
+        digits.format(count).as_bytes(),
+        b" of ",
+        of.format(rows).as_bytes(),
+        b" shared rows",
+        have(count),
+    ];
+    append(&mut text, &pieces)?;
+    Ok(text)
+}
+
+/// How many of the shared rows have other answers, or that none has, in a line.
 #[tactic(auto, unfolding(crate::specs::Differences::count_line))]
 pub(crate) fn count_line(alloc: Global, count: usize, rows: usize) -> Result<Vec<u8>, AllocError>
     ensures { IfOk result (λ text. text.items ≡ count_line count rows) }
 {
-    let mut text = Vec::new(alloc);
-    let mut of = Buffer::new();
     if count == 0 {
-        let pieces = [
-            b"answers: each of ",
-            of.format(rows).as_bytes(),
-            b" shared rows has the same\n",
-        ];
-        append(&mut text, &pieces)?;
-        return Ok(text);
+        return none_line(alloc, rows);
     }
-    let mut digits = Buffer::new();
-    append(
-        &mut text,
-        &[
-            b"answers: ",
-            digits.format(count).as_bytes(),
-            b" of ",
-            of.format(rows).as_bytes(),
-            b" shared rows",
-            have(count),
-        ],
-    )?;
-    Ok(text)
+    some_line(alloc, count, rows)
 }

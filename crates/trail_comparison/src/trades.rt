@@ -1,7 +1,7 @@
 //! The trades of two runs of the same rows.
 
-ghost use Rattle.std.specs.Prelude.{◌≡◌, ◌++◌, ◌<◌, ◌≤◌, IfOk, OnOk, length, take, ◌+◌};
-ghost use Rattle.std.specs.List.{count_by, flat_map};
+ghost use Rattle.std.specs.Prelude.{◌≡◌, ◌++◌, ◌<◌, ◌≤◌, ◌&&◌, ◌||◌, IfOk, OnOk, length, take, ◌+◌};
+ghost use Rattle.std.specs.List.{count_by, flat_map, list_any};
 ghost use Rattle.venue_rules.specs.Facts.{History};
 ghost use Rattle.venue_rules.specs.Readings.{trade_facts};
 ghost use Rattle.venue_core.specs.VenueFacts.{IsHistory};
@@ -109,6 +109,52 @@ fn append_alone(alloc: Global, text: &mut Vec<u8>, compared: &Compared) -> Resul
     Ok(count)
 }
 
+fn is_in_room(trade: &TradeFact) -> bool
+    ensures { result ≡ specs.is_in_room trade.now }
+{
+    trade.room.is_some()
+}
+
+/// Whether one was found before, or this trade is one in a room that the other run has not.
+fn is_found(compared: &Compared, at: usize, trade: &TradeFact, found: bool) -> bool
+    requires { at < length compared.now.all.now }
+    ensures { result ≡ (found || (specs.is_in_room trade.now && specs.is_alone compared.now.all.now compared.now.others.now at trade.now)) }
+{
+    found || (is_in_room(trade) && is_alone(compared.all, compared.others, at, trade))
+}
+
+/// Whether a trade that the other run has not is one in a room.
+fn has_room(compared: &Compared) -> bool
+    ensures { result ≡ list_any specs.is_in_room (specs.alone compared.now.all.now compared.now.others.now) }
+{
+    let mut found = false;
+    let mut at = 0;
+    for trade in compared.all {
+        let next = is_found(compared, at, trade, found);
+        found = next;
+        at += 1;
+    }
+    found
+}
+
+fn have_room(a: &Compared, b: &Compared) -> bool
+    ensures { result ≡ (list_any specs.is_in_room (specs.alone a.now.all.now a.now.others.now) || list_any specs.is_in_room (specs.alone b.now.all.now b.now.others.now)) }
+{
+    has_room(a) || has_room(b)
+}
+
+/// Appends that numbers of rooms and quotes alone may lose or gain trades, where some in rooms are.
+fn append_numbers(text: &mut Vec<u8>, in_room: bool) -> Result<(), AllocError>
+    ensures { OnOk result (text.new.items ≡ text.old.items ++ specs.numbers_line in_room) }
+{
+    if in_room {
+        return text.extend_from_slice(
+            b"quotes and hits name the numbers that A gave to requests and quotes; where B gives others, trades in rooms may be lost or gained by that alone\n",
+        );
+    }
+    Ok(())
+}
+
 fn append_counts(
     text: &mut Vec<u8>,
     one: usize,
@@ -153,7 +199,8 @@ fn append_lists(
 {
     let lost = append_alone(alloc, text, a)?;
     let gained = append_alone(alloc, text, b)?;
-    append_counts(text, a.all.len(), b.all.len(), lost, gained)
+    append_counts(text, a.all.len(), b.all.len(), lost, gained)?;
+    append_numbers(text, have_room(a, b))
 }
 
 /// Appends the trades of one venue that the other has not, and how many.
