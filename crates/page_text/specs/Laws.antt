@@ -1,0 +1,23 @@
+-- Laws of every page, whatever its parts and their values are.
+use Rattle.std.specs.Prelude.{◌≡◌, ◌<◌, ℕ, List, [], ◌++◌, All, map}
+use Rattle.page_text.specs.declared.spot.Spot.TheVariants.{Text}
+use Rattle.page_text.specs.Escapes.{escaped_all}
+use Rattle.page_text.specs.ReadBack.{Plain, read_back}
+use Rattle.page_text.specs.Spots.{tags}
+use Rattle.page_text.specs.Parts.{Part, page_of, with_parts}
+
+-- a part whose places stay empty
+abbrev pub empty_part : Part → Part
+empty_part p = record { template = p.template; values = [] }
+
+-- The tags of a page are those of its template: the same as of the page whose places are empty.
+abbrev pub ValuesLeaveTagsAlone : Type 0
+ValuesLeaveTagsAlone = (ps : List Part) → tags Text (page_of ps) ≡ tags Text (page_of (map empty_part ps))
+
+-- A value is read as it is: two values that differ are never shown as one.
+abbrev pub ValuesAreReadBack : Type 0
+ValuesAreReadBack = (v : List ℕ) → All (λ b. b < 256) v → read_back Plain (escaped_all v) ≡ v
+
+-- Parts that are added behind others are added to the page of these.
+abbrev pub PartsFollowParts : Type 0
+PartsFollowParts = (page : List ℕ) (ps qs : List Part) → with_parts page (ps ++ qs) ≡ with_parts (with_parts page ps) qs
