@@ -1,0 +1,2 @@
+-- what the answer to a row says
+pub mod Events

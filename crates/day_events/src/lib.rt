@@ -1,0 +1,11 @@
+//! What the answer to a row of a trail says: orders, quotes, trades in rooms, prices shown, and the refusal.
+#![tactic(auto)]
+
+mod event;
+mod refusing;
+mod reporting;
+
+pub use event::{
+    Event, FilledOrder, NewOrder, NewQuote, NewRequest, Origin, RoomTrade, ShownPrice, What,
+};
+pub use reporting::push_events_at;

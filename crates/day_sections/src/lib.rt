@@ -1,0 +1,27 @@
+//! Sections of the page of a day that say what its answers say: its six figures, trades, requests for quotes, refusals
+//! and participants.
+#![tactic(auto)]
+
+mod counts;
+mod fate;
+mod figures;
+mod people;
+mod picks;
+mod refusals;
+mod reports;
+mod requests;
+mod rooms;
+mod template;
+mod trades;
+mod values;
+
+pub use counts::Kind;
+pub use fate::{Fate, Quoted};
+pub use figures::add_figures;
+pub use people::{Kept, add_people};
+pub use picks::Pick;
+pub use refusals::add_refusals;
+pub use reports::reports_of;
+pub use requests::{Answered, add_requests};
+pub use trades::{Reported, add_trades};
+pub use values::are_shown;

@@ -1,0 +1,99 @@
+//! Events that belong together, picked from those of a day.
+
+ghost use Rattle.std.specs.Prelude.{◌≡◌, IfOk, filter};
+ghost use Rattle.day_sections.specs.Picks.{is_asked_in, is_of_cause, is_picked, is_same, is_shown, names_room};
+
+use crate::counts::is_quoted;
+use crate::rooms::keep;
+use day_events::{Event, What};
+use fix_dictionary::Identifier;
+use std::alloc::{AllocError, Global};
+use venue_rules::printed_identifier;
+
+/// Which events are picked.
+#[derive(Clone, Copy)]
+pub enum Pick {
+    /// a request, as each recipient was asked in this room
+    Asked(u64),
+    /// the resting orders shown with a quote in this room
+    Shown(u64),
+    /// the quotes in this room
+    Quotes(u64),
+    /// refusals for this cause
+    Refused(Option<Identifier>),
+}
+
+/// Whether an identifier is the venue's of a room.
+pub(crate) fn names_room(room: u64, id: &Option<Identifier>) -> bool
+    ensures { result ≡ names_room room id.now }
+{
+    match id {
+        None => false,
+        Some(id) => printed_identifier(b'R', room).is(id),
+    }
+}
+
+/// Whether two texts are the same, or both absent.
+pub(crate) fn is_same(one: &Option<Identifier>, other: &Option<Identifier>) -> bool
+    ensures { result ≡ is_same one.now other.now }
+{
+    match one {
+        None => other.is_none(),
+        Some(one) => match other {
+            None => false,
+            Some(other) => one.is(other),
+        },
+    }
+}
+
+#[tactic(auto, unfolding(crate::specs::Picks::is_asked_in))]
+fn is_asked_in(room: u64, what: &What) -> bool
+    ensures { result ≡ is_asked_in room what.now }
+{
+    match what {
+        What::Asked(request) => request.room == room,
+        _ => false,
+    }
+}
+
+#[tactic(auto, unfolding(crate::specs::Picks::is_shown))]
+fn is_shown(what: &What) -> bool
+    ensures { result ≡ is_shown what.now }
+{
+    match what {
+        What::Shown(_) => true,
+        _ => false,
+    }
+}
+
+#[tactic(auto, unfolding(crate::specs::Picks::is_of_cause))]
+fn is_of_cause(cause: &Option<Identifier>, what: &What) -> bool
+    ensures { result ≡ is_of_cause cause.now what.now }
+{
+    match what {
+        What::Refused(text) => is_same(cause, text),
+        _ => false,
+    }
+}
+
+fn is_picked(pick: &Pick, event: &Event) -> bool
+    ensures { result ≡ is_picked pick.now event.now }
+{
+    match pick {
+        Pick::Asked(room) => is_asked_in(*room, &event.what),
+        Pick::Shown(room) => is_shown(&event.what) && names_room(*room, &event.at.named),
+        Pick::Quotes(room) => is_quoted(&event.what) && names_room(*room, &event.at.named),
+        Pick::Refused(cause) => is_of_cause(cause, &event.what),
+    }
+}
+
+/// The events that are picked, in order.
+pub(crate) fn picked(alloc: Global, events: &[Event], pick: &Pick) -> Result<Vec<Event>, AllocError>
+    ensures { IfOk result (λ kept. kept.items ≡ filter (is_picked pick.now) events.now) }
+{
+    let mut kept = Vec::new(alloc);
+    for event in events {
+        keep(&mut kept, event, is_picked(pick, event))?;
+    }
+    Ok(kept)
+}

@@ -1,0 +1,14 @@
+//! The daily bulletin of a day, and the values of the places of its page.
+#![tactic(auto)]
+
+mod bulletin;
+mod laws;
+mod template;
+mod values;
+
+pub use bulletin::{Place, Span, add_bulletin, number, quantity};
+pub use laws::volumes_add_up;
+pub use values::{
+    date_in, date_of, grouped_text, name_at, number_text, price_bytes, symbol_at, time_in, time_of,
+    wide_text,
+};
