@@ -1,0 +1,10 @@
+use Rattle.venue_core.specs.Plan.{answer_of}
+use Rattle.day_page.proofs.Walking.{takes_row}
+use Rattle.day_page.proofs.day.take_row.Goals as goal
+
+pub returns-clause-taken : goal.returns-clause-taken
+returns-clause-taken c =
+    let planned = c.in_ok-plan.ensures in
+    let row = c.args.row.now in
+    takes_row c.day_goes_on.ensures.takes row c.in_ok-taken.taken row.moment c.args.venue.now c.plan_item.new.venue c.apply.new.self (answer_of c.in_ok-plan.plan) c.replies-replies.result.now c.args.events.now.items
+    c.push_events_at.new.events.items c.in_ok-taken.ensures (record { market = planned.market; day = planned.day }) planned.planned c.apply.ensures.market c.apply.ensures.after c.replies-replies.ensures c.in_ok-push_events_at.ensures

@@ -1,0 +1,7 @@
+-- what the answers of the day say
+pub mod Days
+-- the rows, the head, and the page
+pub mod Rows
+pub mod Sections
+-- what is written
+pub mod Printed

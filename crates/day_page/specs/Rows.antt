@@ -1,0 +1,66 @@
+-- The section of the rows: each with the message that it spells, in words and as FIX has it.
+use Rattle.std.specs.Prelude.{◌≡◌, ℕ, List, [], ◌∷◌, ◌++◌, nat_le, length, decimal, if◌then◌else◌}
+use Rattle.fix_dictionary.specs.declared.messages.App.{App}
+use Rattle.message_words.specs.RowLines.{sender_name}
+use Rattle.message_words.specs.Visible.{readable}
+use Rattle.message_words.specs.Words.{came_words}
+use Rattle.page_text.specs.Parts.{Part, with_part, with_parts}
+use Rattle.participants.specs.ParticipantFile.{ParticipantFile}
+use Rattle.sef_moment.specs.Utc.{utc_text}
+use Rattle.venue_core.specs.Replay.{AreEmitted, Emits}
+use Rattle.venue_rules.specs.declared.trail.TrailRow.{TrailRow}
+use Rattle.venue_rules.specs.Run.{Input, Message, Tick}
+use Rattle.day_sections.specs.Values.{are_shown}
+use Rattle.day_tables.specs.Parts.{plain_part}
+use Rattle.day_tables.specs.Values.{grouped, time_in}
+use Rattle.day_page.specs.declared.template.TheConstants.{COLUMNS, MESSAGE, ROWS, ROWS_END, ROWS_FOLDED, ROWS_OPEN, TICK}
+
+-- the rows that the page has: all, or none of more than 5,000
+abbrev pub listed : List TrailRow → List TrailRow
+listed rs = if are_shown rs then rs else []
+
+-- at most 120 stand open
+abbrev pub fold_part : List TrailRow → Part
+fold_part rs = if nat_le (length rs) 120 then plain_part ROWS_OPEN.now else plain_part ROWS_FOLDED.now
+
+abbrev pub message_part : ParticipantFile → TrailRow → App → Part
+message_part file r a = record {
+  template = MESSAGE.now;
+  values = decimal r.n ∷ decimal r.n ∷ time_in (utc_text r.moment) ∷ sender_name file r.who ∷ decimal r.number ∷ decimal r.era ∷ came_words a ∷ readable r.text ∷ [];
+}
+
+abbrev pub tick_part : TrailRow → Part
+tick_part r = record { template = TICK.now; values = decimal r.n ∷ decimal r.n ∷ time_in (utc_text r.moment) ∷ [] }
+
+-- a row, by the input that it stands for
+abbrev pub row_part : ParticipantFile → TrailRow → Input → Part
+row_part file r (Message taken t) = message_part file r taken.item.app
+row_part file r (Tick t) = tick_part r
+
+abbrev pub each_row : ParticipantFile → List TrailRow → List Input → List Part
+each_row file [] is = []
+each_row file (r ∷ rs) [] = []
+each_row file (r ∷ rs) (i ∷ is) = row_part file r i ∷ each_row file rs is
+
+abbrev pub count_part : List TrailRow → Part
+count_part rs = record { template = ROWS.now; values = grouped (length rs) ∷ [] }
+
+abbrev pub rows_parts : ParticipantFile → List TrailRow → List Input → List Part
+rows_parts file rs is = count_part rs ∷ fold_part rs ∷ plain_part COLUMNS.now ∷ (each_row file (listed rs) is ++ plain_part ROWS_END.now ∷ [])
+
+-- A row was added with the message that it spells.
+pub record AddsRow (file : ParticipantFile) (r : TrailRow) (before after : List ℕ) : Type 0 where
+  pub input : Input
+  pub emits : Emits r input
+  pub added : after ≡ with_part before (row_part file r input)
+
+pub record AddsRows (file : ParticipantFile) (rs : List TrailRow) (before after : List ℕ) : Type 0 where
+  pub read : List Input
+  pub emitted : AreEmitted rs read
+  pub added : after ≡ with_parts before (each_row file rs read)
+
+-- the section was added: with the messages that the rows on the page spell
+pub record AddsSection (file : ParticipantFile) (rs : List TrailRow) (before after : List ℕ) : Type 0 where
+  pub read : List Input
+  pub emitted : AreEmitted (listed rs) read
+  pub added : after ≡ with_parts before (rows_parts file rs read)

@@ -1,0 +1,11 @@
+//! The day of a trail as one page of HTML.
+#![tactic(auto)]
+
+mod day;
+mod head;
+mod printing;
+mod rows;
+mod style;
+mod template;
+
+pub use printing::print_page;

@@ -1,0 +1,158 @@
+//! The page of a day, written.
+
+ghost use Rattle.std.specs.Prelude.{◌≡◌, ◌≤◌, All, IfErr, IfOk, OnOk, length};
+ghost use Rattle.std.specs.Io.KnownBytes.{Appends, Keeps};
+ghost use Rattle.page_text.specs.Parts.{with_parts};
+ghost use Rattle.trade_blotter.specs.declared.printing.PrintFault.TheVariants.{Memory, Output};
+ghost use Rattle.trail_digest.specs.Trail.{trail_of};
+ghost use Rattle.venue_core.specs.Plan.{most_items};
+ghost use Rattle.venue_core.specs.Replay.{IsItem};
+ghost use Rattle.venue_core.specs.VenueFacts.{IsHistory};
+ghost use Rattle.venue_rules.specs.Facts.{History};
+ghost use Rattle.day_sections.specs.Reports.{reports};
+ghost use Rattle.day_sections.specs.Trades.{trades_parts};
+ghost use Rattle.day_sections.specs.Values.{are_shown};
+ghost use Rattle.day_page.specs.Printed.{EmitsPage, IsDay, IsPage};
+ghost use Rattle.day_page.specs.Sections.{tables_parts, answered_parts};
+
+use crate::day::day_of;
+use crate::head::add_head;
+use crate::rows::add_rows;
+use crate::template::END;
+use day_events::Event;
+use day_sections::{
+    Reported, add_figures, add_people, add_refusals, add_requests, add_trades, are_shown,
+    reports_of,
+};
+use day_tables::add_bulletin;
+use instruments::Instruments;
+use page_text::Page;
+use participants::Participants;
+use row_replay::rows_have_their_inputs;
+use std::alloc::{AllocError, Global};
+use std::io::Write;
+use trade_blotter::PrintFault;
+use trail_digest::Contents;
+use venue_core::Venue;
+use venue_rules::{TradeFact, TrailRow};
+
+fn write_text<W: Write>(text: &[u8], writer: &mut W) -> Result<(), PrintFault>
+    ensures written { OnOk result (Appends (W.contents writer.old) (W.contents writer.new) text.now) }
+    ensures output { IfErr result (λ fault. fault ≡ Output) }
+{
+    match writer.write_all(text) {
+        Ok(()) => Ok(()),
+        Err(_) => Err(PrintFault::Output),
+    }
+}
+
+/// Adds the trades, each with the row at which it was reported.
+fn add_reported(
+    alloc: Global,
+    page: &mut Page,
+    participants: &Participants,
+    instruments: &Instruments,
+    rows: &[TrailRow],
+    trades: &[TradeFact],
+    events: &[Event],
+) -> Result<(), AllocError>
+    ensures { OnOk result (page.new ≡ with_parts page.old (trades_parts participants.now instruments.now (are_shown rows.now) (reports events.now) trades.now)) }
+{
+    let reports = reports_of(alloc, events)?;
+    let reported = Reported {
+        linked: are_shown(rows),
+        reports: &reports,
+    };
+    add_trades(alloc, page, participants, instruments, &reported, trades)
+}
+
+/// Adds the day in six figures, the bulletin and the trades.
+fn add_tables(
+    alloc: Global,
+    page: &mut Page,
+    venue: &Venue,
+    rows: &[TrailRow],
+    events: &[Event],
+) -> Result<(), AllocError>
+    ensures { (h : History) → IsHistory venue.now h → OnOk result (page.new ≡ with_parts page.old (tables_parts venue.now.market rows.now h events.now)) }
+{
+    let participants = venue.participants();
+    let instruments = venue.instruments();
+    let trades = venue.trades();
+    add_figures(alloc, page, participants, rows, trades, events)?;
+    add_bulletin(alloc, page, instruments, trades)?;
+    add_reported(alloc, page, participants, instruments, rows, trades, events)
+}
+
+/// Adds the requests for quotes, the refusals and the participants.
+fn add_answered(
+    alloc: Global,
+    page: &mut Page,
+    venue: &Venue,
+    rows: &[TrailRow],
+    events: &[Event],
+) -> Result<(), AllocError>
+    ensures { (h : History) → IsHistory venue.now h → OnOk result (page.new ≡ with_parts page.old (answered_parts venue.now.market rows.now h events.now)) }
+{
+    let participants = venue.participants();
+    let linked = are_shown(rows);
+    let trades = venue.trades();
+    add_requests(alloc, page, participants, rows, events)?;
+    add_refusals(alloc, page, participants, linked, events)?;
+    add_people(alloc, page, participants, rows, trades, events)
+}
+
+/// The page of a trail, whose rows led to this venue and answered this.
+fn page_made(
+    alloc: Global,
+    venue: &Venue,
+    trail: &Contents,
+    events: &[Event],
+) -> Result<Page, AllocError>
+    requires kept { All IsItem (trail_of trail.now).rows }
+    ensures { (h : History) → IsHistory venue.now h → IfOk result (λ page. IsPage venue.now.market (trail_of trail.now) h events.now page) }
+{
+    let participants = venue.participants();
+    let instruments = venue.instruments();
+    let mut page = Page::new(alloc);
+    add_head(alloc, &mut page, participants, instruments, trail)?;
+    add_tables(alloc, &mut page, venue, trail.rows, events)?;
+    add_answered(alloc, &mut page, venue, trail.rows, events)?;
+    add_rows(alloc, &mut page, participants, trail.rows)?;
+    page.add(END, &[])?;
+    Ok(page)
+}
+
+/// The page of the day in a trail, on a venue of these participants and instruments.
+fn page_of_day(
+    alloc: Global,
+    participants: Participants,
+    instruments: Instruments,
+    trail: &Contents,
+) -> Result<Page, AllocError>
+    requires kept { All IsItem (trail_of trail.now).rows }
+    requires few { length (trail_of trail.now).rows ≤ most_items }
+    ensures { IfOk result (λ page. IsDay (record { participants = participants; instruments = instruments }) (trail_of trail.now) page) }
+{
+    rows_have_their_inputs();
+    let day = day_of(alloc, participants, instruments, trail.rows)?;
+    page_made(alloc, &day.venue, trail, &day.events)
+}
+
+/// Writes the page of the day in a trail, on a venue of these participants and instruments: one file of HTML, which
+/// needs no other. Where an allocation fails, nothing was written.
+pub fn print_page<W: Write>(
+    alloc: Global,
+    participants: Participants,
+    instruments: Instruments,
+    trail: &Contents,
+    writer: &mut W,
+) -> Result<(), PrintFault>
+    requires kept { All IsItem (trail_of trail.now).rows }
+    requires few { length (trail_of trail.now).rows ≤ most_items }
+    ensures emitted { OnOk result (EmitsPage (record { participants = participants; instruments = instruments }) (trail_of trail.now) (W.contents writer.old) (W.contents writer.new)) }
+    ensures unwritten { IfErr result (λ fault. fault ≡ Memory → Keeps (W.contents writer.old) (W.contents writer.new)) }
+{
+    let page = page_of_day(alloc, participants, instruments, trail)?;
+    write_text(page.text(), writer)
+}
