@@ -7,7 +7,7 @@ use clap::{Arg, ArgAction, ArgMatches, Command, Error};
 use message_words::Form as AnswersForm;
 use std::alloc::{AllocError, Global};
 use std::{env, io};
-use trail_questions::{AskedWords, BookForm, BookWords, NarrowingWords, RestsWords};
+use trail_questions::{ActivityForm, AskedWords, BookForm, BookWords, NarrowingWords, RestsWords};
 
 /// The request of the command line.
 #[derive(Drop)]
@@ -56,8 +56,10 @@ enum Mode {
     Book,
     Rests,
     Against,
+    Desk,
     With,
     Digest,
+    Page,
     Compare,
 }
 
@@ -104,8 +106,10 @@ fn mode_word(mode: Mode) -> &'static str {
         Mode::Book => "--book",
         Mode::Rests => "--rests",
         Mode::Against => "--against",
+        Mode::Desk => "--desk",
         Mode::With => "--with",
         Mode::Digest => "--digest",
+        Mode::Page => "--page",
         Mode::Compare => "--compare",
     }
 }
@@ -119,8 +123,11 @@ fn goes_with(word: Word, mode: Mode) -> bool {
             mode,
             Mode::Answers | Mode::Book | Mode::Rests | Mode::Digest
         ),
-        Word::Csv => matches!(mode, Mode::Day | Mode::Answers | Mode::Book | Mode::Rests),
-        Word::Desk => mode == Mode::Against,
+        Word::Csv => matches!(
+            mode,
+            Mode::Day | Mode::Answers | Mode::Book | Mode::Rests | Mode::Desk
+        ),
+        Word::Desk => matches!(mode, Mode::Against | Mode::Desk),
         Word::Other => mode == Mode::Compare,
     }
 }
@@ -133,9 +140,9 @@ fn place_of(word: Word) -> &'static str {
         Word::Row => "--row goes with --answers, --book, --rests or --digest",
         Word::Order => "--order goes with --answers",
         Word::Room => "--room goes with --answers",
-        Word::Desk => "--desk goes with --against",
+        Word::Desk => "--desk goes with --against, or alone",
         Word::Csv =>
-            "--csv goes with the trades of a trail, which --migrate updates before, or with --answers, --book or --rests",
+            "--csv goes with the trades of a trail, which --migrate updates before, or with --answers, --book, --rests or --desk",
         Word::Json => "--json goes with --answers",
         Word::Other => "a second TRAIL goes with --compare",
     }
@@ -216,8 +223,10 @@ const EXAMPLES: &str = "Examples:
   sef_replay day.trail --book IRS5Y --row 7     the same after row 7
   sef_replay day.trail --rests         what rests or is held at the end of the day, for each participant; --to BETA for one
   sef_replay day.trail --against messages.log --desk BETA    whether BETA's log has what it was owed, in order
+  sef_replay day.trail --desk BETA     BETA's own figures: requests, quotes, orders and trades
   sef_replay day.trail --with other.toml       the same rows under another file: answers that differ, trades lost and gained
   sef_replay day.trail --digest        the number of rows, and the digest of the trail's content; with --row, up to a row
+  sef_replay day.trail --page >day.html        the day as one page of HTML, for a browser or for paper
   sef_replay --compare A B             whether two trails are the same, the first row that differs, and which answers do
   sef_replay --migrate day.trail       of a trail of an older version, which is changed for good: copy it before
 
@@ -361,7 +370,12 @@ fn with_against<'a>(alloc: Global, command: Command<'a>) -> Result<Command<'a>, 
         "FILE",
         "Compares a desk's own log of FIX messages with what it was owed",
     ))?;
-    command.arg(option(alloc, "desk", "NAME", "The participant whose log it is"))
+    command.arg(option(
+        alloc,
+        "desk",
+        "NAME",
+        "The participant whose log it is; alone, prints the figures of its own day",
+    ))
 }
 
 fn with_other_file<'a>(alloc: Global, command: Command<'a>) -> Result<Command<'a>, AllocError> {
@@ -381,7 +395,11 @@ fn with_digest<'a>(alloc: Global, command: Command<'a>) -> Result<Command<'a>, A
     ))
 }
 
-/// The arguments of answers, books, logs and digests.
+fn with_page<'a>(alloc: Global, command: Command<'a>) -> Result<Command<'a>, AllocError> {
+    command.arg(flag(alloc, "page", "Prints the day as one page of HTML"))
+}
+
+/// The arguments of answers, books, logs, digests and pages.
 fn with_questions<'a>(alloc: Global, command: Command<'a>) -> Result<Command<'a>, AllocError> {
     let command = with_answers(alloc, command)?;
     let command = with_to(alloc, command)?;
@@ -392,7 +410,7 @@ fn with_questions<'a>(alloc: Global, command: Command<'a>) -> Result<Command<'a>
         alloc,
         "room",
         "ROOM",
-        "Of the answers, the rows of the conversation in this room, as R1",
+        "Of the answers, the rows of this request for quotes, as R1; a refused request has no room: --from NAME finds it",
     ))?;
     let command = with_book(alloc, command)?;
     let command = command.arg(flag(
@@ -402,7 +420,8 @@ fn with_questions<'a>(alloc: Global, command: Command<'a>) -> Result<Command<'a>
     ))?;
     let command = with_against(alloc, command)?;
     let command = with_other_file(alloc, command)?;
-    with_digest(alloc, command)
+    let command = with_digest(alloc, command)?;
+    with_page(alloc, command)
 }
 
 /// The program's command. Each argument is added by a function of its own: several in one function cost the proof a
@@ -463,8 +482,11 @@ fn mode_given(given: &ArgMatches<'_>) -> Result<Mode, Misfit> {
     let mode = and_mode(mode, given.get_str("book").is_some(), Mode::Book);
     let mode = and_mode(mode, given.get_flag("rests"), Mode::Rests);
     let mode = and_mode(mode, given.get_str("against").is_some(), Mode::Against);
+    let is_desk = given.get_str("desk").is_some() && given.get_str("against").is_none();
+    let mode = and_mode(mode, is_desk, Mode::Desk);
     let mode = and_mode(mode, given.get_str("with").is_some(), Mode::With);
     let mode = and_mode(mode, given.get_flag("digest"), Mode::Digest);
+    let mode = and_mode(mode, given.get_flag("page"), Mode::Page);
     and_mode(mode, given.get_flag("compare"), Mode::Compare)
 }
 
@@ -514,6 +536,11 @@ fn task_at(
             let desk = required_word(alloc, given, "desk")?;
             Ok(Task::Against { path, desk, log })
         }
+        Mode::Desk => {
+            let desk = required_word(alloc, given, "desk")?;
+            let words = AskedWords::Activity(desk, activity_form_of(given));
+            Ok(Task::Ask { path, words })
+        }
         Mode::With => Ok(Task::With {
             path,
             file: required_word(alloc, given, "with")?,
@@ -534,6 +561,10 @@ fn task_at(
             let words = AskedWords::Digest(word_given(alloc, given, "row")?);
             Ok(Task::Ask { path, words })
         }
+        Mode::Page => Ok(Task::Ask {
+            path,
+            words: AskedWords::Page,
+        }),
         Mode::Trade => {
             let words = evidence_in(alloc, given)?;
             Ok(Task::Ask { path, words })
@@ -612,6 +643,14 @@ fn book_form_of(given: &ArgMatches<'_>) -> BookForm {
         BookForm::Table
     } else {
         BookForm::Lines
+    }
+}
+
+fn activity_form_of(given: &ArgMatches<'_>) -> ActivityForm {
+    if given.get_flag("csv") {
+        ActivityForm::Table
+    } else {
+        ActivityForm::Lines
     }
 }
 

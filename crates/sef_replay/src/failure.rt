@@ -3,6 +3,7 @@
 ghost use Rattle.std.specs.Prelude.{◌≡◌};
 ghost use Rattle.sef_replay.specs.Failures.{asked_failure, code_failure, open_failure, status_of, trail_failure};
 ghost use Rattle.sef_replay.specs.declared.failure.Failure.TheVariants.{Stopped as Stops};
+ghost use Rattle.sef_replay.specs.declared.failure.Stop.TheVariants.{Memory};
 
 use sqlite::{Error as StoreError, ErrorCode};
 use std::alloc::AllocError;
@@ -67,6 +68,8 @@ impl Failure {
 }
 
 impl From<AllocError> for Stop {
+    ghost from_gives = { λ _ stop. stop ≡ Memory };
+
     fn from(_: AllocError) -> Stop {
         Stop::Memory
     }

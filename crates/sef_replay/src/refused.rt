@@ -3,7 +3,7 @@
 use crate::failure::Failure;
 use std::alloc::Global;
 use trail_questions::{
-    AskedWords, BookWords, BrokenLine, NarrowingWords, NoLog, RestsWords, Unknown,
+    AskedWords, BookWords, BrokenLine, NarrowingWords, NoLog, RestsWords, Unknown, span_in,
 };
 
 /// A failure, and a line that names the word or the entry at fault, if one is known.
@@ -72,10 +72,24 @@ fn absence_of(unknown: Unknown) -> &'static str {
         Unknown::Trade => "the day has no trade with this number",
         Unknown::Recipient | Unknown::Sender => "no participant of the trail has this name",
         Unknown::Instrument => "no instrument of the trail has this symbol",
-        Unknown::Row => "the trail has no such row, or the first of some is behind the last",
+        Unknown::Row => "the trail has no such row",
         Unknown::Order => "no row of the day is about this order",
         Unknown::Room => "no request of the day was sent in this room",
         Unknown::Log(_) => "no frame from the venue to the desk stands in it",
+    }
+}
+
+/// Why a word that names a row, or the rows from one to another, is refused.
+fn absence_of_rows(word: &str) -> &'static str {
+    match span_in(word) {
+        Some(span) => {
+            if span.first > span.last {
+                "the first row is behind the last"
+            } else {
+                absence_of(Unknown::Row)
+            }
+        }
+        None => absence_of(Unknown::Row),
     }
 }
 
@@ -135,7 +149,9 @@ fn word_for(words: &AskedWords, unknown: Unknown) -> Option<&str> {
         AskedWords::Why(word) => Some(word.as_str()),
         AskedWords::Digest(Some(word)) => Some(word.as_str()),
         AskedWords::Against(desk, _) => Some(desk.as_str()),
-        AskedWords::Table | AskedWords::Evidences | AskedWords::Digest(None) => None,
+        AskedWords::Activity(desk, _) => Some(desk.as_str()),
+        AskedWords::Table | AskedWords::Evidences | AskedWords::Digest(None) | AskedWords::Page =>
+            None,
         AskedWords::Book(words, _) => book_word(words, unknown),
         AskedWords::Rests(words, _) => rests_word(words, unknown),
         AskedWords::Answers(words, _) => narrowing_word(words, unknown),
@@ -182,7 +198,16 @@ pub fn absent_in(alloc: Global, words: &AskedWords, unknown: Unknown) -> Refused
     if let Unknown::Log(lack) = unknown {
         return of_no_log(alloc, unknown, lack);
     }
-    of_unknown(alloc, words, unknown, absence_of(unknown))
+    match word_for(words, unknown) {
+        Some(word) => {
+            let reason = match unknown {
+                Unknown::Row => absence_of_rows(word),
+                _ => absence_of(unknown),
+            };
+            Refused::of_word(alloc, Failure::Unknown(unknown), word, reason)
+        }
+        None => Refused::from(Failure::Unknown(unknown)),
+    }
 }
 
 /// The refusal of a word that has not its form.

@@ -7,6 +7,7 @@ pub mod Why
 pub mod Book
 pub mod Rests
 pub mod Against
+pub mod Activity
 pub mod Digest
 pub mod Question
 pub mod Numbers

@@ -9,7 +9,7 @@ use Rattle.trail_questions.specs.declared.fault.Unknown.TheVariants.{Instrument,
 use Rattle.trail_questions.specs.declared.question.Question.{Question}
 use Rattle.trail_questions.specs.declared.question.Question.TheVariants as question
 use Rattle.trail_questions.specs.declared.words.AskedWords.{AskedWords}
-use Rattle.trail_questions.specs.declared.words.AskedWords.TheVariants.{Against, Answers, Book, Digest, Evidence, Evidences, Rests, Table, Why}
+use Rattle.trail_questions.specs.declared.words.AskedWords.TheVariants.{Activity, Against, Answers, Book, Digest, Evidence, Evidences, Page, Rests, Table, Why}
 use Rattle.trail_questions.specs.declared.words.BookWords.{BookWords}
 use Rattle.trail_questions.specs.declared.words.NarrowingWords.{NarrowingWords}
 use Rattle.trail_questions.specs.declared.rests.RestsAfter.{RestsAfter}
@@ -81,7 +81,9 @@ IsAgainst desk log _ = ⊥
 -- the words ask this question
 abbrev pub Spells : AskedWords → Question → Type 0
 Spells Table q = q ≡ question.Table
+Spells Page q = q ≡ question.Page
 Spells (Against desk log) q = IsAgainst (string_bytes desk) log.items q
+Spells (Activity desk form) q = (name : List ℕ) × (q ≡ question.Activity name form) × (name ≡ string_bytes desk)
 Spells (Digest word) q = (row : Option ℕ) × (q ≡ question.Digest row) × SpellsNumber (codes "") (option_map string_bytes word) row
 Spells (Evidence word) q = (n : ℕ) × (q ≡ question.Evidence n) × (string_bytes word ≡ codes "T" ++ decimal n)
 Spells Evidences q = q ≡ question.Evidences
@@ -93,8 +95,11 @@ Spells (Answers w form) q = (n : Narrowing) × (q ≡ question.Answers n form) �
 -- and ask none, since the word for this has not its form
 abbrev pub IsMisspelt : AskedWords → Unknown → Type 0
 IsMisspelt Table what = ⊥
+IsMisspelt Page what = ⊥
 IsMisspelt (Against desk log) Recipient = IsNoName (Some (string_bytes desk))
 IsMisspelt (Against desk log) _ = ⊥
+IsMisspelt (Activity desk form) Recipient = IsNoName (Some (string_bytes desk))
+IsMisspelt (Activity desk form) _ = ⊥
 IsMisspelt (Digest word) Row = IsNoNumber (codes "") (option_map string_bytes word)
 IsMisspelt (Digest word) _ = ⊥
 IsMisspelt (Evidence word) Trade = IsNoNumber (codes "T") (Some (string_bytes word))

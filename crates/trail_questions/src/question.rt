@@ -10,6 +10,7 @@ ghost use Rattle.trail_questions.specs.Ending.{Fails, market_of};
 ghost use Rattle.trail_questions.specs.Headed.{IsBehindHead};
 ghost use Rattle.trail_questions.specs.Question.{BeginsAnswer, BeginsAsked, DiffersAnswer, DiffersAsked, EmitsAnswer, EmitsAsked, IsUnknownAsked, head_of};
 
+use crate::activity::{activity_head, print_activity_of};
 use crate::against::print_against;
 use crate::answers::{Narrowing, is_sought, print_narrowed};
 use crate::book::{BookAfter, book_head, print_book_after};
@@ -17,12 +18,14 @@ use crate::digest::print_digest_at;
 use crate::evidence::{print_evidence_for, print_evidence_for_all};
 use crate::fault::AskedFault;
 use crate::headed::head_form;
+use crate::page::print_page_of;
 use crate::rests::{RestsAfter, print_rests_after};
 use crate::trades::print_table_of;
 use crate::why::print_why_at;
 use fix_dictionary::Identifier;
 use instruments::Instruments;
 use message_words::Form;
+use participant_activity::Form as ActivityForm;
 use participants::Participants;
 use resting_orders::Form as BookForm;
 use std::alloc::Global;
@@ -48,12 +51,16 @@ pub enum Question<'a> {
     Rests(RestsAfter, BookForm),
     /// How a desk's log of messages agrees with what it was owed.
     Against(Identifier, &'a [u8]),
+    /// The figures of a participant's own day.
+    Activity(Identifier, ActivityForm),
     /// The digest of the trail's content, up to a row or the last.
     Digest(Option<u64>),
+    /// The day as one page.
+    Page,
 }
 
-/// The head above an answer that is made whole before it is written: of a table or a digest none, and none of answers
-/// that write their own.
+/// The head above an answer that is made whole before it is written: of a table, a digest or a page none, and none of
+/// answers that write their own.
 fn head_of(question: &Question<'_>) -> Option<HeadForm>
     ensures { result ≡ head_of question.now }
 {
@@ -61,6 +68,7 @@ fn head_of(question: &Question<'_>) -> Option<HeadForm>
         Question::Evidence(_) | Question::Evidences | Question::Why(_) | Question::Against(_, _) =>
             Some(HeadForm::Line),
         Question::Book(_, form) | Question::Rests(_, form) => book_head(*form),
+        Question::Activity(_, form) => activity_head(*form),
         Question::Answers(narrowing, form) => {
             if is_sought(narrowing) {
                 head_form(*form)
@@ -68,7 +76,7 @@ fn head_of(question: &Question<'_>) -> Option<HeadForm>
                 None
             }
         }
-        Question::Table | Question::Digest(_) => None,
+        Question::Table | Question::Digest(_) | Question::Page => None,
     }
 }
 
@@ -120,11 +128,15 @@ fn print_answer<W: Write>(
         Question::Against(desk, log) => {
             print_against(alloc, participants, instruments, rows, *desk, log, writer)
         }
+        Question::Activity(desk, form) => {
+            print_activity_of(alloc, participants, instruments, rows, *desk, *form, writer)
+        }
         Question::Digest(row) => {
             drop(participants);
             drop(instruments);
             print_digest_at(alloc, trail, *row, writer)
         }
+        Question::Page => print_page_of(alloc, participants, instruments, trail, writer),
     }
 }
 

@@ -11,6 +11,7 @@ use crate::question::Question;
 use crate::rests::RestsAfter;
 use fix_dictionary::Identifier;
 use message_words::Form;
+use participant_activity::Form as ActivityForm;
 use resting_orders::Form as BookForm;
 use trail_answers::RowSpan;
 
@@ -57,8 +58,12 @@ pub enum AskedWords {
     Rests(RestsWords, BookForm),
     /// `--against FILE --desk BETA`, with the bytes of the file
     Against(String, Vec<u8>),
+    /// `--desk BETA`
+    Activity(String, ActivityForm),
     /// `--digest`, perhaps with `--row 12`
     Digest(Option<String>),
+    /// `--page`
+    Page,
 }
 
 /// A name, if one is given. Nothing where it is none.
@@ -193,6 +198,7 @@ pub fn question_of<'a>(words: &'a AskedWords) -> Result<Question<'a>, Unknown>
 {
     match words {
         AskedWords::Table => Ok(Question::Table),
+        AskedWords::Page => Ok(Question::Page),
         AskedWords::Evidence(word) => match trade_number(word) {
             Some(number) => Ok(Question::Evidence(number)),
             None => Err(Unknown::Trade),
@@ -216,6 +222,10 @@ pub fn question_of<'a>(words: &'a AskedWords) -> Result<Question<'a>, Unknown>
         },
         AskedWords::Against(desk, log) => match Identifier::read(desk.as_bytes()) {
             Some(desk) => Ok(Question::Against(desk, log.as_slice())),
+            None => Err(Unknown::Recipient),
+        },
+        AskedWords::Activity(desk, form) => match Identifier::read(desk.as_bytes()) {
+            Some(desk) => Ok(Question::Activity(desk, *form)),
             None => Err(Unknown::Recipient),
         },
         AskedWords::Digest(word) => match row_given(word) {
