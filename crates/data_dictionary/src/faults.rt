@@ -1,5 +1,8 @@
 //! Why a dictionary was not written.
 
+ghost use Rattle.std.specs.Prelude.{◌≡◌};
+ghost use Rattle.data_dictionary.specs.declared.faults.WriteFault.TheVariants.{Memory};
+
 use std::alloc::AllocError;
 use thiserror::Error;
 
@@ -15,6 +18,8 @@ pub enum WriteFault {
 }
 
 impl From<AllocError> for WriteFault {
+    ghost from_gives = { λ _ fault. fault ≡ Memory };
+
     fn from(_: AllocError) -> WriteFault {
         WriteFault::Memory
     }

@@ -217,7 +217,7 @@ fn field_of(tag: u32) -> Option<Field>
 }
 
 /// The name of the field with this tag, or an empty one where no field has it.
-pub(crate) fn name_of(tag: u32) -> &'static str
+pub fn name_of(tag: u32) -> &'static str
     ensures { result.now ≡ name_of tag }
 {
     match field_of(tag) {

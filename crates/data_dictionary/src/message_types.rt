@@ -4,7 +4,7 @@ ghost use Rattle.data_dictionary.specs.MessageTypes.{application_types, seen, se
 
 /// A message type.
 #[derive(Clone, Copy)]
-pub(crate) struct Listed {
+pub struct Listed {
     /// the value of 35
     pub code: &'static str,
     /// its name in FIXT 1.1 and FIX 5.0 SP2
@@ -51,7 +51,7 @@ const APPLICATION: [Listed; 16] = [
 
 /// The types of the session's own messages.
 #[tactic(auto, unfolding(crate::specs::MessageTypes::session_types))]
-pub(crate) fn session_types() -> &'static [Listed]
+pub fn session_types() -> &'static [Listed]
     ensures { map seen result.now ≡ session_types }
 {
     &SESSION
@@ -59,7 +59,7 @@ pub(crate) fn session_types() -> &'static [Listed]
 
 /// The types of the application messages.
 #[tactic(auto, unfolding(crate::specs::MessageTypes::application_types))]
-pub(crate) fn application_types() -> &'static [Listed]
+pub fn application_types() -> &'static [Listed]
     ensures { map seen result.now ≡ application_types }
 {
     &APPLICATION
