@@ -1,0 +1,10 @@
+mod Appends
+mod FirstPiece
+mod Going
+mod Integers
+mod Listed
+mod Outcomes
+mod Readers
+mod Saying
+mod Scan
+mod Whys
