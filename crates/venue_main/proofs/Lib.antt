@@ -1,3 +1,4 @@
+mod Places
 pub mod Counts
 pub mod Outcomes
 pub mod Closed

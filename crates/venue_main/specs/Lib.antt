@@ -6,5 +6,9 @@ pub mod Check
 pub mod Serve
 -- the same of one with a trail
 pub mod Recorded
+-- the explanation of a log
+pub mod Explaining
+-- what words on the command line spell
+pub mod CommandLine
 -- the first bytes of a trail's file
 pub mod TrailFile

@@ -1,5 +1,5 @@
 -- The output of a served venue as it closes.
-use Rattle.std.specs.Prelude.{◌≡◌, ℕ, Bool, ◌^◌, ◌&&◌, ◌++◌, List, [], ◌∷◌, ◌==◌, nat_le, codes, decimal, not, length, Option}
+use Rattle.std.specs.Prelude.{◌≡◌, ℕ, suc, Bool, ◌^◌, ◌&&◌, ◌++◌, List, [], ◌∷◌, ◌==◌, nat_le, codes, decimal, not, length, Option}
 use Rattle.std.specs.List.{count_by}
 use Rattle.std.specs.Io.KnownBytes.{Appends}
 use Rattle.venue_runtime.specs.Closing.{Closing, HasClosed}
@@ -12,6 +12,14 @@ use Rattle.venue_main.specs.declared.serve.ServeFault.TheVariants.{Memory, Outpu
 -- a first port from 1,024 to 65,500, and 1 to 1,000,000,000 turns
 abbrev pub is_service : ℕ → ℕ → Bool
 is_service port turns = (nat_le 1_024 port && nat_le port 65_500) && (nat_le 1 turns && nat_le turns (10 ^ 9))
+
+-- who listens where: a line for each of these names, the first at this port, each other one at the next
+abbrev pub place_line : List ℕ → ℕ → List ℕ
+place_line name port = codes "venue_main: " ++ (name ++ (codes " at 127.0.0.1:" ++ (decimal port ++ codes "\n")))
+
+abbrev pub place_lines : ℕ → List (List ℕ) → List ℕ
+place_lines port [] = []
+place_lines port (name ∷ names) = place_line name port ++ place_lines (suc port) names
 
 -- a row that is no tick
 abbrev pub is_message : TrailRow → Bool

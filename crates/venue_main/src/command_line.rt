@@ -1,5 +1,8 @@
 //! The command line.
 
+ghost use Rattle.std.specs.Prelude.{◌≡◌};
+ghost use Rattle.venue_main.specs.CommandLine.{moment_spelled};
+
 use crate::failure::Failure;
 use crate::files::Paths;
 use crate::once::OnceFault;
@@ -29,6 +32,10 @@ pub enum Task {
     },
     /// `check --participants FILE --instruments FILE`
     Check {
+        paths: Paths,
+    },
+    /// `explain --participants FILE --instruments FILE`
+    Explain {
         paths: Paths,
     },
     /// `--help`: the text was printed.
@@ -69,6 +76,7 @@ fn words_given(rt: &HostRuntime) -> Result<Vec<String>, Failure> {
 const EXAMPLES: &str = "Examples, where FILES stands for --participants FILE --instruments FILE:
   venue_main check FILES
   venue_main once FILES --at 20250303-14:30:00 <order.fix
+  venue_main explain FILES <messages.log
   venue_main serve FILES --port 7000 --turns 1000000000 --trail day.trail
 
 docs/CONNECT.md has the settings of a client's engine, docs/PROTOCOL.md each message, docs/COMPLIANCE.md how a trail is read.";
@@ -79,7 +87,7 @@ const EXAMPLE_OF_SERVE: &str = "Example:
 
 Standard error has each participant's name and port, and then a line for each event. A trail that is there is gone on with; without one
 the rows stay in memory. The venue ends once --stop-file exists, standard input ends (--until-eof), or each thread has made its turns: one
-for each message, and ten a second while idle.";
+or two for each message, and ten a second while idle.";
 
 /// A required argument with one value.
 fn needed<'a>(alloc: Global, name: &'a str, value: &'a str, help: &'a str) -> Arg<'a> {
@@ -223,6 +231,15 @@ fn command_of_once<'a>(alloc: Global) -> Result<Command<'a>, AllocError> {
     )
 }
 
+/// The command that explains a log.
+fn command_of_explain<'a>(alloc: Global) -> Result<Command<'a>, AllocError> {
+    command_on_files(
+        alloc,
+        "explain",
+        "Prints of each frame of a log, from standard input, its fields, its fault and what is answered",
+    )
+}
+
 /// A command with a subcommand, where that was made.
 fn with_command<'a>(
     command: Command<'a>,
@@ -237,7 +254,7 @@ fn with_command<'a>(
     }
 }
 
-/// The program's command, with `once`, `serve` and `check`.
+/// The program's command, with `once`, `serve`, `explain` and `check`.
 fn program<'a>(alloc: Global) -> Result<Command<'a>, AllocError> {
     let command = Command::new(alloc, "venue_main")
         .about("A swap execution facility over FIX")
@@ -245,6 +262,7 @@ fn program<'a>(alloc: Global) -> Result<Command<'a>, AllocError> {
         .subcommand_required(true);
     let command = with_command(command, command_of_once(alloc))?;
     let command = with_command(command, command_of_serve(alloc))?;
+    let command = with_command(command, command_of_explain(alloc))?;
     with_command(
         command,
         command_on_files(alloc, "check", "Prints how many entries the two files have"),
@@ -263,6 +281,9 @@ fn task_of(alloc: Global, matches: &ArgMatches<'_>) -> Result<Option<Task>, Allo
     if let Some(given) = matches.subcommand_matches("check") {
         return check_in(alloc, given);
     }
+    if let Some(given) = matches.subcommand_matches("explain") {
+        return explain_in(alloc, given);
+    }
     if let Some(given) = matches.subcommand_matches("serve") {
         return serve_in(alloc, given);
     }
@@ -275,6 +296,13 @@ fn task_of(alloc: Global, matches: &ArgMatches<'_>) -> Result<Option<Task>, Allo
 fn check_in(alloc: Global, given: &ArgMatches<'_>) -> Result<Option<Task>, AllocError> {
     match paths_in(alloc, given)? {
         Some(paths) => Ok(Some(Task::Check { paths })),
+        None => Ok(None),
+    }
+}
+
+fn explain_in(alloc: Global, given: &ArgMatches<'_>) -> Result<Option<Task>, AllocError> {
+    match paths_in(alloc, given)? {
+        Some(paths) => Ok(Some(Task::Explain { paths })),
         None => Ok(None),
     }
 }
@@ -361,9 +389,19 @@ fn paths_in(alloc: Global, given: &ArgMatches<'_>) -> Result<Option<Paths>, Allo
     }))
 }
 
-/// The moment of `--at`, where its text is one (as in a message: `20250303-14:30:00`).
+/// The moment of `--at`, where its text is one.
 fn moment_in(given: &ArgMatches<'_>) -> Option<Moment> {
-    read_utc(given.get_str("at")?.as_bytes()).ok()
+    moment_of(given.get_str("at")?)
+}
+
+/// The moment that a text spells as a message does: `20250303-14:30:00`.
+fn moment_of(text: &str) -> Option<Moment>
+    ensures { result ≡ moment_spelled text.now }
+{
+    match read_utc(text.as_bytes()) {
+        Ok(moment) => Some(moment),
+        Err(_) => None,
+    }
 }
 
 /// Prints help where it was asked for; refuses other arguments.

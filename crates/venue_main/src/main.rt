@@ -5,6 +5,7 @@ ghost use Rattle.std.specs.Prelude.{◌≡◌, true, OnOk};
 
 mod check;
 mod command_line;
+mod explaining;
 mod failure;
 mod files;
 mod heads_file;
@@ -25,6 +26,7 @@ mod trail_file;
 use audit_trail::Files;
 pub use check::{CheckFault, check};
 use command_line::{Task, task_given};
+use explaining::explain_log;
 pub use failure::Failure;
 use files::{Texts, texts_at};
 use heads_file::HeadsOut;
@@ -76,6 +78,15 @@ fn answer_texts<R: Read, W: Write>(
 
 fn check_texts<W: Write>(alloc: Global, texts: &Texts, writer: &mut W) -> Result<(), Failure> {
     Ok(check(alloc, &texts.participants, &texts.instruments, writer)?)
+}
+
+fn explain_texts<R: Read + Drop, W: Write>(
+    alloc: Global,
+    texts: &Texts,
+    reader: R,
+    writer: &mut W,
+) -> Result<(), Failure> {
+    explain_log(alloc, texts, reader, writer)
 }
 
 fn serve_market<
@@ -192,6 +203,12 @@ fn run(rt: &HostRuntime) -> Result<Option<ServeRequest>, Failure> {
         Task::Check { paths } => {
             check_texts(rt.alloc(), &texts_at(rt, &paths)?, &mut rt.stdout())?
         }
+        Task::Explain { paths } => explain_texts(
+            rt.alloc(),
+            &texts_at(rt, &paths)?,
+            rt.stdin(),
+            &mut rt.stdout(),
+        )?,
         Task::Serve {
             paths,
             service,

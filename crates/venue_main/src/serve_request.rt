@@ -1,6 +1,6 @@
 //! The request to serve a venue.
 
-ghost use Rattle.std.specs.Prelude.{◌≡◌, IfOk, IfSome};
+ghost use Rattle.std.specs.Prelude.{◌≡◌, is_some, IfOk, IfSome};
 ghost use Rattle.venue_main.specs.Check.{AreRead};
 
 use crate::failure::Failure;
@@ -42,6 +42,8 @@ pub fn asked_for(
 ) -> Result<ServeRequest, Failure>
     ensures read { IfOk result (λ asked. AreRead texts.participants.items texts.instruments.items asked.market.participants asked.market.instruments) }
     ensures files { IfOk result (λ asked. IfSome asked.kept (λ kept. kept.files ≡ record { participants = texts.participants.items; instruments = texts.instruments.items })) }
+    ensures stored { IfOk result (λ asked. is_some asked.kept ≡ is_some paths.trail) }
+    ensures heads { IfOk result (λ asked. IfSome asked.kept (λ kept. is_some kept.heads ≡ is_some paths.heads)) }
     ensures service { IfOk result (λ asked. asked.service ≡ service) }
     ensures operation { IfOk result (λ asked. asked.operation ≡ operation) }
 {
@@ -60,12 +62,15 @@ pub fn asked_for(
     }
 }
 
+/// The database at the path of a trail and the file of heads, where one is given.
 fn kept_for(
     rt: &HostRuntime,
     texts: Texts,
     paths: KeptPaths,
 ) -> Result<Option<StoredTrail>, Failure>
-    ensures { IfOk result (λ found. IfSome found (λ kept. kept.files ≡ record { participants = texts.participants.items; instruments = texts.instruments.items })) }
+    ensures stored { IfOk result (λ found. is_some found ≡ is_some paths.trail) }
+    ensures heads { IfOk result (λ found. IfSome found (λ kept. is_some kept.heads ≡ is_some paths.heads)) }
+    ensures files { IfOk result (λ found. IfSome found (λ kept. kept.files ≡ record { participants = texts.participants.items; instruments = texts.instruments.items })) }
 {
     let KeptPaths { trail, heads } = paths;
     match trail {
@@ -80,7 +85,8 @@ fn kept_at(
     heads: Option<String>,
     texts: Texts,
 ) -> Result<StoredTrail, Failure>
-    ensures { IfOk result (λ kept. kept.files ≡ record { participants = texts.participants.items; instruments = texts.instruments.items }) }
+    ensures heads { IfOk result (λ kept. is_some kept.heads ≡ is_some heads) }
+    ensures files { IfOk result (λ kept. kept.files ≡ record { participants = texts.participants.items; instruments = texts.instruments.items }) }
 {
     let conn = open_trail(rt, path)?;
     let files = Files {

@@ -1,12 +1,12 @@
 //! A venue served over TCP, with any keeper of its rows.
 
-ghost use Rattle.std.specs.Prelude.{◌≡◌, ◌≢◌, ◌≤◌, ◌+◌, ◌^◌, List, IfOk, IfErr, length, map, true};
+ghost use Rattle.std.specs.Prelude.{◌≡◌, ◌≢◌, ◌≤◌, ◌+◌, ◌++◌, ◌^◌, List, IfOk, IfErr, OnOk, length, map, true};
 ghost use Rattle.venue_runtime.specs.Closing.{closing};
 ghost use Rattle.venue_core.specs.VenueFacts.{IsHistory};
 ghost use Rattle.venue_core.specs.State.{standing};
 ghost use Rattle.venue_rules.specs.Run.{Input, rows, run};
 ghost use Rattle.venue_worker.specs.Inputs.{AreRising};
-ghost use Rattle.venue_main.specs.Serve.{HasServed};
+ghost use Rattle.venue_main.specs.Serve.{HasServed, place_line, place_lines};
 ghost use Rattle.venue_main.specs.declared.serve.ServeFault.TheVariants.{Output};
 
 use crate::metrics_file::MetricsSink;
@@ -180,7 +180,7 @@ fn announce<N: Write>(
     Ok(())
 }
 
-/// The lines of all participants.
+/// The lines of all participants: who listens where.
 fn announcement(
     alloc: Global,
     participants: &Participants,
@@ -189,6 +189,7 @@ fn announcement(
 ) -> Result<Vec<u8>, AllocError>
     requires count { count ≡ length participants.now.names }
     requires ports { port + count ≤ 2 ^ 16 }
+    ensures { IfOk result (λ text. text.items ≡ place_lines port participants.now.names) }
 {
     let mut text = Vec::new(alloc);
     for k in 0..count {
@@ -198,7 +199,9 @@ fn announcement(
 }
 
 /// Appends the line of a participant.
-fn append_place(text: &mut Vec<u8>, name: &[u8], port: u16) -> Result<(), AllocError> {
+fn append_place(text: &mut Vec<u8>, name: &[u8], port: u16) -> Result<(), AllocError>
+    ensures { OnOk result (text.new.items ≡ text.old.items ++ place_line name.now port) }
+{
     let mut digits = Buffer::new();
     append(
         text,
@@ -238,7 +241,7 @@ fn run_lines<
     Ok((closed, clock.into_report()))
 }
 
-/// Flushes to each counterparty what still waits for it, and keeps of the closed venue its keeper of rows alone.
+/// Keeps of the closed venue its keeper of rows alone. Each line ended with its session.
 pub(crate) fn keeper_of<T: Clock + Drop, K: Keep + Drop>(closed: Closed<ServedLine<T>, K>) -> K
     ensures { result ≡ closed.keeper }
 {
@@ -252,19 +255,12 @@ pub(crate) fn keeper_of<T: Clock + Drop, K: Keep + Drop>(closed: Closed<ServedLi
         keeper,
     } = closed;
     drop(sessions);
-    close_lines(lines);
+    drop(lines);
     drop(left);
     drop(replies_left);
     drop(queues);
     drop(venue);
     keeper
-}
-
-/// Flushes to each counterparty what still waits for it, where it takes that.
-fn close_lines<T: Clock + Drop>(lines: Vec<ServedLine<T>>) {
-    for mut line in lines {
-        let _ = line.close();
-    }
 }
 
 fn fault_of(kind: ErrorKind) -> ServeFault
