@@ -3,8 +3,8 @@
 
 Each of cases/ is what the program reads, with its arguments in a file NAME.args, one a line. Its output is compared
 with expected.stdout, its standard error and status with expected.stderr. Some of the streams come again as in
-streams.py, and texts.py has texts and trails that are refused. The program is that of crates/venue_main/out, or the
-one that is named.
+streams.py; sizes.py has messages of each size, and texts.py texts and trails that are refused. The program is that of
+crates/venue_main/out, or the one that is named.
 
 usage: refusals.py [PROGRAM]
 """
@@ -17,6 +17,7 @@ import sys
 import tempfile
 
 sys.dont_write_bytecode = True
+import sizes
 import streams
 import texts
 
@@ -88,7 +89,7 @@ printed = "".join(section(case, it) for case, (it, _) in found.items())
 stderr = "".join(it for _, it in found.values())
 with Folder() as folder:
     answered = {case: (stream_of(case), it) for case, (it, _) in found.items()}
-    rows = [*streams.rows(PROGRAM, folder, answered), *texts.rows(PROGRAM, folder, DAY)]
+    rows = [*streams.rows(PROGRAM, folder, answered), *sizes.rows(PROGRAM, folder), *texts.rows(PROGRAM, folder, DAY)]
     results = [is_as_expected(row) for row in rows]
 if not all([is_as_stored("expected.stdout", printed), is_as_stored("expected.stderr", stderr), *results]):
     sys.exit(1)

@@ -14,7 +14,7 @@ LONGEST = 60  # seconds
 ANSWER = 93  # the bytes of what a Logon is answered
 READS = 12_000  # of a byte each
 PIECE = 4_096  # the most bytes of a read
-ORDERS = 700  # whose reports, sent again, are one answer of more than 64 KiB
+ORDERS = 13_000  # whose reports, sent again, are one answer of more than a million bytes
 STOPPED = "venue_main: stopped: {}\n"
 
 
@@ -54,14 +54,14 @@ def bytes_of(stream):
 
 def sent_again(once, folder):
     """How many reports of ORDERS orders come, and how many of these come again as all are asked for at once; the bytes
-    of the latter, whether these are more than 64 KiB, and the status."""
+    of the latter, whether these are more than a million, and the status."""
     asked = [("A", "98=0|108=30|1137=9|"), *(("D", f"11=a{k}|55=NOPE|54=1|38=10|40=2|44=2.5|") for k in range(ORDERS))]
     asked += [("2", "7=1|16=0|"), ("1", "112=after|")]
     stream = b"".join(message(kind, "ALPHA", number + 1, fields) for number, (kind, fields) in enumerate(asked))
     ran = subprocess.run(once, cwd=folder, input=stream, capture_output=True, timeout=LONGEST, check=False)
     first, _, again = ran.stdout.partition(b"\x0143=Y\x01")
     counts = first.count(b"\x0135=8\x01"), again.count(b"\x0143=Y\x01"), again.count(b"\x01112=after\x01")
-    return (*counts, len(again) > 65_536, ran.stderr, ran.returncode)
+    return (*counts, len(again) > 1_000_000, ran.stderr, ran.returncode)
 
 
 def written(words, folder, stream, path, size):

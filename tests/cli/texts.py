@@ -68,6 +68,17 @@ def lengths(program, folder):
         yield f"check of a text of {count} bytes", ran(words, folder), ("", f"venue_main: {fault}\n", status)
 
 
+def most_rows(program, folder):
+    """Files with as many rows as they may have: names of each length, and each pair of participants."""
+    names = [f"{k:02d}{'N' * (2 * k)}" for k in range(32)]
+    pairs = [(a, b) for place, b in enumerate(names) for a in names[:place]]
+    participants = 'venue = "SEF"\n' + "".join(f'[[participant]]\nname = "{name}"\n' for name in names)
+    participants += "".join(f'[[related]]\na = "{a}"\nb = "{b}"\n' for a, b in pairs)
+    instruments = "".join(ONE.format(f"{k:03d}{'S' * (k % 62)}") for k in range(256))
+    words = [program, "check", "--participants", write(folder, "most_participants", participants), "--instruments", write(folder, "most_instruments", instruments)]
+    yield "check of the most rows", ran(words, folder), ("participants 32 related 496 instruments 256\n", "", 0)
+
+
 def trails(program, folder, day):
     """`serve` with a trail in which a row is missing, and with one that somebody has open."""
     words = [program, "serve", "--participants", "of_the_day", "--instruments", "rows_of_the_day", "--port", "25960", "--turns", "1", "--trail", "day"]
@@ -87,4 +98,5 @@ def rows(program, folder, day):
     """Each row: its name, what was found, and what is expected."""
     yield from checks(program, folder)
     yield from lengths(program, folder)
+    yield from most_rows(program, folder)
     yield from trails(program, folder, day)

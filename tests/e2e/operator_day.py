@@ -32,8 +32,9 @@ ports       a venue listens at each participant's port of 127.0.0.1, as it print
 moments     the moments of frames and of rows are the machine's
 again       700 reports that are requested again at once come again, each once
 full        a participant that reads nothing loses its connection after five seconds; others are served, and so is it
-turns       an idle venue spends at most 11 turns a second in each thread; at 50,000 messages a second, a session and
-            the worker spend at most MOST_TURNS a message (what they spend is printed)
+turns       an idle venue spends at most 11 turns a second in each thread, and with its five participants logged on at
+            most MOST_IDLE of a processor; at 50,000 messages a second, a session and the worker spend at most
+            MOST_TURNS a message, and MOST_DELAYED where they do not keep up (what they spend is printed)
 pace        the median round trip of the last participant takes less than MOST_TRIP; orders in one write are answered
             without a pause between them
 """
@@ -85,7 +86,10 @@ IDLE_SECONDS = 10.0
 QUIET_SECONDS = 11.0  # past the ten seconds of each bound
 BEHIND = 1 << 20  # bytes sent behind a message that ends a session
 RATE = 50_000  # messages a second
-MOST_TURNS = 4  # a message; 1.2 are aimed at
+MOST_TURNS = 2  # a message; 1.2 are aimed at
+MOST_DELAYED = 4  # the same where other programs keep the venue from KEPT_UP of the rate
+KEPT_UP = 0.95
+MOST_IDLE = 0.02  # of a processor; 0.002 are aimed at, and a busy machine's caches make it more
 BUSY_SECONDS = 3.0
 WINDOW = 4096  # messages that wait for their answers
 REPORT = b"\x0135=8\x01"
@@ -104,6 +108,7 @@ FULL_SECONDS = 150.0  # for these three, where memory is checked, and then the f
 QUEUED = 65_536  # replies that may wait for one participant
 STEP_CLOCK = os.path.join(ROOT, "tests", "faults", "step_clock.c")
 STOPPED = (1, "", "venue_main: stopped: trail\n")
+SNAPSHOT_ASKED = "262=v1|263=0|264=0|267=1|269=0|146=1|55=IRS5Y|"
 
 
 class NotRun(Exception):
@@ -248,10 +253,29 @@ def orders_and_cancels(name, count):
 # -- turns
 
 
+def processor_seconds(venue):
+    """Of all its threads so far, by the scheduler, which counts nanoseconds."""
+    folder = f"/proc/{venue.process.pid}/task"
+    total = 0
+    for thread in os.listdir(folder):
+        with open(f"{folder}/{thread}/schedstat", encoding="ascii") as file:
+            total += int(file.read().split()[0])
+    return total / 1e9
+
+
 def turns(part):
     with part.venue() as venue:
         venue.await_start()
-        time.sleep(IDLE_SECONDS)
+        clients = [logged_on(venue, name) for name in PARTICIPANTS]
+        time.sleep(1)
+        before = processor_seconds(venue)
+        time.sleep(IDLE_SECONDS - 1)
+        share = (processor_seconds(venue) - before) / (IDLE_SECONDS - 1)
+        part.print(f"five idle participants: {share * 100:.2f} % of a processor")
+        if share > MOST_IDLE:
+            raise SystemExit(f"five idle participants take {share * 100:.1f} % of a processor")
+        for client in clients:
+            client.close()
         part.end(venue, 0)
         spent = turns_of(venue)
         part.print(f"turns of {IDLE_SECONDS:.0f} idle seconds and an end: {spent}")
@@ -267,9 +291,10 @@ def turns(part):
         spent = turns_of(venue)
         for name in ("ALPHA", "worker"):
             part.print(f"{name}: {spent[name]} turns, {spent[name] / count:.2f} a message")
+        most = MOST_TURNS if count / took > KEPT_UP * RATE else MOST_DELAYED
         for name in ("ALPHA", "worker"):
-            if spent[name] > MOST_TURNS * count + 11 * (took + 3):
-                raise SystemExit(f"{name} spends more than {MOST_TURNS} turns a message")
+            if spent[name] > most * count + 11 * (took + 3):
+                raise SystemExit(f"{name} spends more than {most} turns a message")
 
 
 class Busy:
@@ -480,8 +505,9 @@ def ended_by_a_gap(part, venue, client, seconds, heartbeat):
     if not seconds - 0.2 <= took <= seconds + 6:
         raise SystemExit(f"a gap ended the connection after {took:.1f} s, and not after {seconds}")
     part.print(f"a gap ended the connection after {took:.1f} s")
-    part.await_event(venue, "gap_asked", participant=client.name, **{"from": "2"})
-    part.await_event(venue, "line_ended", participant=client.name, cause="gap_overdue", expected="2")
+    asked = part.await_event(venue, "gap_asked", participant=client.name, **{"from": "2"})
+    ended_at = part.await_event(venue, "line_ended", participant=client.name, cause="gap_overdue", expected="2")
+    expect("since when", ended_at["since"], asked["time"])
 
 
 def gaps(part):
@@ -489,6 +515,14 @@ def gaps(part):
         venue.await_start()
         alpha = logged_on(venue, "ALPHA", heartbeat=2)
         ended_by_a_gap(part, venue, alpha, 4.4, 1.0)
+        # who comes back under the number that is due has no gap any more
+        again = client_of(venue, "ALPHA")
+        again.number = 1
+        log_on(again, heartbeat=2)
+        for k in range(6):
+            time.sleep(1)
+            goes_on(again, f"again{k}")
+        part.print("who comes back after a gap is served on")
         # a gap whose number moves on in time is none
         beta = logged_on(venue, "BETA", heartbeat=2)
         ahead(beta, 6)
@@ -517,8 +551,23 @@ def hour(part):
             part.print(f"after a minute: {len(metrics_of(metrics))} metrics")
             beta.send("F", "11=b2|41=b1|", quietly=True)
             beta.await_field("150=4", quietly=True)
-            part.end(venue, 2)
-        compare_metrics(part, metrics_of(metrics), summaries(venue))
+            # (a request has no reply to who sent it)
+            beta.send("R", request_for_quotes("r1", "ALPHA", "DELTA", "EPSILON"), quietly=True)
+            beta.send("V", SNAPSHOT_ASKED, quietly=True)
+            beta.await_field("35=W", quietly=True)
+            part.end(venue, 4)
+        ends = summaries(venue)
+        part.compare("BETA: taken and sent", (ends["BETA"]["taken"], ends["BETA"]["sent"]), ("4", "3"))
+        for event in venue.events():
+            if event["event"] == "port_shut":
+                numbers = [(at["next_in"], at["next_out"]) for at in (ends[event["participant"]], event)]
+                part.compare(f"{event['participant']}: the next numbers", *numbers)
+        compare_metrics(part, metrics_of(metrics), ends)
+
+
+def request_for_quotes(name, *recipients):
+    asked = "".join(f"448={recipient}|447=D|452=35|" for recipient in recipients)
+    return f"131={name}|146=1|55=IRS5Y|38=10|453={len(recipients)}|{asked}"
 
 
 def taken_of(metrics, name):
@@ -644,6 +693,22 @@ def newcomers(part):
         part.end(venue, 0)
 
 
+def states_of(venue):
+    """The states of its threads, as the system has them; T is stopped."""
+    folder = f"/proc/{venue.process.pid}/task"
+    states = set()
+    for thread in os.listdir(folder):
+        with open(f"{folder}/{thread}/stat", encoding="ascii", errors="replace") as file:
+            states.add(file.read().rsplit(")", 1)[1].split()[0])
+    return states
+
+
+def stop_threads(venue):
+    """Stops a venue. On a busy machine its threads run on for a while, and read what comes: so each is awaited."""
+    venue.process.send_signal(signal.SIGSTOP)
+    wait_until(lambda: states_of(venue) == {"T"}, 20, lambda: f"the venue does not stop: {states_of(venue)}")
+
+
 def stalls(part):
     with part.venue() as venue:
         venue.await_start()
@@ -654,7 +719,7 @@ def stalls(part):
         gamma = logged_on(venue, "GAMMA", heartbeat=0)
         ahead(beta, 3)
         part.await_event(venue, "gap_asked", participant="BETA")
-        venue.process.send_signal(signal.SIGSTOP)
+        stop_threads(venue)
         alpha.send("A", "98=0|108=0|1137=9|", quietly=True)
         for number in (1, 2):
             beta.number = number
@@ -956,6 +1021,7 @@ def failing(part):
                 part.await_event(venue, "cut", participant=client.name)
             for name in PARTICIPANTS:
                 part.await_event(venue, "port_shut", participant=name, cause="over")
+            expect("no turn was the last", [event for event in venue.events() if event["event"] == "worker_ended"], [])
 
 
 def ended(venue):
@@ -1119,7 +1185,20 @@ def pace(part):
         part.print(f"{TOGETHER} orders in one write: {took:.2f} s")
         if took > MOST_TOGETHER:
             raise SystemExit(f"{TOGETHER} orders in one write are answered after {took:.1f} s")
-        part.end(venue, TRIPS + TOGETHER)
+        # (of these a reply goes to others alone)
+        client.number += TOGETHER
+        requests = [request_for_quotes(f"r{k}", "ALPHA", "BETA", "DELTA") for k in range(TOGETHER)]
+        frames = [message("R", client.name, client.number + 1 + k, request) for k, request in enumerate(requests)]
+        client.number += TOGETHER
+        began = time.monotonic()
+        client.connection.sendall(b"".join(frames))
+        client.send("V", SNAPSHOT_ASKED, quietly=True)
+        client.await_field("35=W", quietly=True)
+        took = time.monotonic() - began
+        part.print(f"{TOGETHER} requests for quotes in one write: {took:.2f} s")
+        if took > MOST_TOGETHER:
+            raise SystemExit(f"{TOGETHER} requests for quotes in one write are taken after {took:.1f} s")
+        part.end(venue, TRIPS + 2 * TOGETHER + 1)
 
 
 PARTS = [

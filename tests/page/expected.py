@@ -1,0 +1,369 @@
+"""expected.py TRAIL ANSWERS: prints the page of a day, made of the templates of crates/day_tables and crates/day_page
+by this program alone: of a trail's file, and of what `sef_replay TRAIL --answers` printed of it."""
+import os
+import re
+import sys
+
+sys.dont_write_bytecode = True
+ROOT = os.path.join(os.path.dirname(os.path.abspath(__file__)), "..", "..")
+sys.path.insert(0, os.path.join(ROOT, "tests", "cli"))
+import check_digest
+
+SOURCES = (
+    "day_tables/src/template.rt", "day_sections/src/template.rt", "day_page/src/template.rt", "day_page/src/style.rt",
+)
+CONSTANT = re.compile(r'const (\w+): &\[u8\] =\s*b"((?:[^"\\]|\\.)*)";', re.S)
+CAME = re.compile(r"row (\d+) at (\S+) from (\S+), sequence number (\d+) in era (\d+): (.*)")
+CLOCK = re.compile(r"row (\d+) at (\S+): the clock")
+REPLY = re.compile(r"row (\d+) to (\S+): (.*)")
+MOST_ROWS, MOST_OPEN, MOST_ROOMS, MOST_NAMED = 5000, 120, 300, 24
+
+
+def templates():
+    found = {}
+    for source in SOURCES:
+        with open(os.path.join(ROOT, "crates", source), encoding="ascii") as file:
+            for name, text in CONSTANT.findall(file.read()):
+                found[name] = text.replace("\\n", "\n").replace('\\"', '"').replace("\\\\", "\\")
+    return found
+
+
+NAMED = {38: "&amp;", 60: "&lt;", 62: "&gt;", 34: "&quot;", 39: "&#39;"}
+
+
+def escaped(text):
+    data = text if isinstance(text, bytes) else text.encode("latin-1")
+    return "".join(NAMED.get(b) or (chr(b) if 32 <= b <= 126 else f"&#x{b:02x};") for b in data)
+
+
+class Page:
+    def __init__(self):
+        self.templates, self.parts = templates(), []
+
+    def add(self, name, *values):
+        """A template with values in its places, all of which stand in text or in quotes."""
+        pieces = re.split(r"\$[^;]*;", self.templates[name])
+        assert len(pieces) == len(values) + 1, (name, values)
+        shown = [escaped(value if isinstance(value, (str, bytes)) else str(value)) for value in values] + [""]
+        self.parts += [part for pair in zip(pieces, shown) for part in pair]
+
+    def text(self):
+        return "".join(self.parts)
+
+
+def fields(text):
+    """The fields of a message, in order."""
+    return [tuple(field.split("=", 1)) for field in text.split("|") if field]
+
+
+def value(message, tag):
+    return next((v for t, v in message if t == tag), None)
+
+
+class Row:
+    def __init__(self, n, utc, who, number, era, text):
+        self.n, self.utc, self.who, self.number, self.era, self.text = n, utc, who, number, era, text
+        self.words, self.replies, self.message = "", [], fields(text)
+
+
+def rows_of(path):
+    """The rows of a day with their replies, as they were printed."""
+    rows = []
+    with open(path, encoding="latin-1") as file:
+        for line in file.read().split("\n")[1:]:
+            if came := CAME.fullmatch(line):
+                n, utc, who, number, era, text = came.groups()
+                rows.append(Row(int(n), utc, who, number, era, text))
+            elif clock := CLOCK.match(line):
+                rows.append(Row(int(clock[1]), clock[2], None, "0", "0", ""))
+            elif reply := REPLY.fullmatch(line):
+                rows[-1].replies.append((reply[2], fields(reply[3])))
+            elif line.startswith("    ") and not rows[-1].replies:
+                rows[-1].words = line[4:]
+    return rows
+
+
+class Trade:
+    """A trade, by its two reports at a row."""
+
+    def __init__(self, row, one, other):
+        self.row, self.number = row, int(value(one[1], "880")[1:])
+        self.symbol, self.price = value(one[1], "55"), value(one[1], "31")
+        self.quantity = int(value(one[1], "32"))
+        place = value(one[1], "37")
+        self.room = place[1:] if place.startswith("R") else None
+        who = {value(message, "54"): name for name, message in (one, other)}
+        self.buyer, self.seller = who["1"], who["2"]
+
+
+def trades_of(rows):
+    trades = []
+    for row in rows:
+        reports = [(who, message) for who, message in row.replies if value(message, "880")]
+        trades += [Trade(row, *reports[k:k + 2]) for k in range(0, len(reports), 2)]
+    return trades
+
+
+def all_replies(rows):
+    return [(row, who, message) for row in rows for who, message in row.replies]
+
+
+def is_refusal(message):
+    kind, state = value(message, "35"), value(message, "297")
+    if kind == "8":
+        return value(message, "150") == "8"
+    if kind == "AI":
+        return state in ("5", "7", "9") or (state == "17" and value(message, "693") is not None)
+    return kind in ("9", "AG", "Y", "j")
+
+
+def refusals_of(rows):
+    """Each refused row, with the first reply that refuses."""
+    found = []
+    for row in rows:
+        refusing = [(row, who, message) for who, message in row.replies if is_refusal(message)]
+        found += refusing[:1]
+    return found
+
+
+def is_hit(message):
+    """A trade in a room, as the maker is sent it."""
+    return value(message, "880") is not None and value(message, "37")[0] == "R" and value(message, "693") is None
+
+
+def figures(page, people, rows, trades):
+    replies = [message for _, _, message in all_replies(rows)]
+    book = [t for t in trades if t.room is None]
+    asked = [t for t in trades if t.room is not None]
+    page.add("FIGURES", *(f"{n:,}" for n in (
+        sum(row.who is not None for row in rows), people, len(rows),
+        sum(value(m, "35") == "8" and value(m, "150") == "0" for m in replies),
+        len(trades), len(book), len(asked),
+        sum(t.quantity for t in trades), sum(t.quantity for t in book), sum(t.quantity for t in asked),
+        len({value(m, "131") for m in replies if value(m, "35") == "R"}),
+        sum(value(m, "35") == "S" for m in replies), sum(is_hit(m) for m in replies), len(refusals_of(rows)))))
+
+
+def bulletin(page, symbols, trades):
+    if not trades:
+        page.add("NO_BULLETIN")
+        return
+    page.add("BULLETIN")
+    for place, symbol in enumerate(symbols):
+        of = [t for t in trades if t.symbol == symbol]
+        if not of:
+            continue
+        prices = [t.price for t in of]
+        book = [t for t in of if t.room is None]
+        asked = [t for t in of if t.room is not None]
+        page.add("TRADED", place, symbol, prices[0], max(prices, key=float), min(prices, key=float), prices[-1],
+                 *(f"{sum(t.quantity for t in part):,}" for part in (of, book, asked)),
+                 *(f"{len(part):,}" for part in (of, book, asked)))
+    page.add("BULLETIN_END")
+
+
+def row_number(page, rows, row):
+    if len(rows) <= MOST_ROWS:
+        page.add("ROW_LINK", row.n, row.n)
+    else:
+        page.add("ROW_ALONE", row.n)
+
+
+def trade_list(page, symbols, rows, trades):
+    page.add("TRADES", f"{len(trades):,}")
+    for t in trades:
+        page.add("TRADE", t.number, t.number, t.row.utc[9:], symbols.index(t.symbol), t.symbol)
+        if t.room is None:
+            page.add("IN_BOOK")
+        else:
+            page.add("IN_ROOM", t.room)
+        page.add("DEAL", f"{t.quantity:,}", t.price, t.buyer, t.seller)
+        row_number(page, rows, t.row)
+        page.add("CELL_END")
+    page.add("TABLE_END")
+
+
+def sent_in(rows, room):
+    """The quotes in a room as their rows, each with what the requester was sent."""
+    return [(row, message) for row, _, message in all_replies(rows)
+            if value(message, "35") == "S" and value(row.message, "131") == room]
+
+
+def events_after(rows, quote_row):
+    return ((row, who, message) for row, who, message in all_replies(rows) if row.n >= quote_row.n)
+
+
+def fate(page, rows, room, row, quote):
+    """What became of a quote: what ended it first, unless it had run out by then."""
+    end, number = value(quote, "62"), value(quote, "117")
+    named, found = None, None
+    for later, who, message in events_after(rows, row):
+        own, kind = value(later.message, "117"), value(message, "35")
+        if kind == "8" and value(message, "880") and value(message, "37") == room:
+            found = ("HIT", value(message, "880")[1:]) if own == number else ("NOT_TAKEN",)
+        elif kind == "AI" and who != later.who and value(message, "297") == "17" and value(message, "117") == number:
+            found = ("WITHDRAWN", later.n)
+        elif kind == "AI" and who != later.who and value(message, "297") == "11" and own == number:
+            found = ("PASSED", later.n)
+        elif kind == "S" and later.n > row.n and later.who == row.who and value(later.message, "131") == room:
+            found = ("REPLACED", value(message, "117")[1:])
+        if found:
+            named = later.utc
+            break
+    if found is None:
+        found, named = ("LIVE",), rows[-1].utc
+    if full(end) < full(named):
+        found = ("RAN_OUT",)
+    page.add(found[0], *(found[1:] * 2 if found[0] in ("HIT", "REPLACED") else found[1:]))
+
+
+def full(utc):
+    """A moment with its thousandths."""
+    return utc if "." in utc else utc + ".000"
+
+
+def requests(page, rows, trades):
+    asked = {}
+    for row, who, message in all_replies(rows):
+        if value(message, "35") == "R":
+            asked.setdefault(value(message, "131"), []).append((row, who, message))
+    if not asked:
+        page.add("NO_REQUEST")
+        return
+    page.add("REQUESTS", f"{len(asked):,}")
+    for room, sent in list(asked.items())[:MOST_ROOMS]:
+        row, _, message = sent[0]
+        side = {None: "to buy or sell", "1": "to buy", "2": "to sell"}[value(message, "54")]
+        quotes = sent_in(rows, room)
+        page.add("ROOM", room[1:], row.utc[9:], row.who, f"{len(sent):,}", side, f"{int(value(message, '38')):,}",
+                 value(message, "55"), value(row.message, "131"))
+        made = [t for t in trades if t.room == room[1:]]
+        if made:
+            page.add("ROOM_TRADED", made[0].number, made[0].number, made[0].price)
+        else:
+            page.add("ROOM_IDLE", f"{len(quotes):,}")
+        page.add("ROOM_ASKED", room[1:])
+        for _, who, _ in sent:
+            page.add("NAME", who)
+        row_number(page, rows, row)
+        page.add("ROOM_SHOWN")
+        shown = [entry for other, _, message in all_replies(rows)
+                 if value(message, "35") == "W" and value(other.message, "131") == room for entry in entries(message)
+                 if entry["269"] != "J"]
+        for entry in shown:
+            page.add("SHOWN", {"0": "bid", "1": "offer"}[entry["269"]], f"{int(entry['271']):,}", entry["270"],
+                     entry["278"][1:])
+        if not shown:
+            page.add("NOTHING_SHOWN")
+        page.add("SHOWN_END")
+        page.add("QUOTES", room[1:])
+        for other, quote in quotes:
+            number = value(quote, "117")[1:]
+            page.add("QUOTE", number, number, other.who, value(other.message, "117"), value(quote, "132") or "",
+                     value(quote, "133") or "", other.utc[9:], full(value(quote, "62"))[9:])
+            fate(page, rows, room, other, quote)
+            row_number(page, rows, other)
+            page.add("CELL_END")
+        page.add("ROOM_END")
+    page.add("SECTION_END")
+
+
+def entries(message):
+    """The entries of a snapshot."""
+    found = []
+    for tag, text in message:
+        if tag == "269":
+            found.append({})
+        if found:
+            found[-1][tag] = text
+    return found
+
+
+def refusals(page, rows):
+    causes = {}
+    for row, who, message in refusals_of(rows):
+        causes.setdefault(value(message, "58") or "no such quote is live (297)", []).append((row, who))
+    if not causes:
+        page.add("NO_REFUSAL")
+        return
+    page.add("REFUSALS", f"{len(causes):,}")
+    for cause, of in causes.items():
+        page.add("CAUSE", cause, f"{len(of):,}")
+        for row, who in of[:MOST_NAMED]:
+            page.add("REFUSED", who)
+            row_number(page, rows, row)
+        page.add("MORE_ROWS" if len(of) > MOST_NAMED else "NO_MORE_ROWS")
+    page.add("TABLE_END")
+
+
+def participants_list(page, names, rows, trades):
+    replies = all_replies(rows)
+    refused = refusals_of(rows)
+    page.add("PEOPLE", f"{len(names):,}")
+    for place, name in enumerate(names):
+        own = [message for _, who, message in replies if who == name and value(message, "35") == "8"]
+        makes = [value(message, "131") for row, _, message in replies
+                 if value(message, "35") == "R" and row.who == name]
+        page.add("PERSON", place + 1, name, *(f"{n:,}" for n in (
+            sum(row.who == name for row in rows), sum(who == name for _, who, _ in refused),
+            *(sum(value(m, "150") == kind for m in own) for kind in ("0", "5")),
+            sum(value(m, "150") == "4" and value(m, "41") is not None for m in own),
+            sum(t.buyer == name for t in trades), sum(t.seller == name for t in trades), len(set(makes)),
+            sum(who == name and value(m, "35") == "R" for _, who, m in replies),
+            sum(row.who == name and value(m, "35") == "S" for row, _, m in replies),
+            sum(who == name and is_hit(m) for _, who, m in replies))))
+    page.add("PEOPLE_END")
+
+
+def row_list(page, rows):
+    page.add("ROWS", f"{len(rows):,}")
+    page.add("ROWS_OPEN" if len(rows) <= MOST_OPEN else "ROWS_FOLDED")
+    page.add("COLUMNS")
+    for row in rows if len(rows) <= MOST_ROWS else []:
+        if row.who is None:
+            page.add("TICK", row.n, row.n, row.utc[9:])
+        else:
+            page.add("MESSAGE", row.n, row.n, row.utc[9:], row.who, row.number, row.era, row.words, row.text)
+    page.add("ROWS_END")
+
+
+def head(page, venue, people, symbols, rows, stored):
+    version, participants, instruments, delays, kept = stored
+    *_, (_, digest) = check_digest.digests(version, participants, instruments, delays, kept)
+    day, first, last = (rows[0].utc[:8], rows[0].utc[9:], rows[-1].utc[9:]) if rows else ("no rows",) * 3
+    page.add("TOP", venue, day)
+    page.add("STYLE")
+    page.add("HEAD", venue, day, f"{len(rows):,}", first, last, f"{people:,}", f"{len(symbols):,}", digest.hex(),
+             check_digest.sha256(participants).hex(), f"{len(participants):,}",
+             check_digest.sha256(instruments).hex(), f"{len(instruments):,}")
+
+
+def words(text, key):
+    """The values of a key of a file, in order."""
+    found = re.findall(rf'^{key} = "((?:[^"\\]|\\.)*)"$', text, re.M)
+    return [re.sub(r"\\(.)", r"\1", value) for value in found]
+
+
+def main(trail, answers):
+    stored = check_digest.stored(trail)
+    participants, instruments = stored[1].decode(), stored[2].decode()
+    venue = words(participants, "venue")[0]
+    names = words(participants, "name")
+    symbols = words(instruments, "symbol")
+    rows = rows_of(answers)
+    trades = trades_of(rows)
+    page = Page()
+    head(page, venue, len(names), symbols, rows, stored)
+    figures(page, len(names), rows, trades)
+    bulletin(page, symbols, trades)
+    trade_list(page, symbols, rows, trades)
+    requests(page, rows, trades)
+    refusals(page, rows)
+    participants_list(page, names, rows, trades)
+    row_list(page, rows)
+    page.add("END")
+    sys.stdout.write(page.text())
+
+
+if __name__ == "__main__":
+    main(*sys.argv[1:])
