@@ -1,5 +1,9 @@
-"""Times each mode of sef_replay, and Python's sqlite3 over the same rows, alternately."""
+"""Times each mode of sef_replay, and Python's sqlite3 over the same rows, alternately.
 
+usage: report.py [--prepare] [--minutes N] PROGRAM FOLDER ROWS..
+"""
+
+import argparse
 import csv
 import hashlib
 import os
@@ -15,26 +19,26 @@ sys.path.append(os.path.join(TOP, "tests", "lib"))
 import make_trail  # noqa: E402
 from fix import frame, wire  # noqa: E402
 
-# (tables have no head, and so no digest of all rows)
+# Those that print most come last. (tables have no head, and so no digest of all rows)
 BARE = "book, table"
 MODES = {
     BARE: ["TRAIL", "--book", "IRS5Y", "--csv"],
     "book": ["TRAIL", "--book", "IRS5Y"],
     "trades": ["TRAIL"],
     "trades, table": ["--csv", "TRAIL"],
-    "evidence of the first": ["TRAIL", "--trade", "T1"],
-    "evidence of all": ["TRAIL", "--trade", "all"],
-    "answers": ["TRAIL", "--answers"],
-    "answers, table": ["TRAIL", "--answers", "--csv"],
-    "answers, JSON": ["TRAIL", "--answers", "--json"],
-    "owed to one": ["TRAIL", "--answers", "--to", "BETA"],
-    "one order": ["TRAIL", "--answers", "--order", "O3"],
-    "one request": ["TRAIL", "--answers", "--room", "R1"],
     "why": ["TRAIL", "--why", "10"],
     "what rests": ["TRAIL", "--rests", "--csv"],
-    "one participant's figures": ["TRAIL", "--desk", "ALPHA", "--csv"],
-    "a participant's log": ["TRAIL", "--against", "LOG", "--desk", "ALPHA"],
     "digest": ["TRAIL", "--digest"],
+    "one participant's figures": ["TRAIL", "--desk", "ALPHA", "--csv"],
+    "one order": ["TRAIL", "--answers", "--order", "O3"],
+    "one request": ["TRAIL", "--answers", "--room", "R1"],
+    "owed to one": ["TRAIL", "--answers", "--to", "BETA"],
+    "evidence of the first": ["TRAIL", "--trade", "T1"],
+    "a participant's log": ["TRAIL", "--against", "LOG", "--desk", "ALPHA"],
+    "answers, table": ["TRAIL", "--answers", "--csv"],
+    "answers": ["TRAIL", "--answers"],
+    "answers, JSON": ["TRAIL", "--answers", "--json"],
+    "evidence of all": ["TRAIL", "--trade", "all"],
 }
 
 
@@ -78,37 +82,68 @@ def shown(values, form):
     return f"{statistics.median(values):{form}} ({min(values):{form}} to {max(values):{form}})"
 
 
+def prepare(program, folder, rows):
+    """The trail of that many rows, and the log of ALPHA: written where they are not there."""
+    files = {"TRAIL": os.path.join(folder, f"replay_{rows}.trail"), "LOG": os.path.join(folder, f"replay_{rows}.log")}
+    if not os.path.exists(files["TRAIL"]):
+        made = files["TRAIL"] + ".made"
+        make_trail.make(rows, made)
+        os.rename(made, files["TRAIL"])
+    if not os.path.exists(files["LOG"]):
+        made = files["LOG"] + ".made"
+        make_log(program, files["TRAIL"], made)
+        os.rename(made, files["LOG"])
+    return files
+
+
+def measured(program, files, rows, deadline):
+    """Of each mode what each round took, and of Python's sqlite3; no sample begins after the deadline."""
+    found, peer = {mode: [] for mode in MODES}, []
+    for _ in range(5 if rows <= 100_000 else 3):
+        if time.monotonic() < deadline:
+            peer.append(read_by_sqlite(files["TRAIL"]))
+        for mode, words in MODES.items():
+            if found[mode] is not None and time.monotonic() < deadline:
+                one = sample([program, *[files.get(it, it) for it in words]])
+                found[mode] = None if one is None else [*found[mode], one]
+    return found, peer
+
+
+def line_of(rows, mode, seconds, bare, rest):
+    """A line of the table; the ratio is to the bare replay of the same round."""
+    if not seconds or not bare:
+        return f"| {rows:,} | {mode} | not run | | | | |"
+    ratios = [mine / other for mine, other in zip(seconds, bare)]
+    pace = rows / statistics.median(seconds)
+    return f"| {rows:,} | {mode} | {shown(seconds, '.3f')} | {pace:,.0f} | {shown(ratios, '.2f')} | {rest} |"
+
+
 def main():
-    program, folder, *counts = sys.argv[1:]
+    parser = argparse.ArgumentParser()
+    parser.add_argument("--prepare", action="store_true")
+    parser.add_argument("--minutes", type=float, default=float("inf"))
+    parser.add_argument("program")
+    parser.add_argument("folder")
+    parser.add_argument("rows", type=int, nargs="+")
+    args = parser.parse_args()
+    files = {rows: prepare(args.program, args.folder, rows) for rows in args.rows}
+    if args.prepare:
+        return
+    deadline = time.monotonic() + 60 * args.minutes
     print("| Rows | Mode | Seconds | Rows/s | Of a bare replay | Peak MB | Printed bytes |")
     print("|---|---|---|---|---|---|---|")
-    for rows in map(int, counts):
-        files = {"TRAIL": os.path.join(folder, f"replay_{rows}.trail"), "LOG": os.path.join(folder, f"replay_{rows}.log")}
-        make_trail.make(rows, files["TRAIL"])
-        make_log(program, files["TRAIL"], files["LOG"])
-        samples = 5 if rows <= 100_000 else 3
-        found, peer = {mode: [] for mode in MODES}, []
-        for _ in range(samples):
-            peer.append(read_by_sqlite(files["TRAIL"]))
-            for mode, words in MODES.items():
-                if found[mode] is not None:
-                    one = sample([program, *[files.get(it, it) for it in words]])
-                    found[mode] = None if one is None else [*found[mode], one]
-        bare = [it[0] for it in found[BARE]]
+    for rows in args.rows:
+        found, peer = measured(args.program, files[rows], rows, deadline)
+        bare = [it[0] for it in found[BARE] or []]
         for mode, taken in found.items():
-            if taken is None:
-                print(f"| {rows:,} | {mode} | not run | | | | |")
-                continue
-            seconds = [it[0] for it in taken]
-            ratios = [mine / other for mine, other in zip(seconds, bare)]
-            peak, count = max(it[1] for it in taken), taken[0][2]
-            pace = rows / statistics.median(seconds)
-            print(f"| {rows:,} | {mode} | {shown(seconds, '.3f')} | {pace:,.0f} | {shown(ratios, '.2f')} | {peak:.0f} | {count:,} |", flush=True)
-        ratios = [mine / other for mine, other in zip(peer, bare)]
-        pace = rows / statistics.median(peer)
-        print(f"| {rows:,} | Python's sqlite3 | {shown(peer, '.3f')} | {pace:,.0f} | {shown(ratios, '.2f')} | | |", flush=True)
-        for path in files.values():
-            os.remove(path)
+            taken = taken or []
+            rest = f"{max(it[1] for it in taken):.0f} | {taken[0][2]:,}" if taken else ""
+            print(line_of(rows, mode, [it[0] for it in taken], bare, rest))
+        print(line_of(rows, "Python's sqlite3", peer, bare, "|"), flush=True)
+    for path in (it for rows in args.rows for it in files[rows].values()):
+        for written in (path, f"{path}-wal", f"{path}-shm"):
+            if os.path.exists(written):
+                os.remove(written)
 
 
 if __name__ == "__main__":

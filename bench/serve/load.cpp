@@ -1,13 +1,17 @@
-// A client that times a venue over TCP. load PORT NAME SYMBOL MESSAGES at-once|one-by-one|hold RUN logs NAME on at
-// 127.0.0.1:PORT by a Logon that resets the sequence numbers, sends MESSAGES messages, alternately an order for SYMBOL
-// and its cancel, and counts the answers (one ExecutionReport or OrderCancelReject each).
-//   at-once      all messages as fast as the socket takes them: the throughput up to the last answer
-//   one-by-one   each message after the answer to the previous one: the round trips
-//   hold         nothing: the connection is held until the program is ended
-// RUN is put into the identifiers, which a venue takes once a day. Prints one line of words and numbers.
+// A client that times a venue over TCP. load PORT NAME SYMBOL MESSAGES at-once|for-a-second|one-by-one|hold RUN logs
+// NAME on at 127.0.0.1:PORT by a Logon that resets the sequence numbers, prints "ready", and waits until its standard
+// input ends, so that many begin together. It sends MESSAGES messages, alternately an order for SYMBOL and its cancel,
+// and counts the answers (one ExecutionReport or OrderCancelReject each).
+//   at-once        all messages as fast as the socket takes them: the throughput up to the last answer
+//   for-a-second   the same, up to the last answer or for a second
+//   one-by-one     each message after the answer to the previous one: the round trips
+//   hold           nothing: the connection is held until the program is ended
+// RUN is put into the identifiers, which a venue takes once a day. Prints one line of words and numbers;
+// processor_us is the client's own processor time from the first message on.
 #include <algorithm>
 #include <arpa/inet.h>
 #include <chrono>
+#include <cmath>
 #include <cstdio>
 #include <cstring>
 #include <ctime>
@@ -23,6 +27,8 @@
 
 namespace {
 
+// the messages for a second that wait for their answers
+constexpr long MOST_UNANSWERED = 4'096;
 // the time without an answer after which the run is given up
 constexpr int MAX_WAIT_MS = 10'000;
 // the bytes before the number of a BodyLength, and those after the body
@@ -30,6 +36,13 @@ constexpr size_t BEFORE_LENGTH = sizeof "8=FIXT.1.1|9=" - 1, TRAILER = sizeof "1
 
 double now() {
     return std::chrono::duration<double>(std::chrono::steady_clock::now().time_since_epoch()).count();
+}
+
+// The processor seconds of this process so far.
+double spent() {
+    timespec time;
+    clock_gettime(CLOCK_PROCESS_CPUTIME_ID, &time);
+    return time.tv_sec + time.tv_nsec / 1e9;
 }
 
 std::string moment() {
@@ -55,6 +68,8 @@ struct Client {
     std::string at = moment();
     int socket = -1;
     std::string unread{};
+    // the processor seconds before its first message
+    double spent_before = 0;
 
     std::string header(const char *type, long number) const {
         return std::string("35=") + type + "|49=" + name + "|56=SEF|34=" + std::to_string(number) + "|52=" + at + "|";
@@ -119,25 +134,44 @@ struct Client {
         while (!received("A")) {}
     }
 
-    // (all are made before the clock starts, so that the client takes as little processor time as it can)
-    double at_once(long messages, long &answers) {
+    // Says that it is logged on, and waits for the others.
+    void await_start() {
+        puts("ready");
+        fflush(stdout);
+        for (char byte; read(STDIN_FILENO, &byte, 1) > 0;) {}
+        spent_before = spent();
+    }
+
+    // The messages a second that were answered up to the last one, or within these seconds. At most this many wait for
+    // their answers. (All are made before the clock starts, so that the client takes little processor time.)
+    double at_once(long messages, double most_seconds, long most_unanswered, long &answers) {
         std::string text;
-        for (long k = 0; k < messages; k++) text += message(k);
+        std::vector<size_t> ends;
+        for (long k = 0; k < messages; k++) ends.push_back((text += message(k)).size());
         fcntl(socket, F_SETFL, O_NONBLOCK);
-        double begun = now();
-        for (std::string_view waiting = text; answers < messages;) {
-            short events = ready(!waiting.empty());
+        await_start();
+        double begun = now(), rate = 0;
+        size_t sent = 0;
+        for (long whole = 0, last = messages; answers < last;) {
+            if (!rate && now() > begun + most_seconds) {
+                rate = answers / (now() - begun);
+                last = whole;
+                continue;
+            }
+            size_t up_to = ends[std::min(last, answers + most_unanswered) - 1];
+            short events = ready(sent < up_to);
             if (events & (POLLIN | POLLHUP | POLLERR)) answers += received("89");
             if (events & POLLOUT) {
-                ssize_t sent = write(socket, waiting.data(), std::min<size_t>(waiting.size(), 65536));
-                waiting.remove_prefix(std::max<ssize_t>(sent, 0));
+                sent += std::max<ssize_t>(write(socket, &text[sent], std::min<size_t>(up_to - sent, 65536)), 0);
+                while (whole < last && ends[whole] <= sent) whole++;
             }
         }
-        return now() - begun;
+        return rate ? rate : answers / (now() - begun);
     }
 
     std::vector<double> one_by_one(long messages, long &answers) {
         std::vector<double> trips;
+        await_start();
         for (long k = 0; k < messages; k++) {
             std::string text = message(k);
             double begun = now();
@@ -157,7 +191,7 @@ struct Client {
 
 int main(int count, char **words) {
     if (count != 7) {
-        fprintf(stderr, "load PORT NAME SYMBOL MESSAGES at-once|one-by-one|hold RUN\n");
+        fprintf(stderr, "load PORT NAME SYMBOL MESSAGES at-once|for-a-second|one-by-one|hold RUN\n");
         return 2;
     }
     try {
@@ -166,9 +200,12 @@ int main(int count, char **words) {
         client.connect_to(std::stoi(words[1]));
         client.log_on();
         if (!strcmp(words[5], "hold")) pause();
-        if (!strcmp(words[5], "at-once")) {
-            double seconds = client.at_once(messages, answers);
-            printf("messages %ld answers %ld per_second %.0f\n", messages, answers, messages / seconds);
+        bool is_limited = !strcmp(words[5], "for-a-second");
+        if (is_limited || !strcmp(words[5], "at-once")) {
+            double rate = is_limited ? client.at_once(messages, 1.0, MOST_UNANSWERED, answers)
+                                     : client.at_once(messages, HUGE_VAL, messages, answers);
+            double cost = (spent() - client.spent_before) * 1e6;
+            printf("messages %ld answers %ld per_second %.0f processor_us %.0f\n", messages, answers, rate, cost);
         } else {
             std::vector<double> trips = client.one_by_one(messages, answers);
             double p50 = trips[messages / 2] * 1e6, p99 = trips[messages * 99 / 100] * 1e6;

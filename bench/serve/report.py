@@ -14,7 +14,8 @@ PROGRAM = "crates/venue_main/out/venue_main"
 PARTICIPANTS, INSTRUMENTS = "examples/participants.toml", "examples/instruments.toml"
 NAMES = ("ALPHA", "BETA", "GAMMA", "DELTA", "EPSILON")
 CROWD = tuple(f"P{k:02}" for k in range(32))
-CROWDS = (1, 5, 32)  # participants that send at once
+CROWDS = {1: 500_000, 5: 200_000, 32: 60_000}  # participants that send at once: messages, more than a second takes
+CROWD_TRIPS = 500  # round trips of each of them
 ENDLESS = "1000000000"  # turns
 SAMPLES = 9
 ROUND_TRIPS = 2_000
@@ -23,6 +24,7 @@ IDLE = 10.0  # seconds
 UNDER_ATTACK = 20_000  # round trips while hostile bytes come
 ATTACKED = 0.3  # seconds of hostile bytes before round trips are timed
 CONFINED = 2  # processors
+READY = "ready\n"  # what the load client prints once it is logged on
 TICKS = os.sysconf("SC_CLK_TCK")
 # orders that are refused before the book, and orders that rest and are cancelled, each by its instrument
 KINDS = (("refused", "NOPE"), ("rested and cancelled", "IRS5Y"))
@@ -70,24 +72,30 @@ class Venue:
                 total += int(file.read().split()[0])
         return total / 1e9
 
-    def loading(self, directory, symbol, messages, how, who):
-        """The load client, as the participant of this index."""
+    def loading(self, directory, symbol, messages, how, who, begin=subprocess.DEVNULL):
+        """The load client, as the participant of this index, which begins once this file ends."""
         self.runs += 1
         words = [f"{directory}/load", str(self.port + who), self.names[who], symbol, str(messages), how, str(self.runs)]
-        return subprocess.Popen(words, stdout=subprocess.PIPE, text=True)
+        return subprocess.Popen(words, stdin=begin, stdout=subprocess.PIPE, text=True)
 
     def load(self, directory, symbol, messages, how, who=0):
         """What the load client prints, by its words, as the participant of this index."""
         return printed_by(self.loading(directory, symbol, messages, how, who))
 
     def load_all(self, directory, symbol, messages, how, count):
-        """The same of this many participants at once."""
-        clients = [self.loading(directory, symbol, messages, how, who) for who in range(count)]
+        """The same of this many participants, who begin together once all are logged on."""
+        begin, held = os.pipe()
+        clients = [self.loading(directory, symbol, messages, how, who, begin) for who in range(count)]
+        os.close(begin)
+        logged_on = [client.stdout.readline() == READY for client in clients]
+        os.close(held)
+        if not all(logged_on):
+            raise SystemExit("bench/serve: a client of load does not log on")
         return [printed_by(client) for client in clients]
 
 
 def printed_by(client):
-    words = client.communicate()[0].split()
+    words = client.communicate()[0].removeprefix(READY).split()
     if client.returncode:
         raise SystemExit("bench/serve: a client of load ends before its last answer")
     return dict(zip(words[::2], map(int, words[1::2])))
@@ -168,28 +176,44 @@ def idle(venue, directory):
         holder.terminate()
 
 
-def crowd(venue, directory, messages):
-    """One sample: of each count of participants at once, the messages a second of all, and the middle round trip."""
+def crowd(venue, directory):
+    """One sample: of each count of participants at once, the messages a second of all, the least participant's part of
+    an equal share of them, the processor time of venue and clients a message, and the middle of the participants' round
+    trips, p50 and p99."""
     figures = {}
     symbol = KINDS[0][1]
-    for count in CROWDS:
-        each = messages // count
-        longest = max(each / one["per_second"] for one in venue.load_all(directory, symbol, each, "at-once", count))
-        trips = venue.load_all(directory, symbol, min(each, ROUND_TRIPS), "one-by-one", count)
-        figures[count] = (count * each / longest, statistics.median(one["p50_us"] for one in trips))
+    for count, messages in CROWDS.items():
+        before = venue.spent()
+        clients = venue.load_all(directory, symbol, messages, "for-a-second", count)
+        answers = sum(one["answers"] for one in clients)
+        costs = ((venue.spent() - before) * 1e6, sum(one["processor_us"] for one in clients))
+        rates = [one["per_second"] for one in clients]
+        trips = venue.load_all(directory, symbol, CROWD_TRIPS, "one-by-one", count)
+        middles = (statistics.median(one[key] for one in trips) for key in ("p50_us", "p99_us"))
+        least = min(rates) / statistics.mean(rates)
+        figures[count] = (sum(rates), least, *(cost / answers for cost in costs), *middles)
     return figures
 
 
-def crowded(venues, directory, messages):
+def crowded(venues, directory):
     """Measures the venues alternately, with one, five and 32 participants at once."""
+    words = (
+        ("messages a second", 0),
+        ("the least share, of one", 2),
+        ("us of the processor each", 1),
+        ("of the clients", 1),
+        ("us of a round trip, p50", 0),
+        ("p99", 0),
+    )
     try:
-        samples = [[crowd(venue, directory, messages) for venue in venues] for _ in range(SAMPLES)]
+        samples = [[crowd(venue, directory) for venue in venues] for _ in range(SAMPLES)]
         for count in CROWDS:
-            for at, what in enumerate(("messages a second", "us of a round trip")):
+            for at, (what, digits) in enumerate(words):
                 found = [[sample[k][count][at] for sample in samples] for k in range(len(venues))]
-                print(f"{count} at once, {what}: " + "; peer ".join(map(spread, found)), flush=True)
-        shares = [sample[0][CROWDS[-1]][0] / sample[0][CROWDS[-2]][0] for sample in samples]
-        print(f"{CROWDS[-1]} at once have {spread(shares, 2)} of the messages a second of {CROWDS[-2]}", flush=True)
+                print(f"{count} at once, {what}: " + "; peer ".join(spread(each, digits) for each in found), flush=True)
+        few, many = list(CROWDS)[-2:]
+        parts = [sample[0][many][0] / sample[0][few][0] for sample in samples]
+        print(f"{many} at once have {spread(parts, 2)} of the messages a second of {few}", flush=True)
     finally:
         for venue in venues:
             venue.process.terminate()
@@ -312,7 +336,7 @@ def main():
         alternately(started(port, directory, peers), directory, messages, False)
         os.sched_setaffinity(0, processors)
     print("one, five and 32 participants at once:", flush=True)
-    crowded(crowded_venues(port, directory, peers), directory, messages)
+    crowded(crowded_venues(port, directory, peers), directory)
     print("a participant's round trips:", flush=True)
     hostile(port, directory)
     print("each message a row of a trail in a file, a transaction each:", flush=True)
