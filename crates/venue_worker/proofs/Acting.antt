@@ -22,7 +22,6 @@ pub acts_then : (P : ℕ → Type 0) (a b c : Work) → HasActed P a b → HasAc
 acts_then P a b c x y = acts_join P x.0 a b c x.1 y
 
 act_weaker : (P Q : ℕ → Type 0) (f : (t : ℕ) → P t → Q t) (x : Act) (a b : Work) → IsActOf P x a b → IsActOf Q x a b
-act_weaker P Q f Act.Begins a b d = d
 act_weaker P Q f (Act.Ticks_at t) a b d = (d.0, d.1, f t d.2, d.3, d.4)
 act_weaker P Q f (Act.Looks_at i t) a b d = (d.0, d.1, f t d.2, d.3, d.4)
 act_weaker P Q f (Act.Delivers_to j) a b d = d

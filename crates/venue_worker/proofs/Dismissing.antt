@@ -9,7 +9,7 @@ use Rattle.outbound_queue.specs.declared.outgoing.Outgoing.{Outgoing}
 use Rattle.outbound_queue.specs.declared.queue.Queue.{Queue}
 use Rattle.venue_worker.specs.Work.{Work}
 use Rattle.venue_engine.specs.Queued.{IsCut}
-use Rattle.venue_worker.specs.Calls.{IsDelivery, Delivers, Cuts, IsSameElse, with_session, with_sessions}
+use Rattle.venue_worker.specs.Calls.{IsDelivery, Delivers, DeliversUpTo, Cuts, IsSameElse, with_session, with_sessions}
 use Rattle.venue_worker.specs.Turns.{IsServed, AreServed}
 use Rattle.venue_worker.specs.Shutdown.{AreCutAfter, AreDrained, AreGiven, AreGivenNothing, AreLookedAt, AreRounds, AreServedUpTo, CutsWhere, Gives, HasShutDown, HasWaited, IsDrained, IsOneGiven, IsRound, IsSeenOff, SeesOff, are_shut_down, cut_token, is_cut_after, is_idle}
 use Rattle.venue_worker.proofs.Lists.{at_set, at_below, below_at, get_set, other_set, some_at}
@@ -242,10 +242,13 @@ pub record IsRoundTo (n : ℕ) (may_cut moved : Bool) (old new : Work) : Type 0 
   pub queues : (k : ℕ) → n ≤ k → slice_get new.ledger.queues k ≡ slice_get old.ledger.queues k
   pub hands : (k : ℕ) → n ≤ k → slice_get new.hands k ≡ slice_get old.hands k
 
+pub given_none : (w : Work) → AreGivenNothing w w
+given_none w k h h' h_at h'_at = (let same : h' ≡ h = cc in ap (λ (z : HandEnd Outgoing). z.given) same)
+
 pub round_begins : (may_cut : Bool) (w : Work) → IsRoundTo 0 may_cut false w w
 round_begins may_cut w = record {
   cuts = λ k q q' low q_at q'_at. absurd (omega (arith, low));
-  gives = λ k h h' h_at h'_at. (let same : h' ≡ h = cc in ap (λ (z : HandEnd Outgoing). z.given) same);
+  gives = given_none w;
   queues = λ k high. refl;
   hands = λ k high. refl;
 }
@@ -285,10 +288,28 @@ nothing_more n a b c none s same k h h' h_at h'_at = go (hand_seen n b c s k h' 
     go (inl x) = ap (λ (z : HandEnd Outgoing). z.given) x.1 ∙ same ∙ none n h s.had (ap (slice_get a.hands) (sym x.0) ∙ h_at) s.hand
     go (inr x) = none k h h' h_at x.1
 
-gives_more : (n : ℕ) (may_cut so_far moved : Bool) (a b c : Work) → slice_get b.hands n ≡ slice_get a.hands n → AreGiven n so_far a b → IsDrained n may_cut moved b c → AreGiven (n + 1) (so_far || moved) a c
-gives_more n may_cut true moved a b c same given d = one_later n a b c given d.sees
-gives_more n may_cut false true a b c same given d = one_now n a b c same d.sees d.gives
-gives_more n may_cut false false a b c same given d = nothing_more n a b c given d.sees d.gives
+gives_more : (n : ℕ) (so_far moved : Bool) (a b c : Work) → slice_get b.hands n ≡ slice_get a.hands n → AreGiven n so_far a b → (s : SeesOff n b c) → Gives moved s.had s.has → AreGiven (n + 1) (so_far || moved) a c
+gives_more n true moved a b c same given s gives = one_later n a b c given s
+gives_more n false true a b c same given s gives = one_now n a b c same s gives
+gives_more n false false a b c same given s gives = nothing_more n a b c given s gives
+
+-- the same of deliveries alone
+abbrev delivery_sees_off : (old new : Work) (j : ℕ) (moved : Bool) → Delivers old new j moved → SeesOff j old new
+delivery_sees_off old new j moved d = record {
+  was = d.0;
+  had = d.1;
+  is = d.2;
+  has = d.3;
+  queue = d.4;
+  hand = d.5;
+  other = d.6;
+  seen = delivery_sees d.0 d.2 d.1 d.3 moved d.7.0 d.8;
+  looks = looks_grow d.0 d.2 d.1 d.3 moved d.8;
+  served = served_by d.0 d.2 d.1 d.3 moved d.8;
+}
+
+pub given_more : (n : ℕ) (so_far moved : Bool) (a b c : Work) → DeliversUpTo n a b → AreGiven n so_far a b → Delivers b c n moved → AreGiven (n + 1) (so_far || moved) a c
+given_more n so_far moved a b c up given d = gives_more n so_far moved a b c (up.5 n (omega arith)) given (delivery_sees_off b c n moved d) (gives_of d.0 d.2 d.1 d.3 moved d.8)
 
 cuts_more : (n : ℕ) (may_cut moved : Bool) (a b c : Work) → slice_get b.ledger.queues n ≡ slice_get a.ledger.queues n → AreCutAfter n may_cut a b → IsDrained n may_cut moved b c → AreCutAfter (n + 1) may_cut a c
 cuts_more n may_cut moved a b c same cuts d k q q' low q_at q'_at = go (queue_seen n b c d.sees k q' q'_at)
@@ -302,14 +323,15 @@ cuts_more n may_cut moved a b c same cuts d k q q' low q_at q'_at = go (queue_se
 pub round_more : (n : ℕ) (may_cut so_far moved : Bool) (a b c : Work) → IsRoundTo n may_cut so_far a b → IsDrained n may_cut moved b c → IsRoundTo (n + 1) may_cut (so_far || moved) a c
 round_more n may_cut so_far moved a b c r d = record {
   cuts = cuts_more n may_cut moved a b c (r.queues n (omega arith)) r.cuts d;
-  gives = gives_more n may_cut so_far moved a b c (r.hands n (omega arith)) r.gives d;
+  gives = gives_more n so_far moved a b c (r.hands n (omega arith)) r.gives d.sees d.gives;
   queues = λ k high. other_queues n b c d.sees k (λ e. omega (arith, high, e)) ∙ r.queues k (omega (arith, high));
   hands = λ k high. other_hands n b c d.sees k (λ e. omega (arith, high, e)) ∙ r.hands k (omega (arith, high));
 }
 
-pub round_done : (n : ℕ) (may_cut moved : Bool) (old new : Work) → n ≡ length old.hands → IsSameElse old new → IsRoundTo n may_cut moved old new → IsRound may_cut moved old new
-round_done n may_cut moved old new all only r = record {
+pub round_done : (n : ℕ) (may_cut moved : Bool) (old new : Work) → n ≡ length old.hands → IsSameElse old new → AreServed old new → IsRoundTo n may_cut moved old new → IsRound may_cut moved old new
+round_done n may_cut moved old new all only served r = record {
   only = only;
+  served = served;
   cuts = subst (λ (z : ℕ). AreCutAfter z may_cut old new) all r.cuts;
   gives = subst (λ (z : ℕ). AreGiven z moved old new) all r.gives;
 }

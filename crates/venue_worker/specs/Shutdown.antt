@@ -8,7 +8,7 @@ use Rattle.outbound_queue.specs.declared.outgoing.Outgoing.TheVariants.{Cut}
 use Rattle.outbound_queue.specs.declared.queue.Queue.{Queue}
 use Rattle.venue_worker.specs.Work.{Work}
 use Rattle.venue_worker.specs.Calls.{IsSameElse, with_queue, with_session}
-use Rattle.venue_worker.specs.Turns.{IsServed}
+use Rattle.venue_worker.specs.Turns.{AreServed, IsServed}
 
 -- the sentinel, where a queue was cut
 abbrev pub cut_token : Bool → Bool → List Outgoing
@@ -104,9 +104,10 @@ abbrev pub AreGiven : ℕ → Bool → Work → Work → Type 0
 AreGiven n true old new = IsOneGiven n old new
 AreGiven n false old new = AreGivenNothing old new
 
--- A round: who was cut, and whether a message was handed over.
+-- A round: each reply seat was served, who was cut, and whether a message was handed over.
 pub record IsRound (may_cut moved : Bool) (old new : Work) : Type 0 where
   pub only : IsSameElse old new
+  pub served : AreServed old new
   pub cuts : AreCutAfter (length old.hands) may_cut old new
   pub gives : AreGiven (length old.hands) moved old new
 

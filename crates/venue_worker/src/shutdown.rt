@@ -55,7 +55,6 @@ impl<'a, K: Keep + Drop> Worker<'a, K> {
     fn drain_all<C: Clock>(&mut self, clock: &mut C, may_cut: bool) -> bool
         ensures only { IsSameElse self.old self.new }
         ensures seen_off { AreDrained self.old self.new }
-        ensures served { AreServed self.old self.new }
         ensures looked { AreLookedAt self.old self.new }
         ensures round { IsRound may_cut result self.old self.new }
         ensures clock { C.answered clock.new ≡ C.answered clock.old }

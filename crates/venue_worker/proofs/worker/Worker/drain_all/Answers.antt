@@ -20,18 +20,12 @@ loop-j-preserved g c =
       clock = c.drain-moved.ensures.clock ∙ i.clock;
     }
 
-pub returns-clause-served : goal.returns-clause-served
-returns-clause-served g c =
-    let all : length c.self.inside.hands.items ≡ length c.args.self.now.hands = ap (λ (w : Work). length w.hands) c.self.view_is in
-    let ok = c.self.inside.hands.ok.0 in
-    let far = c.loop-j-test.false in
-    let count = c.len-count.ensures in
-    served_all c.loop-j.j c.args.self.now c.loop-j.self (omega (arith, all, ok, far, count)) c.loop-j.invariant.served
-
 pub returns-clause-round : goal.returns-clause-round
 returns-clause-round g c =
-    let all : length c.self.inside.hands.items ≡ length c.args.self.now.hands = ap (λ (w : Work). length w.hands) c.self.view_is in
+    let old = c.args.self.now in
+    let all : length c.self.inside.hands.items ≡ length old.hands = ap (λ (w : Work). length w.hands) c.self.view_is in
     let ok = c.self.inside.hands.ok.0 in
     let far = c.loop-j-test.false in
     let count = c.len-count.ensures in
-    round_done c.loop-j.j c.args.may_cut c.loop-j.moved c.args.self.now c.loop-j.self (omega (arith, all, ok, far, count)) c.loop-j.invariant.only c.loop-j.invariant.round
+    let i = c.loop-j.invariant in
+    round_done c.loop-j.j c.args.may_cut c.loop-j.moved old c.loop-j.self (omega (arith, all, ok, far, count)) i.only (served_all c.loop-j.j old c.loop-j.self (omega (arith, all, ok, far, count)) i.served) i.round

@@ -9,7 +9,7 @@ pub returns-then-is_over-clause-seen_off : goal.returns-then-is_over-clause-seen
 returns-then-is_over-clause-seen_off g c = all_seen_then c.args.self.now c.loop.self c.drain_all-moved.new.self c.loop.invariant.only c.loop.invariant.seen_off c.drain_all-moved.ensures.seen_off
 
 pub returns-then-is_over-clause-served : goal.returns-then-is_over-clause-served
-returns-then-is_over-clause-served g c _ = served_then c.args.self.now c.loop.self c.drain_all-moved.new.self c.loop.invariant.only c.loop.invariant.looked c.drain_all-moved.ensures.served
+returns-then-is_over-clause-served g c _ = served_then c.args.self.now c.loop.self c.drain_all-moved.new.self c.loop.invariant.only c.loop.invariant.looked c.drain_all-moved.ensures.round.served
 
 pub loop-preserved : goal.loop-preserved
 loop-preserved g c =
@@ -21,7 +21,7 @@ loop-preserved g c =
     record {
       only = same_then old mid new i.only all.only;
       seen_off = all_seen_then old mid new i.only i.seen_off all.seen_off;
-      served = λ _. served_then old mid new i.only i.looked all.served;
+      served = λ _. served_then old mid new i.only i.looked all.round.served;
       looked = looked_then old mid new i.only i.looked all.looked;
       rounded = rounds_next c.loop.counter c.loop.since c.last_progress-since.result c.now-moment.result c.time_between-idle.result c.drain_all-moved.result (g.C.Clock.answered c.args.clock.now) (g.C.Clock.answered c.loop.clock) (g.C.Clock.answered c.drain_all-moved.new.clock)
           old mid new i.rounded (record { clock = all.clock ∙ c.now-moment.ensures; idle_is = c.time_between-idle.ensures; round = all.round; since_is = c.last_progress-since.ensures });

@@ -5,7 +5,7 @@ use Rattle.venue_worker.specs.Acts.{Act}
 use Rattle.venue_worker.specs.Work.{Work}
 use Rattle.venue_worker.specs.Calls.{Takes}
 use Rattle.venue_worker.proofs.Moving.{moves_takes}
-use Rattle.venue_worker.proofs.Refusals.{moves_late, take_due, fault_cut, take_unrefused, take_settles, take_others, take_done, take_behind, take_no_memory, take_named, take_stops, take_waits, met_settled, met_done, met_others, set_met, still_unmet, take_unmoved, take_undone, cut_count, met_count}
+use Rattle.venue_worker.proofs.Refusals.{moves_late, take_due, fault_cut, take_unrefused, take_settles, take_others, take_done, take_behind, take_no_memory, take_named, take_stops, take_waits, met_settled, met_done, met_others, set_met, still_unmet, take_counts, take_undone, cut_count, cut_hands, met_hands, met_count}
 use Rattle.venue_worker.proofs.Acting.{acts_one, follows_stop, follows_wait}
 use Rattle.venue_worker.proofs.worker.Worker.take_or_retry.Goals as goal
 
@@ -25,7 +25,8 @@ returns-in-Ok g c =
       others = take_others i t (Ok b) old new d;
       done = take_done i t b old new d;
       had_refusal = λ e. still_unmet old new d.place.had_refusal e;
-      unmoved = take_unmoved i t b old new d;
+      hands = d.place.hands;
+      counts = take_counts i t b old new d;
       acts = acts_one (λ x. x ≡ t) (Act.Looks_at i t) old new (Ok b, new, refl, d, refl);
     }
 
@@ -52,7 +53,8 @@ returns-in-Cut g c =
       others = met_others i t (Err c.in-Err.fault) old mid new d m.2;
       done = met_done i t c.in-Err.fault old mid new d m.2 (ap (λ (w : Work). w.had_refusal) c.note_refusal.ensures);
       had_refusal = λ e. set_met c.cut.new.self new c.note_refusal.ensures e;
-      unmoved = λ e. cut_count c.in-Cut.j mid c.cut.new.self new c.cut.ensures.cuts c.note_refusal.ensures ∙ take_undone i t c.in-Err.fault old mid d;
+      hands = cut_hands c.in-Cut.j mid c.cut.new.self new c.cut.ensures.cuts c.note_refusal.ensures ∙ d.place.hands;
+      counts = cut_count c.in-Cut.j mid c.cut.new.self new c.cut.ensures.cuts c.note_refusal.ensures ∙ take_undone i t c.in-Err.fault old mid d;
       acts = acts_one (λ x. x ≡ t) (Act.Looks_at i t) old new (Err (Behind c.in-Cut.j), mid, refl, subst (λ (z : EventFault). Takes i t (Err z) old mid) f d, (c.cut.new.self, c.cut.ensures.cuts, c.note_refusal.ensures));
     }
 
@@ -73,7 +75,8 @@ returns-in-Wait g c =
       others = met_others i t (Err c.in-Err.fault) old mid new d m.2;
       done = met_done i t c.in-Err.fault old mid new d m.2 (ap (λ (w : Work). w.had_refusal) c.note_refusal-in-Wait.ensures);
       had_refusal = λ e. set_met mid new c.note_refusal-in-Wait.ensures e;
-      unmoved = λ e. met_count mid new c.note_refusal-in-Wait.ensures ∙ take_undone i t c.in-Err.fault old mid d;
+      hands = met_hands mid new c.note_refusal-in-Wait.ensures ∙ d.place.hands;
+      counts = met_count mid new c.note_refusal-in-Wait.ensures ∙ take_undone i t c.in-Err.fault old mid d;
       acts = acts_one (λ x. x ≡ t) (Act.Looks_at i t) old new (Err c.in-Err.fault, mid, refl, d, follows_wait c.in-Err.fault mid new (sym c.in-Wait.ensures) (take_due i t c.in-Err.fault old mid c.requires.settled c.look_at.ensures.kept d) c.note_refusal-in-Wait.ensures);
     }
 
@@ -92,6 +95,7 @@ returns-in-Stop g c =
       others = take_others i t (Err c.in-Err.fault) old new d;
       done = tt;
       had_refusal = λ e. still_unmet old new d.place.had_refusal e;
-      unmoved = tt;
+      hands = d.place.hands;
+      counts = tt;
       acts = acts_one (λ x. x ≡ t) (Act.Looks_at i t) old new (Err c.in-Err.fault, new, refl, d, follows_stop c.in-Err.fault new (sym c.in-Stop.ensures));
     }

@@ -4,7 +4,7 @@ use Rattle.venue_rules.specs.declared.trail.EventFault.TheVariants.{Behind}
 use Rattle.venue_worker.specs.Acts.{Act}
 use Rattle.venue_worker.specs.Calls.{Ticks}
 use Rattle.venue_worker.proofs.Moving.{moves_ticks}
-use Rattle.venue_worker.proofs.Refusals.{ticks_at, tick_due, moves_late, fault_cut, tick_unrefused, tick_falls, tick_settled, tick_behind, tick_no_memory, tick_named, tick_stops, tick_waits, met_settled, not_ticked, tick_unmoved, cut_count, met_count}
+use Rattle.venue_worker.proofs.Refusals.{ticks_at, tick_due, moves_late, fault_cut, tick_unrefused, tick_falls, tick_settled, tick_behind, tick_no_memory, tick_named, tick_stops, tick_waits, met_settled, not_ticked, tick_counts, cut_count, cut_hands, met_hands, met_count}
 use Rattle.venue_worker.proofs.Acting.{acts_one, follows_stop, follows_wait}
 use Rattle.venue_worker.proofs.worker.Worker.tick_or_retry.Goals as goal
 
@@ -20,7 +20,8 @@ returns-in-Ok g c =
       late = moves_late t old new c.requires.late (moves_ticks t (Ok c.in-Ok.ticked) old new c.requires.late d);
       falls = tick_falls t c.in-Ok.ticked old new c.ticks_fall.ensures c.tick.ensures.kept d;
       settled = tick_settled t c.in-Ok.ticked old new d;
-      unmoved = tick_unmoved t c.in-Ok.ticked old new d;
+      hands = d.place.hands;
+      counts = tick_counts t c.in-Ok.ticked old new d;
       acts = acts_one (λ x. x ≡ t) (Act.Ticks_at t) old new (Ok c.in-Ok.ticked, new, refl, d, refl);
     }
 
@@ -44,7 +45,8 @@ returns-in-Cut g c =
       late = moves_late t old new c.requires.late m.0;
       falls = λ e. not_ticked e;
       settled = λ e. met_settled t c.cut.new.self new c.note_refusal.ensures;
-      unmoved = λ e. cut_count c.in-Cut.j mid c.cut.new.self new c.cut.ensures.cuts c.note_refusal.ensures ∙ d.ticked.unanswered.count;
+      hands = cut_hands c.in-Cut.j mid c.cut.new.self new c.cut.ensures.cuts c.note_refusal.ensures ∙ d.place.hands;
+      counts = cut_count c.in-Cut.j mid c.cut.new.self new c.cut.ensures.cuts c.note_refusal.ensures ∙ d.ticked.unanswered.count;
       acts = acts_one (λ x. x ≡ t) (Act.Ticks_at t) old new (Err (Behind c.in-Cut.j), mid, refl, d, (c.cut.new.self, c.cut.ensures.cuts, c.note_refusal.ensures));
     }
 
@@ -62,7 +64,8 @@ returns-in-Wait g c =
       late = moves_late t old new c.requires.late m.0;
       falls = λ e. not_ticked e;
       settled = λ e. met_settled t mid new c.note_refusal-in-Wait.ensures;
-      unmoved = λ e. met_count mid new c.note_refusal-in-Wait.ensures ∙ d.ticked.unanswered.count;
+      hands = met_hands mid new c.note_refusal-in-Wait.ensures ∙ d.place.hands;
+      counts = met_count mid new c.note_refusal-in-Wait.ensures ∙ d.ticked.unanswered.count;
       acts = acts_one (λ x. x ≡ t) (Act.Ticks_at t) old new (Err c.in-Err.fault, mid, refl, d, follows_wait c.in-Err.fault mid new (sym c.in-Wait.ensures) (tick_due t c.in-Err.fault old mid d) c.note_refusal-in-Wait.ensures);
     }
 
@@ -78,6 +81,7 @@ returns-in-Stop g c =
       late = moves_late t old new c.requires.late (moves_ticks t (Err c.in-Err.fault) old new c.requires.late d);
       falls = tt;
       settled = tt;
-      unmoved = tt;
+      hands = d.place.hands;
+      counts = tt;
       acts = acts_one (λ x. x ≡ t) (Act.Ticks_at t) old new (Err c.in-Err.fault, new, refl, d, follows_stop c.in-Err.fault new (sym c.in-Stop.ensures));
     }
