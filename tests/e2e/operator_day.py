@@ -446,7 +446,8 @@ def refusals(part):
             ("0", f"{head}34=1|", {"cause": "not_logon"}),
             ("A", f"49=NOBODY|56=SEF|34=1|{logon}", {"cause": "wrong_comp_id"}),
             ("A", f"{head}34=1|98=0|108=30|1137=8|", {"cause": "bad_logon", "reason": "5", "tag": "1137"}),
-            ("A", f"{head}{logon}", {"cause": "bad_logon", "reason": "1", "tag": "34"}),
+            ("A", f"{head}{logon}", {"cause": "no_sequence_number"}),
+            ("A", "49=NOBODY|56=SEF|34=1|98=1|108=30|1137=9|", {"cause": "wrong_comp_id"}),
             ("A", f"{head}34=2|{logon}141=Y|", {"cause": "reset_refused"}),
         ]
         for kind, fields, keys in cases:

@@ -3,6 +3,7 @@ ghost use Rattle.std.specs.Prelude.{◌≡◌, ◌≤◌, ◌*◌, ◌<◌, ◌+
 
 use mio::{Events, Poll, Registry, Token, Waker};
 use std::alloc::{AllocError, Global};
+use std::cmp::min;
 use std::net::Net;
 use std::sync::atomic::{AtomicU64, Ordering};
 use std::sync::{Arc, Wait};
@@ -110,6 +111,7 @@ impl AwakeThreads {
 fn share(looks: u64, awake: u64, processors: u64) -> u64
     ensures all { awake ≤ processors → result ≡ looks }
     ensures none { processors < awake → 3 * processors ≤ awake → result ≡ 0 }
+    ensures part { result ≤ looks }
 {
     let crowd = processors.saturating_mul(CROWD);
     if awake <= processors {
@@ -118,7 +120,11 @@ fn share(looks: u64, awake: u64, processors: u64) -> u64
     if awake >= crowd {
         return 0;
     }
-    looks.saturating_mul(crowd - awake) / (crowd - processors)
+    // (the product may saturate)
+    min(
+        looks.saturating_mul(crowd - awake) / (crowd - processors),
+        looks,
+    )
 }
 
 // The threads that are to be awake together: the worker, and sessions enough to keep the other processors at work while
