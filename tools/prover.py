@@ -16,9 +16,10 @@ CANNOT_READ = re.compile(r"is not in scope|has no field|is no name|operand is mi
 STALE = re.compile(r"module .Rattle-(\w+)-.*Run the lower steps again")
 
 
-def command(crate, uses, kept):
+def command(crate, uses, kept, only=()):
     """The check of the crate whose parts are in the current folder, by the command that rt ci uses: over the libraries
-    in crates/*/out/rlib, at one job, over the work that earlier checks kept, to which it adds its own."""
+    in crates/*/out/rlib, at one job, over the work that earlier checks kept, to which it adds its own. With `only` of
+    these functions, and of those that they call."""
     kit = os.path.dirname(os.path.dirname(os.path.realpath(shutil.which("rt"))))
     top = "main" if os.path.isfile(f"{folder_of(crate)}/src/main.rt") else "lib"
     words = [f"{kit}/bin/rattle", "check", "--crate-name", crate, f"src/{top}.rt"]
@@ -28,7 +29,8 @@ def command(crate, uses, kept):
     for library in crates_below(crate, uses):
         words += ["-L", f"dependency={os.path.dirname(library_of(library))}"]
     words += ["--antt-project", f"{kit}/rattle/logic/antt-project.json", "--logic-built", f"{kit}/logic_built"]
-    return [*words, "--links", f"{crate}=", "--jobs", "1", "--incremental", kept]
+    words += ["--links", f"{crate}=", "--jobs", "1", "--incremental", kept]
+    return words + [word for name in only for word in ("--only", name.partition("::")[2])]
 
 
 def write_edited_copy(crate, edits, folder):
@@ -46,19 +48,25 @@ def write_edited_copy(crate, edits, folder):
             it.write(text)
 
 
-def ask(crate, uses, kept, edits):
-    """The prover's answer about the crate with these edits."""
+class Killed(Exception):
+    """The prover was killed, most likely for lack of memory."""
+
+
+def ask(crate, uses, kept, edits, only=()):
+    """The prover's answer about the crate with these edits, or about these functions of it alone."""
     with tempfile.TemporaryDirectory(prefix="mutants-") as folder:
         write_edited_copy(crate, edits, folder)
         how = {"cwd": folder, "stdin": subprocess.DEVNULL, "stdout": subprocess.PIPE, "stderr": subprocess.STDOUT}
-        ran = subprocess.run(command(crate, uses, kept), errors="replace", check=False, **how)
+        ran = subprocess.run(command(crate, uses, kept, only), errors="replace", check=False, **how)
+    if ran.returncode < 0:
+        raise Killed(f"{crate}: NOT TRIED: the prover was killed by signal {-ran.returncode}")
     return Answer(ran.returncode, ran.stdout)
 
 
 class Answer:
-    """The prover's answer about a crate.
+    """The prover's answer about a crate, or about some of its functions.
 
-    is_proved    the crate is proved
+    is_proved    the crate is proved, or these functions
     was_read     it is not, and all of it was read; where neither holds, `stopped` is the line with the reason
     refused      the functions that it refuses for more than that functions which they call are not proved
     at_goals     those of them that it refuses at a goal, and not only since a proof file names what is gone, or lacks
@@ -72,8 +80,8 @@ class Answer:
         last = output.rstrip("\n").rpartition("\n")[2]
         unread = [f"{file}: {error}" for file, error in self.errors if is_unread(file, error)]
         stale = ["the kept work of a library could not be used"] if STALE.search(output) else []
-        self.is_proved = status == 0 and last.startswith("logic=proved")
-        self.was_read = status == 1 and last.startswith("logic=not-proved") and not unread and not stale
+        self.is_proved = status == 0 and bool(re.match(r"logic=proved|only=(\d+) proved=\1$", last))
+        self.was_read = status == 1 and bool(re.match("logic=not-proved|only=", last)) and not unread and not stale
         self.stopped = [*stale, *unread, last][0][:200]
         lines = re.findall(r"(?m)^(?:fn|struct|enum|impl|trait) (\S+): (.*)$", output)
         self.refused = [name for name, verdict in lines if reasons_of(verdict)]

@@ -25,12 +25,14 @@ class Change:
 @dataclass(frozen=True)
 class Edit:
     """A mutant. `fault` is why it cannot be applied; `function` is the one whose body has all its changes, by the
-    prover's name, or None for an edit of a constant, a clause, a definition or several functions."""
+    prover's name, or None for an edit of a constant, a clause, a definition or several functions; `refuser` is the
+    function whose proof it says to break."""
 
     label: str
     changes: tuple = ()
     function: str = None
     fault: str = None
+    refuser: str = None
 
     def goes_with(self, others):
         """Whether it can be tried together with these: each in a function of its own, and none in the text of
@@ -115,13 +117,15 @@ def read_edit(crate, file):
     """The edit of a file of the crate's folder of edits."""
     label = f"{crate}/{os.path.basename(file)}"
     try:
-        changes = tuple(change_of(crate, *pair) for pair in pairs_of(text_of(file)))
+        text = text_of(file)
+        changes = tuple(change_of(crate, *pair) for pair in pairs_of(text))
         for at, change in enumerate(changes):
             if any(change.meets(other) for other in changes[:at]):
                 raise BadEdit(f"two of its pairs change the same text in {change.path}")
     except (BadEdit, UnicodeDecodeError) as fault:
         return Edit(label, fault=str(fault))
-    return Edit(label, changes, function_of(crate, changes))
+    refuser = re.search(r"(?m)^in: (\S+)$", text)
+    return Edit(label, changes, function_of(crate, changes), refuser=refuser and f"{crate}::{refuser[1]}")
 
 
 def edits_of(crate):

@@ -1,4 +1,5 @@
 """The mutation runner: which mutants are tried at once, and what the prover's answer means for each."""
+import functools
 import os
 import shutil
 import tempfile
@@ -35,7 +36,7 @@ def verdicts_of_group(group, answer):
     return {edit: f"refused: {edit.function}" for edit in group if at_goal(edit)}
 
 
-def verdict_alone(answer):
+def verdict_of_answer(answer):
     """The verdict that the answer to one edit gives."""
     if answer.is_proved:
         return "NOT REFUSED: the crate is still proved with this edit"
@@ -48,21 +49,32 @@ def verdict_alone(answer):
 
 def verdicts_of(edits, groups, is_proved, ask_with):
     """The verdict on each edit, and the number of those that were tried alone. `ask_with` asks the prover about the
-    crate with some edits. Nothing is a refusal where the crate without edits is not proved: that is asked first, unless
-    it was proved just before, and always before an edit is tried alone."""
-    whole = None if is_proved else ask_with([])
-    verdicts = {}
-    if not whole or whole.is_proved:
-        for group in groups:
-            verdicts.update(verdicts_of_group(group, ask_with(group)))
-    alone = [edit for edit in edits if edit not in verdicts]
-    if alone and not whole:
-        whole = ask_with([])
-    for edit in alone:
+    crate with some edits, or about some of its functions. Nothing is a refusal where what is asked about is not proved
+    without edits: that is asked first, unless the crate was proved just before, and always before an edit is tried
+    alone."""
+    functions_of = lambda some: tuple(sorted({edit.function for edit in some}))
+    functions = functions_of(sum(groups, []))
+    without = functools.cache(lambda only: ask_with([], only))
+
+    def verdict_by(edit, only, before):
+        whole = without(before)
         if whole.is_proved:
-            verdicts[edit] = verdict_alone(ask_with([edit]))
-        else:
-            verdicts[edit] = f"NOT TRIED: the crate without edits is not proved: {whole.first}"
+            return verdict_of_answer(ask_with([edit], only))
+        return f"NOT TRIED: it is not proved without edits: {whole.first}"
+
+    def verdict_alone(edit):
+        # (by its function, or by the one that it names, and where that stands by the whole crate)
+        if edit.function:
+            return verdict_by(edit, (edit.function,), functions)
+        named = verdict_by(edit, (edit.refuser,), (edit.refuser,)) if edit.refuser else ""
+        return named if named.startswith("refused") else verdict_by(edit, (), ())
+
+    verdicts = {}
+    if is_proved or not groups or without(functions).is_proved:
+        for group in groups:
+            verdicts.update(verdicts_of_group(group, ask_with(group, functions_of(group))))
+    alone = [edit for edit in edits if edit not in verdicts]
+    verdicts.update({edit: verdict_alone(edit) for edit in alone})
     return verdicts, len(alone)
 
 
@@ -79,7 +91,7 @@ def try_crate(crate, uses, is_quick, is_proved):
             shutil.copytree(before, kept)
         else:
             os.mkdir(kept)
-        verdicts, alone = verdicts_of(good, groups, is_proved, lambda some: ask(crate, uses, kept, some))
+        verdicts, alone = verdicts_of(good, groups, is_proved, lambda *asked: ask(crate, uses, kept, *asked))
     verdicts.update({edit: f"BAD EDIT: {edit.fault}" for edit in edits if edit.fault})
     refused = sum(verdicts[edit].startswith("refused") for edit in edits)
     how = f"{len(groups)} group{'s' * (len(groups) != 1)}, {alone} alone, {minutes_since(began)}"
