@@ -1,10 +1,14 @@
 -- The evidence for a trade.
-use Rattle.std.proofs.Common.{◌≡◌, ℕ, zero, suc, ◌+◌, ◌-◌, ◌==◌, true, false, if◌then◌else◌, List, [], ◌∷◌, ◌++◌, codes, map, length, slice_get, Option, Some, None, Result, Ok, Err, refl, sym, ap, subst, ◌∙◌, eq-eqb, ne_eqb, arith}
+use Rattle.std.proofs.Common.{◌≡◌, ◌⊎◌, inl, inr, ℕ, zero, suc, ◌+◌, ◌-◌, ◌<◌, ◌==◌, true, false, if◌then◌else◌, List, [], ◌∷◌, ◌++◌, codes, map, length, slice_get, take, Option, Some, None, Result, Ok, Err, refl, sym, ap, subst, ◌∙◌, eq-eqb, ne_eqb, arith}
+use Rattle.std.proofs.KnownBytes.{Appends-trans}
 use Rattle.std.proofs.lemmas.List.{length-map}
 use Rattle.std.specs.List.{flat_map}
 use Rattle.std.specs.Bool.{⊤}
 use Rattle.std.specs.Result.{IfErr, IsErrAnd}
 use Rattle.std.specs.Io.KnownBytes.{Appends, Keeps}
+use Rattle.trade_blotter.specs.declared.printing.PrintFault.{PrintFault}
+use Rattle.trade_blotter.specs.declared.printing.PrintFault.TheVariants as print
+use Rattle.trade_blotter.specs.Printing.{AppendsSome}
 use Rattle.venue_rules.specs.declared.trail.TradeFact.{TradeFact}
 use Rattle.venue_rules.specs.declared.trail.TrailRow.{TrailRow}
 use Rattle.venue_rules.specs.Facts.{History}
@@ -23,7 +27,7 @@ use Rattle.trade_reconstruction.specs.declared.trade_notes.TradeNotes.{TradeNote
 use Rattle.trade_reconstruction.specs.Lines.{evidence}
 use Rattle.trade_reconstruction.specs.NoteLines.{fate_lines}
 use Rattle.trade_reconstruction.specs.Standing.{is_watched}
-use Rattle.trade_reconstruction.specs.Emitted.{AreJoined, AreOf, EmitsTrade, EmitsTrades, HasNoTrade, IsEvidence, IsEvidenceIn, IsHeard, UnlessWriting, behind, evidence_by, fates_for, joined, numbered_in, stood_for, trade_numbered, words_emitted}
+use Rattle.trade_reconstruction.specs.Emitted.{AreEvidences, AreOf, BeginsJoined, BeginsTrades, EmitsTrade, EmitsTrades, HasNoTrade, IsEvidence, IsEvidenceIn, IsHeard, UnlessWriting, behind, evidence_behind, evidence_by, fates_for, joined, numbered_in, stood_for, trade_numbered, words_emitted}
 use Rattle.trade_reconstruction.proofs.Members.{none_is_some, same_some}
 
 -- rows of inputs record these inputs
@@ -82,32 +86,64 @@ numbered_next ts k = (λ j. if above k j then None else slice_get ts (before k j
     before : (k : ℕ) → k + 1 - 1 ≡ k
     before k = omega arith
 
--- texts behind a line each
-pub behind_map : (f : TradeFact → List ℕ) (ts : List TradeFact) → flat_map (λ t. codes "\n" ++ f t) ts ≡ behind (map f ts)
-behind_map f [] = refl
-behind_map f (t ∷ ts) = ap (λ l. (codes "\n" ++ f t) ++ l) (behind_map f ts)
-
--- of every trade
-pub all_emitted : EmitTheirInputs → RoomTradesHaveRequests → BookTradesHaveOrders → TradesHaveRows → (m : Market) (rs : List TrailRow) (s : State) (words : List EvidenceEvent) (ended : List Ended) (notes : List TradeNotes) (trades : List TradeFact) (text : List ℕ)
-    → IsHeard m None rs s words ended notes → ((h : History) → IsHistory s h → trades ≡ trade_facts h.facts) → text ≡ joined (map (λ t. evidence_by s.market rs words notes t) trades) → AreJoined m rs text
-all_emitted law requests orders rows_made m rs s words ended notes trades text heard listed is =
+-- the evidences for every trade
+all_evidences : EmitTheirInputs → RoomTradesHaveRequests → BookTradesHaveOrders → TradesHaveRows → (m : Market) (rs : List TrailRow) (s : State) (words : List EvidenceEvent) (ended : List Ended) (notes : List TradeNotes) (trades : List TradeFact)
+    → IsHeard m None rs s words ended notes → ((h : History) → IsHistory s h → trades ≡ trade_facts h.facts) → AreEvidences m rs (map (evidence_by s.market rs words notes) trades)
+all_evidences law requests orders rows_made m rs s words ended notes trades heard listed =
     let laws : Laws = (requests, orders, rows_made) in
-    let of_trade : TradeFact → List ℕ = λ t. evidence_by s.market rs words notes t in
+    let of_trade : TradeFact → List ℕ = evidence_by s.market rs words notes in
     let h = (run m heard.items).history in
     let are : trades ≡ trade_facts h.facts = listed h heard.stands.history in
     record {
-      texts = map of_trade trades;
-      evidences = record {
-        items = heard.items;
-        emitted = are_of law rs heard.items heard.emitted;
-        all = length-map trades of_trade ∙ ap (λ (ts : List TradeFact). length ts) are;
-        each = λ k one there.
-            let t = slice_of_map of_trade trades k one there in
-            let found : trade_numbered h (k + 1) ≡ Some t.0 = numbered_next (trade_facts h.facts) k ∙ (ap (λ (ts : List TradeFact). slice_get ts k) (sym are) ∙ t.1) in
-            evidence_in laws m rs None s words ended notes (k + 1) t.0 one heard refl found (own_number laws m rs heard.items (k + 1) t.0 heard.emitted found) (sym t.2);
-      };
-      is = is;
+      items = heard.items;
+      emitted = are_of law rs heard.items heard.emitted;
+      all = length-map trades of_trade ∙ ap (λ (ts : List TradeFact). length ts) are;
+      each = λ k one there.
+          let t = slice_of_map of_trade trades k one there in
+          let found : trade_numbered h (k + 1) ≡ Some t.0 = numbered_next (trade_facts h.facts) k ∙ (ap (λ (ts : List TradeFact). slice_get ts k) (sym are) ∙ t.1) in
+          evidence_in laws m rs None s words ended notes (k + 1) t.0 one heard refl found (own_number laws m rs heard.items (k + 1) t.0 heard.emitted found) (sym t.2);
     }
+
+-- all were written
+pub all_emitted : EmitTheirInputs → RoomTradesHaveRequests → BookTradesHaveOrders → TradesHaveRows → (m : Market) (rs : List TrailRow) (s : State) (words : List EvidenceEvent) (ended : List Ended) (notes : List TradeNotes) (trades : List TradeFact) (before after : Option (List ℕ))
+    → IsHeard m None rs s words ended notes → ((h : History) → IsHistory s h → trades ≡ trade_facts h.facts) → Appends before after (joined (map (evidence_by s.market rs words notes) trades)) → EmitsTrades m rs before after
+all_emitted law requests orders rows_made m rs s words ended notes trades before after heard listed written = record {
+  texts = map (evidence_by s.market rs words notes) trades;
+  evidences = all_evidences law requests orders rows_made m rs s words ended notes trades heard listed;
+  written = written;
+}
+
+first_written : (m : Market) (rs : List TrailRow) (texts : List (List ℕ)) (before after : Option (List ℕ)) → AreEvidences m rs texts → BeginsJoined before after texts → BeginsTrades m rs before after
+first_written m rs texts before after evidences (inl kept) = inl kept
+first_written m rs texts before after evidences (inr first) = inr (record { texts = texts; evidences = evidences; count = suc first.0; some = omega arith; few = first.1; written = first.2 })
+
+-- or the first of them
+pub all_begun : EmitTheirInputs → RoomTradesHaveRequests → BookTradesHaveOrders → TradesHaveRows → (m : Market) (rs : List TrailRow) (s : State) (words : List EvidenceEvent) (ended : List Ended) (notes : List TradeNotes) (trades : List TradeFact) (before after : Option (List ℕ))
+    → IsHeard m None rs s words ended notes → ((h : History) → IsHistory s h → trades ≡ trade_facts h.facts) → BeginsJoined before after (map (evidence_by s.market rs words notes) trades) → BeginsTrades m rs before after
+all_begun law requests orders rows_made m rs s words ended notes trades before after heard listed =
+    first_written m rs (map (evidence_by s.market rs words notes) trades) before after (all_evidences law requests orders rows_made m rs s words ended notes trades heard listed)
+
+-- texts behind a line each
+behind_map : (f : TradeFact → List ℕ) (ts : List TradeFact) → flat_map (λ t. codes "\n" ++ f t) ts ≡ behind (map f ts)
+behind_map f [] = refl
+behind_map f (t ∷ ts) = ap (λ l. (codes "\n" ++ f t) ++ l) (behind_map f ts)
+
+take_map : (f : TradeFact → List ℕ) (k : ℕ) (ts : List TradeFact) → map f (take k ts) ≡ take k (map f ts)
+take_map f zero ts = refl
+take_map f (suc k) [] = refl
+take_map f (suc k) (t ∷ ts) = ap (λ l. f t ∷ l) (take_map f k ts)
+
+-- the first text, and all behind it
+pub first_joined : (f : TradeFact → List ℕ) (t : TradeFact) (ts : List TradeFact) (before between after : Option (List ℕ)) → Appends before between (f t) → Appends between after (flat_map (λ t. codes "\n" ++ f t) ts) → Appends before after (joined (map f (t ∷ ts)))
+first_joined f t ts before between after one rest =
+    subst (λ (l : List ℕ). Appends before after (f t ++ l)) (behind_map f ts) (Appends-trans before between after (f t) (flat_map (λ t. codes "\n" ++ f t) ts) one rest)
+
+-- or some
+pub first_begun : (f : TradeFact → List ℕ) (t : TradeFact) (ts : List TradeFact) (before between after : Option (List ℕ)) → Appends before between (f t) → AppendsSome between after (λ t. codes "\n" ++ f t) ts → BeginsJoined before after (map f (t ∷ ts))
+first_begun f t ts before between after one some =
+    let k = some.0 in
+    let low : suc k < suc (length (map f ts)) = omega (arith, some.1, length-map ts f) in
+    inr (k, low, subst (λ (l : List (List ℕ)). Appends before after (f t ++ behind l)) (take_map f k ts) (first_joined f t (take k ts) before between after one some.2))
 
 pub no_trade : EmitTheirInputs → (m : Market) (rs : List TrailRow) (s : State) (words : List EvidenceEvent) (ended : List Ended) (notes : List TradeNotes) (number : ℕ) → IsHeard m (Some number) rs s words ended notes
     → ((h : History) → IsHistory s h → None ≡ trade_numbered h number) → HasNoTrade m rs number
@@ -115,14 +151,6 @@ no_trade law m rs s words ended notes number heard numbered = record {
   items = heard.items;
   emitted = are_of law rs heard.items heard.emitted;
   none = sym (numbered (run m heard.items).history heard.stands.history);
-}
-
--- all texts were written
-pub all_written : (m m' : Market) (rs : List TrailRow) (items text : List ℕ) (before after : Option (List ℕ)) → m ≡ m' → text ≡ items → AreJoined m rs items → Appends before after text → EmitsTrades m' rs before after
-all_written m m' rs items text before after same is found written = record {
-  text = text;
-  all = subst (λ (n : Market). AreJoined n rs text) same (subst (AreJoined m rs) (sym is) found);
-  written = written;
 }
 
 -- the text was written
@@ -165,3 +193,7 @@ unwritten_alone (Err fault) P h p = not_writing fault P p
 pub output_writing : {A : Type 0} (r : Result A EvidenceFault) (P : Type 0) → IfErr r (λ fault. fault ≡ Output) → IfErr r (λ fault. UnlessWriting fault P)
 output_writing (Ok x) P h = tt
 output_writing (Err fault) P h = subst (λ (f : EvidenceFault). UnlessWriting f P) (sym h) tt
+
+pub memory_weaker : {A : Type 0} (r : Result A PrintFault) (P Q : Type 0) → (P → Q) → IfErr r (λ fault. fault ≡ print.Memory → P) → IfErr r (λ fault. fault ≡ print.Memory → Q)
+memory_weaker (Ok x) P Q f h = tt
+memory_weaker (Err fault) P Q f h = λ e. f (h e)

@@ -1,7 +1,7 @@
 -- The events of a day, row by row, and the evidence for one of its trades, or for all.
-use Rattle.std.specs.Prelude.{◌≡◌, ℕ, ◌+◌, ◌-◌, ◌==◌, true, List, [], ◌∷◌, ◌++◌, Option, None, Some, codes, length, slice_get, if◌then◌else◌, ⊤}
+use Rattle.std.specs.Prelude.{◌≡◌, ◌⊎◌, ℕ, suc, ◌+◌, ◌-◌, ◌<◌, ◌==◌, true, List, [], ◌∷◌, ◌++◌, Option, None, Some, codes, length, slice_get, take, if◌then◌else◌, ⊤}
 use Rattle.std.specs.List.{flat_map}
-use Rattle.std.specs.Io.KnownBytes.{Appends}
+use Rattle.std.specs.Io.KnownBytes.{Appends, Keeps}
 use Rattle.instruments.specs.declared.instruments.Instrument.{Instrument}
 use Rattle.venue_rules.specs.declared.trail.Taken.{Taken}
 use Rattle.venue_rules.specs.declared.trail.TradeFact.{TradeFact}
@@ -153,6 +153,10 @@ pub record IsEvidence (m : Market) (rs : List TrailRow) (number : ℕ) (text : L
 abbrev pub evidence_by : Market → List TrailRow → List EvidenceEvent → List TradeNotes → TradeFact → List ℕ
 evidence_by m rs words notes t = evidence m rs words (stood_for t.number notes) (fate_lines (fates_for t.number notes)) t
 
+-- behind an empty line
+abbrev pub evidence_behind : Market → List TrailRow → List EvidenceEvent → List TradeNotes → TradeFact → List ℕ
+evidence_behind m rs words notes t = codes "\n" ++ evidence_by m rs words notes t
+
 -- Texts are the evidences for all trades of that run, from the first to the last.
 pub record AreEvidences (m : Market) (rs : List TrailRow) (texts : List (List ℕ)) : Type 0 where
   pub items : List Input
@@ -169,17 +173,28 @@ abbrev pub joined : List (List ℕ) → List ℕ
 joined [] = codes "no trades\n"
 joined (text ∷ texts) = text ++ behind texts
 
--- a text is all evidences, one after the other
-pub record AreJoined (m : Market) (rs : List TrailRow) (text : List ℕ) : Type 0 where
+-- what was written is all evidences, one after the other, and nothing else
+pub record EmitsTrades (m : Market) (rs : List TrailRow) (before after : Option (List ℕ)) : Type 0 where
   pub texts : List (List ℕ)
   pub evidences : AreEvidences m rs texts
-  pub is : text ≡ joined texts
+  pub written : Appends before after (joined texts)
 
--- what was written is all evidences, and nothing else
-pub record EmitsTrades (m : Market) (rs : List TrailRow) (before after : Option (List ℕ)) : Type 0 where
-  pub text : List ℕ
-  pub all : AreJoined m rs text
-  pub written : Appends before after text
+-- nothing was written, or the first of these texts, not all of them, each whole
+abbrev pub BeginsJoined : Option (List ℕ) → Option (List ℕ) → List (List ℕ) → Type 0
+BeginsJoined before after texts = Keeps before after ⊎ ((k : ℕ) × (suc k < length texts) × Appends before after (joined (take (suc k) texts)))
+
+-- the evidences for the first trades of that run were written, not for all, each whole
+pub record BeginsEvidences (m : Market) (rs : List TrailRow) (before after : Option (List ℕ)) : Type 0 where
+  pub texts : List (List ℕ)
+  pub evidences : AreEvidences m rs texts
+  pub count : ℕ
+  pub some : 0 < count
+  pub few : count < length texts
+  pub written : Appends before after (joined (take count texts))
+
+-- nothing, or these
+abbrev pub BeginsTrades : Market → List TrailRow → Option (List ℕ) → Option (List ℕ) → Type 0
+BeginsTrades m rs before after = Keeps before after ⊎ BeginsEvidences m rs before after
 
 -- what was written is the evidence for this trade, and nothing else
 pub record EmitsTrade (m : Market) (rs : List TrailRow) (number : ℕ) (before after : Option (List ℕ)) : Type 0 where
