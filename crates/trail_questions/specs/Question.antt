@@ -5,7 +5,7 @@ use Rattle.venue_rules.specs.Market.{Market}
 use Rattle.day_page.specs.Printed.{EmitsPage}
 use Rattle.trail_digest.specs.Trail.{Trail}
 use Rattle.refusal_causes.specs.Printed.{EmitsWhy}
-use Rattle.trade_reconstruction.specs.Emitted.{EmitsTrade, EmitsTrades}
+use Rattle.trade_reconstruction.specs.Emitted.{EmitsTrade}
 use Rattle.trade_table.specs.Table.{BeginsTable, EmitsTable}
 use Rattle.trail_questions.specs.declared.fault.Unknown.{Unknown}
 use Rattle.trail_questions.specs.declared.question.Question.{Question}
@@ -19,7 +19,7 @@ use Rattle.trail_questions.specs.Book.{EmitsBookAfter, IsUnknownBook, book_head}
 use Rattle.trail_questions.specs.Headed.{Under, head_form}
 use Rattle.trail_questions.specs.Digest.{EmitsDigest, IsUnknownRow}
 use Rattle.trail_questions.specs.Ending.{IsNever}
-use Rattle.trail_questions.specs.Evidence.{IsUnknownTrade}
+use Rattle.trail_questions.specs.Evidence.{BeginsEvidences, EmitsEvidences, IsUnknownTrade}
 use Rattle.trail_questions.specs.Rests.{EmitsRestsAfter, IsUnknownRests}
 use Rattle.trail_questions.specs.Why.{IsUnknownWhy}
 
@@ -31,14 +31,14 @@ EmitsAnswer (Activity desk form) m trail before after = EmitsActivityOf desk for
 EmitsAnswer (Digest row) m trail before after = EmitsDigest trail row before after
 EmitsAnswer Page m trail before after = EmitsPage m trail before after
 EmitsAnswer (Evidence number) m trail before after = EmitsTrade m trail.rows number before after
-EmitsAnswer Evidences m trail before after = EmitsTrades m trail.rows before after
+EmitsAnswer Evidences m trail before after = EmitsEvidences m trail before after
 EmitsAnswer (Why number) m trail before after = EmitsWhy m trail.rows number before after
 EmitsAnswer (Book b form) m trail before after = EmitsBookAfter b form m trail.rows before after
 EmitsAnswer (Rests r form) m trail before after = EmitsRestsAfter r form m trail.rows before after
 EmitsAnswer (Answers n form) m trail before after = EmitsNarrowed n form m trail before after
 
--- or a first part of it; of evidence, a cause, a book, what rests, figures, a digest or a page nothing is written
--- before all is made
+-- or a first part of it; of the evidence for one trade, a cause, a book, what rests, figures, a digest or a page nothing
+-- is written before all is made
 abbrev pub BeginsAnswer : Question → Market → Trail → (before after : Option (List ℕ)) → Type 0
 BeginsAnswer Table m trail before after = BeginsTable m trail.rows before after
 BeginsAnswer (Against desk log) m trail before after = ⊥
@@ -46,7 +46,7 @@ BeginsAnswer (Activity desk form) m trail before after = ⊥
 BeginsAnswer (Digest row) m trail before after = ⊥
 BeginsAnswer Page m trail before after = ⊥
 BeginsAnswer (Evidence number) m trail before after = ⊥
-BeginsAnswer Evidences m trail before after = ⊥
+BeginsAnswer Evidences m trail before after = BeginsEvidences m trail before after
 BeginsAnswer (Why number) m trail before after = ⊥
 BeginsAnswer (Book b form) m trail before after = ⊥
 BeginsAnswer (Rests r form) m trail before after = ⊥
@@ -80,10 +80,9 @@ IsUnknownAsked (Book b form) m trail what = IsUnknownBook b m trail.rows what
 IsUnknownAsked (Rests r form) m trail what = IsUnknownRests r m trail.rows what
 IsUnknownAsked (Answers n form) m trail what = IsUnknownAnswer n m trail.rows what
 
--- the head above an answer that is made whole before it is written
+-- the head above an answer that is made whole before it is written; others have none, or write their own
 abbrev pub head_of : Question → Option HeadForm
 head_of (Evidence number) = Some Line
-head_of Evidences = Some Line
 head_of (Why number) = Some Line
 head_of (Against desk log) = Some Line
 head_of (Activity desk form) = activity_head form
@@ -91,6 +90,7 @@ head_of (Book b form) = book_head form
 head_of (Rests r form) = book_head form
 head_of (Answers n form) = if is_sought n then head_form form else None
 head_of Table = None
+head_of Evidences = None
 head_of (Digest row) = None
 head_of Page = None
 

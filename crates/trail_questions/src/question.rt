@@ -65,8 +65,7 @@ fn head_of(question: &Question<'_>) -> Option<HeadForm>
     ensures { result ≡ head_of question.now }
 {
     match question {
-        Question::Evidence(_) | Question::Evidences | Question::Why(_) | Question::Against(_, _) =>
-            Some(HeadForm::Line),
+        Question::Evidence(_) | Question::Why(_) | Question::Against(_, _) => Some(HeadForm::Line),
         Question::Book(_, form) | Question::Rests(_, form) => book_head(*form),
         Question::Activity(_, form) => activity_head(*form),
         Question::Answers(narrowing, form) => {
@@ -76,7 +75,7 @@ fn head_of(question: &Question<'_>) -> Option<HeadForm>
                 None
             }
         }
-        Question::Table | Question::Digest(_) | Question::Page => None,
+        Question::Table | Question::Evidences | Question::Digest(_) | Question::Page => None,
     }
 }
 
@@ -103,7 +102,7 @@ fn print_answer<W: Write>(
             print_evidence_for(alloc, participants, instruments, rows, *number, writer)
         }
         Question::Evidences => {
-            print_evidence_for_all(alloc, participants, instruments, rows, writer)
+            print_evidence_for_all(alloc, participants, instruments, trail, writer)
         }
         Question::Why(number) => {
             print_why_at(alloc, participants, instruments, rows, *number, writer)
