@@ -1,6 +1,6 @@
 """Times each mode of sef_replay, and Python's sqlite3 over the same rows, alternately.
 
-usage: report.py [--prepare] [--minutes N] PROGRAM FOLDER ROWS..
+usage: report.py [--prepare] [--minutes N] [--rounds N] PROGRAM FOLDER ROWS..
 """
 
 import argparse
@@ -96,10 +96,10 @@ def prepare(program, folder, rows):
     return files
 
 
-def measured(program, files, rows, deadline):
+def measured(program, files, rounds, deadline):
     """Of each mode what each round took, and of Python's sqlite3; no sample begins after the deadline."""
     found, peer = {mode: [] for mode in MODES}, []
-    for _ in range(5 if rows <= 100_000 else 3):
+    for _ in range(rounds):
         if time.monotonic() < deadline:
             peer.append(read_by_sqlite(files["TRAIL"]))
         for mode, words in MODES.items():
@@ -122,6 +122,7 @@ def main():
     parser = argparse.ArgumentParser()
     parser.add_argument("--prepare", action="store_true")
     parser.add_argument("--minutes", type=float, default=float("inf"))
+    parser.add_argument("--rounds", type=int, default=5)
     parser.add_argument("program")
     parser.add_argument("folder")
     parser.add_argument("rows", type=int, nargs="+")
@@ -133,7 +134,8 @@ def main():
     print("| Rows | Mode | Seconds | Rows/s | Of a bare replay | Peak MB | Printed bytes |")
     print("|---|---|---|---|---|---|---|")
     for rows in args.rows:
-        found, peer = measured(args.program, files[rows], rows, deadline)
+        rounds = min(args.rounds, 5 if rows <= 100_000 else 3)
+        found, peer = measured(args.program, files[rows], rounds, deadline)
         bare = [it[0] for it in found[BARE] or []]
         for mode, taken in found.items():
             taken = taken or []
