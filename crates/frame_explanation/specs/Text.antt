@@ -1,5 +1,5 @@
 -- The text of an explanation.
-use Rattle.std.specs.Prelude.{ℕ, ◌-◌, ◌==◌, nat_lt, if◌then◌else◌, Bool, true, false, List, [], ◌∷◌, ◌++◌, length, Option, Some, None, codes, decimal}
+use Rattle.std.specs.Prelude.{ℕ, ◌-◌, ◌==◌, nat_lt, bytes_eq, if◌then◌else◌, Bool, true, false, List, [], ◌∷◌, ◌++◌, length, Option, Some, None, codes, decimal}
 use Rattle.std.specs.List.{flat_map}
 use Rattle.sef_moment.specs.Utc.{utc_text}
 use Rattle.fix_session.specs.Reader.{Reader}
@@ -33,13 +33,13 @@ abbrev pub counts : ℕ → List Found → List ℕ
 counts count found = joined (
     codes "frames: "
     ∷ decimal (frames_in found)
-    ∷ codes "; begun as one, and none: "
+    ∷ codes "; broken: "
     ∷ decimal (length found - frames_in found)
-    ∷ codes "; bytes in neither: "
+    ∷ codes "; other bytes: "
     ∷ decimal (count - bytes_found found)
     ∷ codes " of "
     ∷ decimal count
-    ∷ codes "\nanswered by a new venue with an empty book; each session expects the number of its first frame; each moment is the frame's own (52), or the last\n"
+    ∷ codes "\nanswered by a new venue with an empty book; each session expects the number of its first frame; each moment is the frame's own (52), or the last; one before the last counts as the last\n"
     ∷ [])
 
 abbrev pub head : ℕ → List Found → List ℕ
@@ -51,7 +51,7 @@ why_words why.NotLogon = codes "the first message of a connection has to be a Lo
 why_words why.WrongComp = codes "49 (SenderCompID) or 56 (TargetCompID) is wrong"
 why_words why.BadLogon = codes "the Logon has the fault above"
 why_words why.NoNumber = codes "34 (MsgSeqNum) is missing, or no number from 1 to 999999999"
-why_words why.TooLow = codes "34 (MsgSeqNum) is below the expected number"
+why_words why.TooLow = codes "34 (MsgSeqNum) is below the expected number, which the Logout names (58)"
 why_words why.PeerLogout = codes "the participant logs out"
 why_words why.Silent = codes "a TestRequest was not answered"
 why_words why.NumbersSpent = codes "the sequence numbers are used up"
@@ -75,7 +75,7 @@ ids_if names who why.Reset = []
 -- why nothing is read: the length of the body, or the connection's end
 abbrev pub unread_line : ℕ → List ℕ
 unread_line size = if nat_lt 8_192 size
-    then joined (codes "    session: passes it, as its body has " ∷ decimal size ∷ codes " bytes, and the venue reads 8192 at most\n" ∷ [])
+    then joined (codes "    session: ignores it, as its body has " ∷ decimal size ∷ codes " bytes, and the venue reads 8192 at most\n" ∷ [])
     else joined (codes "    session: reads nothing, as the connection has ended; a Logon on a new one comes first\n" ∷ [])
 
 -- what the session does with a frame whose body has this number of bytes
@@ -89,14 +89,42 @@ abbrev pub step_if : ParticipantFile → LogItem → Option Step → List ℕ
 step_if names listed None = []
 step_if names listed (Some step) = step_line names listed.who (length listed.body.items) step
 
--- a message that a participant is sent: its type, its text as FIX has it, and its words, if it has some
+-- a message that has words, and is not for the venue: its number is not the expected one
+abbrev pub order_line : List ℕ
+order_line = joined (codes "    34 (MsgSeqNum) is not the expected number: above it there is a gap, and this message is asked for again; below it, with 43=Y, this one repeats another\n" ∷ [])
+
+abbrev pub order_of : Option Step → List ℕ
+order_of (Some step.Did) = order_line
+order_of (Some step.Idle) = []
+order_of (Some (step.App number)) = []
+order_of (Some (step.Dropped why)) = []
+order_of None = []
+
+abbrev pub order_if : (words : List ℕ) → Option Step → List ℕ
+order_if words step = if length words == 0 then [] else order_of step
+
+abbrev pub outcome : Reader → ParticipantFile → Heard → List ℕ
+outcome r names heard = step_if names heard.item heard.step ++ order_if (words_of_body (r.fields heard.item.body.items)) heard.step
+
+-- a ResendRequest names the expected number
+abbrev pub gap_line : List ℕ → List ℕ
+gap_line number = joined (codes "        a gap: the expected number is " ∷ number ∷ codes ", and each message from it on is asked for again\n" ∷ [])
+
+abbrev pub gap_if : List ℕ → List ℕ
+gap_if body = if bytes_eq (value_in (codes "35=") body) (codes "2") then gap_line (value_in (codes "7=") body) else []
+
+-- what a message says: its words, if it has some, or the gap that it names
+abbrev pub meaning : Reader → List ℕ → List ℕ
+meaning r body = words_line (codes "        ") (words_of_body (r.fields body)) ++ gap_if body
+
+-- a message that a participant is sent: its type, its text as FIX has it, and what it says
 abbrev pub sent_line : (name kind fix : List ℕ) → List ℕ
 sent_line name kind fix = joined (codes "    to " ∷ name ∷ codes ", " ∷ kind ∷ codes ": " ∷ fix ∷ codes "\n" ∷ [])
 
 abbrev pub reply : Reader → (name body : List ℕ) → List ℕ
 reply r name body =
     sent_line name (kind_name (value_in (codes "35=") body)) (readable body)
-    ++ words_line (codes "        ") (words_of_body (r.fields body))
+    ++ meaning r body
 
 abbrev pub reply_found : Reader → (name bytes : List ℕ) → Found → List ℕ
 reply_found r name bytes found = reply r name (body_of bytes found.at found.look)
@@ -112,7 +140,8 @@ is_silent (s ∷ sent) = if length s.bytes.items == 0 then is_silent sent else f
 abbrev pub answers : Reader → ParticipantFile → List held.Sent → List ℕ
 answers r names sent = if is_silent sent then joined (codes "    nobody is sent anything\n" ∷ []) else flat_map (sent_text r names) sent
 
--- a frame that came: where it is, its fields, its fault or its words, what the session does, and what each is sent
+-- a frame that came: where it is, its fields, its fault or its words, what the session does, whether its number is
+-- another than the expected one, and what each is sent
 abbrev pub heading_line : (number place : ℕ) → (name moment kind : List ℕ) → List ℕ
 heading_line number place name moment kind = joined (
     codes "\nframe "
@@ -143,7 +172,7 @@ abbrev pub came : Reader → ParticipantFile → Heard → List ℕ
 came r names heard =
     heading names heard.item
     ++ (body_text Came heard.item.body.items (r.fields heard.item.body.items)
-    ++ (stranger names heard.item.body.items ++ (step_if names heard.item heard.step ++ answers r names heard.sent.items)))
+    ++ (stranger names heard.item.body.items ++ (outcome r names heard ++ answers r names heard.sent.items)))
 
 -- a frame that the venue sent
 abbrev pub of_venue : Reader → LogItem → List ℕ
@@ -153,10 +182,10 @@ of_venue r listed =
 
 -- what begins as a frame and is none
 abbrev pub none_line : (number place : ℕ) → (shown : List ℕ) → List ℕ
-none_line number place shown = joined (codes "\nno frame " ∷ decimal number ∷ codes " at byte " ∷ decimal place ∷ codes ": " ∷ shown ∷ codes "\n" ∷ [])
+none_line number place shown = joined (codes "\nbroken frame " ∷ decimal number ∷ codes " at byte " ∷ decimal place ∷ codes ": " ∷ shown ∷ codes "\n" ∷ [])
 
 abbrev pub passed_line : List ℕ
-passed_line = joined (codes "    the venue passes it: no number is used, and nothing is answered\n" ∷ [])
+passed_line = joined (codes "    the venue ignores it as garbled, once as many bytes have come as BodyLength (9) says: until then it answers nothing; no number is used\n" ∷ [])
 
 abbrev pub no_frame : LogItem → List ℕ
 no_frame listed = none_line listed.number listed.place (readable listed.text.items) ++ (broken.why listed.text.items ++ passed_line)

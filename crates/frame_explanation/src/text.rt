@@ -31,14 +31,14 @@ fn append_counts(out: &mut Vec<u8>, log: &[u8], found: &[Found]) -> Result<(), A
         &[
             Part::Bytes(b"frames: "),
             Part::Number(frames as u64),
-            Part::Bytes(b"; begun as one, and none: "),
+            Part::Bytes(b"; broken: "),
             Part::Number(found.len().saturating_sub(frames) as u64),
-            Part::Bytes(b"; bytes in neither: "),
+            Part::Bytes(b"; other bytes: "),
             Part::Number(log.len().saturating_sub(bytes_found(found)) as u64),
             Part::Bytes(b" of "),
             Part::Number(log.len() as u64),
             Part::Bytes(
-                b"\nanswered by a new venue with an empty book; each session expects the number of its first frame; each moment is the frame's own (52), or the last\n",
+                b"\nanswered by a new venue with an empty book; each session expects the number of its first frame; each moment is the frame's own (52), or the last; one before the last counts as the last\n",
             ),
         ],
     )
@@ -70,7 +70,7 @@ fn why_words(why: Why) -> &'static [u8]
         Why::WrongComp => b"49 (SenderCompID) or 56 (TargetCompID) is wrong",
         Why::BadLogon => b"the Logon has the fault above",
         Why::NoNumber => b"34 (MsgSeqNum) is missing, or no number from 1 to 999999999",
-        Why::TooLow => b"34 (MsgSeqNum) is below the expected number",
+        Why::TooLow => b"34 (MsgSeqNum) is below the expected number, which the Logout names (58)",
         Why::PeerLogout => b"the participant logs out",
         Why::Silent => b"a TestRequest was not answered",
         Why::NumbersSpent => b"the sequence numbers are used up",
@@ -117,7 +117,7 @@ fn append_unread(out: &mut Vec<u8>, size: usize) -> Result<(), AllocError>
         return append_parts(
             out,
             &[
-                Part::Bytes(b"    session: passes it, as its body has "),
+                Part::Bytes(b"    session: ignores it, as its body has "),
                 Part::Number(size as u64),
                 Part::Bytes(b" bytes, and the venue reads 8192 at most\n"),
             ],
@@ -177,6 +177,38 @@ fn append_step_if(
     }
 }
 
+/// Appends that another number was expected, where a message has words and is not for the venue.
+fn append_order_if(out: &mut Vec<u8>, words: &[u8], step: &Option<Step>) -> Result<(), AllocError>
+    ensures { OnOk result (out.new.items ≡ out.old.items ++ text.order_if words.now step.now) }
+{
+    if words.is_empty() {
+        return Ok(());
+    }
+    match step {
+        Some(Step::Did) => out.extend_from_slice(
+            b"    34 (MsgSeqNum) is not the expected number: above it there is a gap, and this message is asked for again; below it, with 43=Y, this one repeats another\n",
+        ),
+        Some(Step::Idle) => Ok(()),
+        Some(Step::App(_)) => Ok(()),
+        Some(Step::Dropped(_)) => Ok(()),
+        None => Ok(()),
+    }
+}
+
+/// Appends what the session does with a frame, and whether another number was expected.
+fn append_outcome(
+    alloc: Global,
+    out: &mut Vec<u8>,
+    names: &Participants,
+    heard: &Heard,
+) -> Result<(), AllocError>
+    ensures { (r : Reader) → OnOk result (out.new.items ≡ out.old.items ++ text.outcome r names.now heard.now) }
+{
+    let words = words_of_body(alloc, &heard.item.body)?;
+    append_step_if(out, names, &heard.item, &heard.step)?;
+    append_order_if(out, &words, &heard.step)
+}
+
 /// Appends to whom a message is sent, its type, and the message as FIX has it.
 fn append_sent_line<'a>(
     out: &mut Vec<u8>,
@@ -200,7 +232,33 @@ fn append_sent_line<'a>(
     )
 }
 
-/// Appends a message that a participant is sent: as FIX has it, and in words.
+/// Appends what a ResendRequest says of the expected number.
+fn append_gap_if(out: &mut Vec<u8>, body: &[u8]) -> Result<(), AllocError>
+    ensures { OnOk result (out.new.items ≡ out.old.items ++ text.gap_if body.now) }
+{
+    if value_in(b"35=", body) != b"2".as_slice() {
+        return Ok(());
+    }
+    append_parts(
+        out,
+        &[
+            Part::Bytes(b"        a gap: the expected number is "),
+            Part::Bytes(value_in(b"7=", body)),
+            Part::Bytes(b", and each message from it on is asked for again\n"),
+        ],
+    )
+}
+
+/// Appends a message that a participant is sent in words, or the gap that it names.
+fn append_meaning(alloc: Global, out: &mut Vec<u8>, body: &[u8]) -> Result<(), AllocError>
+    ensures { (r : Reader) → OnOk result (out.new.items ≡ out.old.items ++ text.meaning r body.now) }
+{
+    let words = words_of_body(alloc, body)?;
+    append_words_line(out, b"        ", &words)?;
+    append_gap_if(out, body)
+}
+
+/// Appends a message that a participant is sent: as FIX has it, and what it says.
 fn append_reply(
     alloc: Global,
     out: &mut Vec<u8>,
@@ -210,9 +268,8 @@ fn append_reply(
     ensures { (r : Reader) → OnOk result (out.new.items ≡ out.old.items ++ text.reply r name.now body.now) }
 {
     let fix = readable_text(alloc, body)?;
-    let words = words_of_body(alloc, body)?;
     append_sent_line(out, name, kind_name(value_in(b"35=", body)), &fix)?;
-    append_words_line(out, b"        ", &words)
+    append_meaning(alloc, out, body)
 }
 
 fn append_found(
@@ -359,7 +416,7 @@ fn append_came(
     append_heading(out, names, &heard.item)?;
     append_body(alloc, out, Direction::Came, &heard.item.body)?;
     append_stranger(out, names, &heard.item.body)?;
-    append_step_if(out, names, &heard.item, &heard.step)?;
+    append_outcome(alloc, out, names, heard)?;
     append_answers(alloc, out, names, &heard.sent)
 }
 
@@ -393,7 +450,7 @@ fn append_none_line<'a>(
     append_parts(
         out,
         &[
-            Part::Bytes(b"\nno frame "),
+            Part::Bytes(b"\nbroken frame "),
             Part::Number(listed.number),
             Part::Bytes(b" at byte "),
             Part::Number(listed.place),
@@ -404,11 +461,13 @@ fn append_none_line<'a>(
     )
 }
 
-/// Appends that the venue passes what is no frame.
+/// Appends that the venue ignores what is no frame, and when.
 fn append_passed(out: &mut Vec<u8>) -> Result<(), AllocError>
     ensures { OnOk result (out.new.items ≡ out.old.items ++ text.passed_line) }
 {
-    out.extend_from_slice(b"    the venue passes it: no number is used, and nothing is answered\n")
+    out.extend_from_slice(
+        b"    the venue ignores it as garbled, once as many bytes have come as BodyLength (9) says: until then it answers nothing; no number is used\n",
+    )
 }
 
 /// Appends what is listed of what begins as a frame and is none.
