@@ -25,8 +25,8 @@ pub beta_on_the_sample_day : figured beta sample_day
     ++ codes "quotes passed: 0\n"
     ++ codes "quotes withdrawn: 0\n"
     ++ codes "quotes replaced: 0\n"
-    ++ codes "quotes run out or traded elsewhere by their own end (62): 0\n"
-    ++ codes "quotes run out or traded elsewhere or still live: 0\n"
+    ++ codes "quotes whose own end (62) passed: 0\n"
+    ++ codes "quotes whose end no message states (run out or traded elsewhere or live): 0\n"
     ++ codes "requests sent: 0\n"
     ++ codes "requests traded: 0\n"
     ++ codes "withdrawals and responses that named no live quote: 0\n"
@@ -72,8 +72,8 @@ pub alpha_on_the_sample_day : figured alpha sample_day
     ++ codes "quotes passed: 0\n"
     ++ codes "quotes withdrawn: 0\n"
     ++ codes "quotes replaced: 0\n"
-    ++ codes "quotes run out or traded elsewhere by their own end (62): 0\n"
-    ++ codes "quotes run out or traded elsewhere or still live: 0\n"
+    ++ codes "quotes whose own end (62) passed: 0\n"
+    ++ codes "quotes whose end no message states (run out or traded elsewhere or live): 0\n"
     ++ codes "requests sent: 1\n"
     ++ codes "requests traded: 1\n"
     ++ codes "withdrawals and responses that named no live quote: 0\n"
@@ -114,8 +114,8 @@ pub beta_on_the_quotes_day : dealt beta quotes_day
     ++ codes "quotes passed: 0\n"
     ++ codes "quotes withdrawn: 0\n"
     ++ codes "quotes replaced: 1\n"
-    ++ codes "quotes run out or traded elsewhere by their own end (62): 0\n"
-    ++ codes "quotes run out or traded elsewhere or still live: 1\n"
+    ++ codes "quotes whose own end (62) passed: 0\n"
+    ++ codes "quotes whose end no message states (run out or traded elsewhere or live): 1\n"
 unfolding digits after_message occasion_by with_sent
 beta_on_the_quotes_day = refl
 
@@ -133,8 +133,8 @@ pub delta_on_the_quotes_day : dealt delta quotes_day
     ++ codes "quotes passed: 0\n"
     ++ codes "quotes withdrawn: 1\n"
     ++ codes "quotes replaced: 0\n"
-    ++ codes "quotes run out or traded elsewhere by their own end (62): 0\n"
-    ++ codes "quotes run out or traded elsewhere or still live: 0\n"
+    ++ codes "quotes whose own end (62) passed: 0\n"
+    ++ codes "quotes whose end no message states (run out or traded elsewhere or live): 0\n"
 unfolding digits after_message occasion_by with_sent
 delta_on_the_quotes_day = refl
 
@@ -150,8 +150,8 @@ pub epsilon_on_the_quotes_day : ends_of epsilon quotes_day
     ++ codes "quotes passed: 1\n"
     ++ codes "quotes withdrawn: 0\n"
     ++ codes "quotes replaced: 0\n"
-    ++ codes "quotes run out or traded elsewhere by their own end (62): 0\n"
-    ++ codes "quotes run out or traded elsewhere or still live: 0\n"
+    ++ codes "quotes whose own end (62) passed: 0\n"
+    ++ codes "quotes whose end no message states (run out or traded elsewhere or live): 0\n"
 unfolding digits after_message occasion_by with_sent
 epsilon_on_the_quotes_day = refl
 
@@ -162,8 +162,8 @@ pub zeta_on_the_quotes_day : ends_of zeta quotes_day
     ++ codes "quotes passed: 0\n"
     ++ codes "quotes withdrawn: 0\n"
     ++ codes "quotes replaced: 0\n"
-    ++ codes "quotes run out or traded elsewhere by their own end (62): 0\n"
-    ++ codes "quotes run out or traded elsewhere or still live: 0\n"
+    ++ codes "quotes whose own end (62) passed: 0\n"
+    ++ codes "quotes whose end no message states (run out or traded elsewhere or live): 0\n"
 unfolding digits after_message occasion_by with_sent
 zeta_on_the_quotes_day = refl
 
@@ -175,8 +175,8 @@ pub gamma_offers_again : ends_of gamma (five_offers ++ sends gamma 3 (offer (cod
     ++ codes "quotes passed: 0\n"
     ++ codes "quotes withdrawn: 0\n"
     ++ codes "quotes replaced: 0\n"
-    ++ codes "quotes run out or traded elsewhere by their own end (62): 1\n"
-    ++ codes "quotes run out or traded elsewhere or still live: 1\n"
+    ++ codes "quotes whose own end (62) passed: 1\n"
+    ++ codes "quotes whose end no message states (run out or traded elsewhere or live): 1\n"
 unfolding digits after_message occasion_by with_sent
 gamma_offers_again = refl
 

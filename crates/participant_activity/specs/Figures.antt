@@ -103,8 +103,8 @@ quote_figures q n =
     ∷ counted (codes "quotes passed") q.passed
     ∷ counted (codes "quotes withdrawn") q.withdrawn
     ∷ counted (codes "quotes replaced") q.replaced
-    ∷ counted (codes "quotes run out or traded elsewhere by their own end (62)") (plus q.lapsed n.lapsed)
-    ∷ counted (codes "quotes run out or traded elsewhere or still live") n.unreported
+    ∷ counted (codes "quotes whose own end (62) passed") (plus q.lapsed n.lapsed)
+    ∷ counted (codes "quotes whose end no message states (run out or traded elsewhere or live)") n.unreported
     ∷ []
 
 -- Requests of its own.
@@ -214,7 +214,7 @@ heading Lines name = codes "activity of " ++ (name ++ codes "\n")
 heading Table name = row_text setup field_names
 
 abbrev pub day_text : Form → Activity → List ℕ
-day_text form a = figures_text form (figure_at (codes "first message (UTC)") a.first) ++ figures_text form (figure_at (codes "last message (UTC)") a.last)
+day_text form a = figures_text form (figure_at (codes "first message sent or owed (UTC)") a.first) ++ figures_text form (figure_at (codes "last message sent or owed (UTC)") a.last)
 
 abbrev pub times_text : Form → List (ℕ × ℕ) → ℕ → List ℕ
 times_text form ts count =

@@ -85,8 +85,8 @@ fn append_day(
 ) -> Result<(), AllocError>
     ensures { OnOk result (text.new.items ≡ text.old.items ++ day_text form (activity_of activity.now)) }
 {
-    append_moment(alloc, text, form, b"first message (UTC)", activity.first)?;
-    append_moment(alloc, text, form, b"last message (UTC)", activity.last)
+    append_moment(alloc, text, form, b"first message sent or owed (UTC)", activity.first)?;
+    append_moment(alloc, text, form, b"last message sent or owed (UTC)", activity.last)
 }
 
 fn append_requests(
@@ -165,11 +165,11 @@ fn append_quotes(
             counted!(b"quotes withdrawn", counts.withdrawn),
             counted!(b"quotes replaced", counts.replaced),
             counted!(
-                b"quotes run out or traded elsewhere by their own end (62)",
+                b"quotes whose own end (62) passed",
                 lapsed
             ),
             counted!(
-                b"quotes run out or traded elsewhere or still live",
+                b"quotes whose end no message states (run out or traded elsewhere or live)",
                 ends.unreported
             ),
         ],

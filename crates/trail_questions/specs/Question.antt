@@ -37,8 +37,8 @@ EmitsAnswer (Book b form) m trail before after = EmitsBookAfter b form m trail.r
 EmitsAnswer (Rests r form) m trail before after = EmitsRestsAfter r form m trail.rows before after
 EmitsAnswer (Answers n form) m trail before after = EmitsNarrowed n form m trail before after
 
--- or a first part of it; of the evidence for one trade, a cause, a book, what rests, figures, a digest or a page nothing
--- is written before all is made
+-- or a first part of it; of the evidence for one trade, a cause, a book, what rests, figures, a digest or a page
+-- nothing is written before all is made
 abbrev pub BeginsAnswer : Question → Market → Trail → (before after : Option (List ℕ)) → Type 0
 BeginsAnswer Table m trail before after = BeginsTable m trail.rows before after
 BeginsAnswer (Against desk log) m trail before after = ⊥
