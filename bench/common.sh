@@ -31,3 +31,29 @@ build() {
         (cd "crates/$program" && rt run <stdin >/dev/null)
     fi
 }
+
+# compile_peer DIR: QuickFIX's engine with a book, to DIR/quickfix_venue; and in $peer whether it records (recorded),
+# does not (unrecorded), or is not there (alone).
+compile_peer() {
+    peer=recorded
+    quickfix_venue "$1" -DWITH_SQLITE -lsqlite3 && return
+    echo "$bench: libsqlite3-dev is not installed: no trail of the peer" >&2
+    peer=unrecorded
+    quickfix_venue "$1" && return
+    echo "$bench: libquickfix-dev is not installed: no peer" >&2
+    peer=alone
+}
+
+# quickfix_venue DIR OPTION..: compiles it
+quickfix_venue() {
+    to=$1
+    shift
+    g++ -O2 -std=c++14 -w -o "$to/quickfix_venue" bench/serve/quickfix_venue.cpp -lquickfix -lpthread "$@" 2>/dev/null
+}
+
+# build_venue: proves and builds venue_main, unless VENUE_MAIN names another program.
+build_venue() {
+    [ -z "${VENUE_MAIN:-}" ] || return 0
+    need rt
+    build venue_main check --participants ../../examples/participants.toml --instruments ../../examples/instruments.toml
+}
