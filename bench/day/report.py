@@ -113,7 +113,8 @@ def main():
     for folder in folders:
         for what, symbol in list(kinds.items())[1:]:
             path = fresh(os.path.join(folder, "day.trail"))
-            print(f"{what}, with a trail in a file: {left_by(directory, symbol, '--trail', path):.0f} bytes", flush=True)
+            left = left_by(directory, symbol, "--trail", path)
+            print(f"{what}, with a trail in a file: {left:.0f} bytes", flush=True)
             fresh(path)
 
 

@@ -85,7 +85,8 @@ def compare(rows, starts, others):
     for what, seconds in {"start": starts, **{name: [it for it, _ in found] for name, found in others.items()}}.items():
         ratios = [one / other for one, other in zip(seconds, readings)]
         memory = f", {max(it for _, it in others[what]):.0f} MB" if what in others else ""
-        print(f"{rows:,} rows: {what}: {shown(seconds, '.2f')} s of the processor{memory}, {shown(ratios, '.1f')} of Python")
+        taken = f"{shown(seconds, '.2f')} s of the processor{memory}, {shown(ratios, '.1f')} of Python"
+        print(f"{rows:,} rows: {what}: {taken}")
 
 
 def main():

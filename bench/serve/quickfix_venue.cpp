@@ -1,8 +1,8 @@
 // A venue of stock parts: QuickFIX's engine (FIXT 1.1, FIX 5.0 SP2), a session and a port for each participant, a book
-// of prices to orders by entry for each symbol of SYMBOLS (IRS5Y,BASIS1Y where there is none), and requests for quotes by
-// number, whose groups are read by dictionaries alone. quickfix_venue SETTINGS [TRAIL] prints "ready" once it listens. With TRAIL, where it was compiled with
-// WITH_SQLITE, each message is a row of that SQLite file (WAL, synchronous FULL, a transaction each) before it is
-// answered.
+// of prices to orders by entry for each symbol of SYMBOLS (IRS5Y,BASIS1Y where there is none), and requests for quotes
+// by number, for which it needs dictionaries. quickfix_venue SETTINGS [TRAIL] prints "ready" once it listens. With
+// TRAIL, where it was compiled with WITH_SQLITE, each message is a row of that SQLite file (WAL, synchronous FULL, a
+// transaction each) before it is answered.
 #include <quickfix/Application.h>
 #include <quickfix/MessageStore.h>
 #include <quickfix/Session.h>
