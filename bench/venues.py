@@ -26,10 +26,12 @@ SocketNodelay=Y
 HeartBtInt=3600
 """
 
-DICTIONARIES = "".join(f"{key}=dist/{name}.xml\n" for key, name in (
-    ("TransportDataDictionary", "transport"),
-    ("AppDataDictionary", "application"),
-)) + "UseDataDictionary=Y\n"
+# those of the venue of this repository; a message may have more fields than they name
+DICTIONARIES = """UseDataDictionary=Y
+TransportDataDictionary=dist/transport.xml
+AppDataDictionary=dist/application.xml
+AllowUnknownMsgFields=Y
+"""
 
 
 class Venue:

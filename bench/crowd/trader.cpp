@@ -4,10 +4,13 @@
 //       (`-`: in none)
 //   trader PORT NAME RUN WINDOW requests [ASKED ASKED ASKED]
 //       asks these three for quotes, and hits the last of the three quotes; quotes whatever it is asked
+//   trader PORT NAME RUN WINDOW looks SYMBOL
+//       asks for a snapshot of the book
 // Logs NAME on at 127.0.0.1:PORT, prints "ready", and waits until its standard input ends, so that many begin together.
 // For a second WINDOW orders or requests are under way; then these are ended, and a line of words and numbers printed:
 // its messages that were answered within the second (an order by its fill, a request by the quotes, a quote by its
-// acceptance, a hit by its fill), how many a second, and the round trips up to the last fill, and of the hit alone.
+// acceptance, a hit by its fill), how many a second, and the round trips up to the last fill, of the hit alone, and of
+// the quotes that it gave.
 // It answers others until it is ended. RUN is put into the identifiers, which a venue takes once a day.
 #include "../fix_client.h"
 #include <fcntl.h>
@@ -29,13 +32,13 @@ struct Unit {
 };
 
 struct Trader : Session {
-    std::string run, buys{};
+    std::string run, buys{}, looks_at{};
     std::vector<std::string> asked{};
     long window = 0, number = 2, given = 0;
     std::string out{};
     std::vector<Unit> units{};
     long under_way = 0, answered = 0;
-    std::vector<double> trips{}, hits{};
+    std::vector<double> trips{}, hits{}, quoted{}, quotes{};
 
     void say(const char *type, const std::string &fields) { out += frame(header(type, number++) + fields); }
 
@@ -57,6 +60,8 @@ struct Trader : Session {
         units.push_back({now()});
         under_way++;
         if (!buys.empty()) return say("D", "11=" + name + "|55=" + buys + "|54=1|38=10|40=2|44=2.5|60=" + at + "|");
+        if (!looks_at.empty())
+            return say("V", "262=" + name + "|263=0|264=0|267=1|269=0|146=1|55=" + looks_at + "|");
         std::string parties = "|453=" + std::to_string(asked.size());
         for (const std::string &each : asked) parties += "|448=" + each + "|447=D|452=35";
         say("R", "131=" + name + "|146=1|55=" + TRADED_IN + "|54=1|38=100" + parties + "|");
@@ -73,9 +78,14 @@ struct Trader : Session {
         std::string_view type = field(body, "35=");
         if (type == "R") {
             std::string room(field(body, "\x01" "131="));
+            quoted.push_back(now());
             say("S", "117=q" + id(given++) + "|131=" + room + "|55=" + TRADED_IN + "|133=2.5|");
         } else if (type == "AI" && field(body, "\x01" "297=") == "0") {
+            // (quotes are answered in their order)
+            quotes.push_back(now() - quoted.at(quotes.size()));
             answered++;
+        } else if (type == "W" && !looks_at.empty()) {
+            end(unit(field(body, "\x01" "262=")), 1);
         } else if (type == "S") {
             std::string_view asked_by = field(body, "\x01" "131=");
             Unit &each = unit(asked_by);
@@ -105,7 +115,7 @@ struct Trader : Session {
         fcntl(socket, F_SETFL, O_NONBLOCK);
         await_start();
         double begun = now(), took;
-        bool is_idle = buys.empty() && asked.empty();
+        bool is_idle = buys.empty() && asked.empty() && looks_at.empty();
         while ((took = now() - begun) < SECONDS) {
             while (!is_idle && under_way < window) begin();
             turn();
@@ -117,17 +127,21 @@ struct Trader : Session {
     }
 };
 
-long microseconds(std::vector<double> &trips, int part) {
+void print_trips(const char *what, std::vector<double> &trips) {
     std::sort(trips.begin(), trips.end());
-    return trips.empty() ? 0 : static_cast<long>(trips[trips.size() * part / 100] * 1e6);
+    for (size_t part : {50, 99}) {
+        double trip = trips.empty() ? 0 : trips[trips.size() * part / 100];
+        printf(" %sp%zu_us %.0f", what, part, trip * 1e6);
+    }
 }
 
 } // namespace
 
 int main(int count, char **words) {
     std::string kind = count > 5 ? words[5] : "";
-    if (!(kind == "orders" && count == 8) && !(kind == "requests" && (count == 6 || count == 9))) {
-        fprintf(stderr, "trader PORT NAME RUN WINDOW (orders BUYS RESTS | requests [ASKED ASKED ASKED])\n");
+    if (!(kind == "orders" && count == 8) && !(kind == "requests" && (count == 6 || count == 9)) &&
+        !(kind == "looks" && count == 7)) {
+        fprintf(stderr, "trader PORT NAME RUN WINDOW (orders BUYS RESTS | requests [ASKED ASKED ASKED] | looks SYMBOL)\n");
         return 2;
     }
     try {
@@ -136,13 +150,17 @@ int main(int count, char **words) {
         trader.connect_to(std::stoi(words[1]));
         trader.log_on();
         if (kind == "requests") trader.asked.assign(words + 6, words + count);
+        if (kind == "looks") trader.looks_at = words[6];
         if (kind == "orders" && strcmp(words[6], "-")) trader.buys = words[6];
         if (kind == "orders" && strcmp(words[7], "-")) trader.rest(words[7]);
         long messages = 0;
         double took = trader.trade(messages);
-        printf("messages %ld per_second %.0f p50_us %ld p99_us %ld hit_p50_us %ld hit_p99_us %ld processor_us %.0f\n",
-               messages, messages / took, microseconds(trader.trips, 50), microseconds(trader.trips, 99),
-               microseconds(trader.hits, 50), microseconds(trader.hits, 99), (spent() - trader.spent_before) * 1e6);
+        printf("messages %ld per_second %.0f processor_us %.0f", messages, messages / took,
+               (spent() - trader.spent_before) * 1e6);
+        print_trips("", trader.trips);
+        print_trips("hit_", trader.hits);
+        print_trips("quote_", trader.quotes);
+        printf("\n");
         fflush(stdout);
         for (;;) trader.turn();
     } catch (const std::exception &fault) {
