@@ -21,7 +21,7 @@ KEYS = ("per_second", "p50_us", "p99_us")
 
 
 def instrument(count, who):
-    """The instrument in which a participant buys, of so many."""
+    """The instrument in which a participant buys, where this number trade."""
     return f"T{count}_{who}"
 
 
@@ -37,7 +37,7 @@ class Crowd:
         self.is_offered = set()  # the counts of participants for whom orders rest already
 
     def words(self, kind, count, who):
-        """What the trader of this index does, of so many."""
+        """What the trader of this index does, where this number trade."""
         if kind == "requests":
             others = [(who + k) % max(count, ASKED + 1) for k in range(1, ASKED + 1)]
             return ["requests", *(NAMES[each] for each in others)] if who < count else ["requests"]

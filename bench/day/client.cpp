@@ -1,4 +1,4 @@
-// A participant of a long day, told by lines on its standard input what to send: client PORT NAME SYMBOL.
+// A participant of a long day, which lines on its standard input make send: client PORT NAME SYMBOL.
 //   many N     N messages, as fast as the socket takes them, MOST_UNANSWERED at most without an answer
 //   trips N    N messages, each after the answer to the previous one
 // The messages are alternately an order for SYMBOL and its cancel; where SYMBOL is `-`, TestRequests. Prints for each

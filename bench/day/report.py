@@ -50,12 +50,12 @@ def free_bytes():
     return int(rows["MemAvailable"].split()[0]) * 1024
 
 
-def marks(messages):
+def counts(messages):
     """The counts of messages at which the day is measured."""
-    mark = FIRST
-    while mark <= messages:
-        yield mark
-        mark *= 10
+    count = FIRST
+    while count <= messages:
+        yield count
+        count *= 10
 
 
 def print_day(directory, messages, *options):
@@ -65,17 +65,17 @@ def print_day(directory, messages, *options):
     begun = before = day.venue.resident()
     last = 0
     try:
-        for mark in marks(messages):
-            day.send_up_to(mark)
+        for count in counts(messages):
+            day.send_up_to(count)
             now = day.venue.resident()
             each = (now - before) / (day.sent - last)
             before, last = now, day.sent
-            block = min(mark, BLOCK)
+            block = min(count, BLOCK)
             took, cost = day.send("many", block)
             trips, _ = day.send("trips", TRIPS)
             pace = block / (took["us"] / 1e6)
             cells = f"{cost / block * 1e6:.1f} | {pace:,.0f} | {trips['p50_us']} | {trips['p99_us']}"
-            print(f"| {mark:,} | {cells} | {now / 1e6:,.0f} | {each:,.0f} |", flush=True)
+            print(f"| {count:,} | {cells} | {now / 1e6:,.0f} | {each:,.0f} |", flush=True)
     finally:
         day.end()
     print(f"{begun / 1e6:.0f} MB at the start")
