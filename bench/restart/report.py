@@ -1,4 +1,4 @@
-"""Times the start of a venue from trails, and its close, alongside sef_replay and Python's sqlite3 over the same rows."""
+"""Times a venue's start from trails and its close, alongside sef_replay and Python's sqlite3 over the same rows."""
 
 import os
 import re
