@@ -1,8 +1,10 @@
-"""days.py FOLDER: puts trails into FOLDER: sample, quotes and busy, as tests/cli/check_activity makes them; and
-hostile, a day whose participants, instrument and identifiers are spelled like tags of HTML."""
+"""days.py FOLDER: puts trails into FOLDER: sample, quotes and busy, as tests/cli/check_activity makes them; hostile, a
+day whose participants, instrument and identifiers are spelled like tags of HTML; and long_400 and long_20000,
+invented days of 400 and 20,000 rows. Prints how many requests each of these has."""
 import importlib.machinery
 import importlib.util
 import os
+import random
 import sqlite3
 import sys
 
@@ -21,6 +23,9 @@ ROWS = (
     (1, "35=AJ|693=<style>|117=Q1|694=1|"),
     (4, "35=F|11=<a href=\"x\">|41=none|"),
 )
+
+
+LONG = (400, 20000)
 
 
 def quoted(text):
@@ -46,13 +51,75 @@ def hostile(path, tables):
     db.close()
 
 
+class Invented:
+    """The rows of an invented day: orders, some of them cancelled, and requests with quotes, of which three in four are
+    hit. Each message is one that the venue accepts, so that rooms and quotes have the numbers that are counted here."""
+
+    def __init__(self, many, participants, instruments):
+        self.many, self.participants, self.instruments = many, participants, instruments
+        self.random, self.rows, self.moment = random.Random(many), [], START
+        self.numbers, self.orders, self.rooms, self.quotes = {}, [], 0, 0
+        while len(self.rows) < many:
+            self.request() if self.random.random() < 0.05 else self.order()
+
+    def send(self, who, text):
+        if len(self.rows) < self.many:
+            self.moment += self.random.randrange(1, 400)
+            self.numbers[who] = self.numbers.get(who, 1) + 1
+            row = (len(self.rows) + 1, who + 1, self.numbers[who], self.moment, text.replace("|", "\1").encode())
+            self.rows.append(row)
+        return len(self.rows)
+
+    def order(self):
+        if self.orders and self.random.random() < 0.4:
+            who, name = self.orders.pop(self.random.randrange(len(self.orders)))
+            self.send(who, f"35=F|11=c{len(self.rows)}|41={name}|")
+            return
+        who, side = self.random.randrange(len(self.participants)), self.random.choice((1, 2))
+        price = 2500000 + 2500 * (self.random.randrange(-8, 3) if side == 1 else self.random.randrange(-2, 9))
+        name = f"o{len(self.rows)}"
+        text = f"35=D|11={name}|55={self.random.choice(self.instruments)}|54={side}|38={self.random.randrange(5, 100)}|40=2|"
+        self.send(who, text + f"44={price / 1000000:.6f}|")
+        self.orders.append((who, name))
+
+    def request(self):
+        who, *makers = self.random.sample(range(len(self.participants)), 4)
+        symbol = self.random.choice(self.instruments)
+        parties = "".join(f"448={self.participants[maker]}|447=D|452=35|" for maker in makers)
+        self.send(who, f"35=R|131=q{len(self.rows)}|146=1|55={symbol}|54=1|38=50|453={len(makers)}|{parties}")
+        self.rooms += 1
+        for maker in makers:
+            self.send(maker, f"35=S|117=s{len(self.rows)}|131=R{self.rooms}|55={symbol}|133={2.5 + 0.0025 * self.random.randrange(1, 9):.4f}|")
+        self.quotes += len(makers)
+        if self.random.random() < 0.75:
+            self.send(who, f"35=AJ|693=h{len(self.rows)}|117=Q{self.quotes - self.random.randrange(len(makers))}|694=1|54=1|")
+
+
+def invented(path, tables, many, names, instruments):
+    day = Invented(many, names, instruments)
+    db = sqlite3.connect(path)
+    db.executescript(tables)
+    participants = 'venue = "SEF"\n' + "".join(f"[[participant]]\nname = {quoted(name)}\n" for name in names)
+    listed = "".join(f"[[instrument]]\nsymbol = {quoted(it)}\ntick = 2500\nleast = 5\nrfq_life = 20\n" for it in instruments)
+    db.execute("INSERT INTO head VALUES (1, 3, ?, ?)", (participants.encode(), listed.encode()))
+    db.executemany("INSERT INTO delay VALUES (?, 15000)", ((x,) for x in range(1, len(instruments) + 1)))
+    db.executemany("INSERT INTO item VALUES (?, ?, ?, ?, ?)", day.rows)
+    db.commit()
+    db.close()
+    return sum(b"35=R\1" in row[4] for row in day.rows)
+
+
 def main(folder):
     loader = importlib.machinery.SourceFileLoader("check_activity", os.path.join(CLI, "check_activity"))
     check_activity = importlib.util.module_from_spec(importlib.util.spec_from_loader(loader.name, loader))
     loader.exec_module(check_activity)
     check_activity.made(folder)
     with open(os.path.join(os.path.dirname(check_activity.DAYS["sample"]), "day.sql"), encoding="utf-8") as file:
-        hostile(os.path.join(folder, "hostile"), "".join(line for line in file if line.startswith("CREATE TABLE")))
+        tables = "".join(line for line in file if line.startswith("CREATE TABLE"))
+    hostile(os.path.join(folder, "hostile"), tables)
+    for many in LONG:
+        made = invented(os.path.join(folder, f"long_{many}"), tables, many, check_activity.PARTICIPANTS, list(check_activity.INSTRUMENTS))
+        print(f"long_{many}: {made} requests")
 
 
 if __name__ == "__main__":

@@ -180,7 +180,7 @@ def trade_list(page, symbols, rows, trades):
         page.add("DEAL", f"{t.quantity:,}", t.price, t.buyer, t.seller)
         row_number(page, rows, t.row)
         page.add("CELL_END")
-    page.add("TABLE_END")
+    page.add("TRADES_END")
 
 
 def sent_in(rows, room):
@@ -321,16 +321,16 @@ def row_list(page, rows):
     page.add("COLUMNS")
     for row in rows if len(rows) <= MOST_ROWS else []:
         if row.who is None:
-            page.add("TICK", row.n, row.n, row.utc[9:])
+            page.add("TICK", row.n, row.n, row.utc)
         else:
-            page.add("MESSAGE", row.n, row.n, row.utc[9:], row.who, row.number, row.era, row.words, row.text)
+            page.add("MESSAGE", row.n, row.n, row.utc, row.who, row.number, row.era, row.words, row.text)
     page.add("ROWS_END")
 
 
 def head(page, venue, people, symbols, rows, stored):
     version, participants, instruments, delays, kept = stored
     *_, (_, digest) = check_digest.digests(version, participants, instruments, delays, kept)
-    day, first, last = (rows[0].utc[:8], rows[0].utc[9:], rows[-1].utc[9:]) if rows else ("no rows",) * 3
+    day, first, last = (rows[0].utc[:8], rows[0].utc, rows[-1].utc) if rows else ("no rows",) * 3
     page.add("TOP", venue, day)
     page.add("STYLE")
     page.add("HEAD", venue, day, f"{len(rows):,}", first, last, f"{people:,}", f"{len(symbols):,}", digest.hex(),

@@ -2,7 +2,7 @@
 use Rattle.std.specs.Prelude.{ℕ, ◌+◌, ◌==◌, Bool, true, false, List, [], ◌∷◌, ◌++◌, map, Option, None, Some, is_some, if◌then◌else◌}
 use Rattle.std.specs.List.{flat_map}
 use Rattle.fix_dictionary.specs.declared.messages.App.{App}
-use Rattle.fix_dictionary.specs.declared.messages.App.TheVariants.{QuoteRequest, Quote, QuoteResponse, ExecutionReport, OrderCancelReject, QuoteRequestReject, QuoteStatusReport, MarketDataRequestReject, BusinessMessageReject}
+use Rattle.fix_dictionary.specs.declared.messages.App.TheVariants.{QuoteRequest, Quote, QuoteResponse, NewOrderSingle, ExecutionReport, OrderCancelReject, QuoteRequestReject, QuoteStatusReport, MarketDataRequestReject, BusinessMessageReject}
 use Rattle.fix_dictionary.specs.Values.{is_text}
 use Rattle.venue_rules.specs.declared.replies.QuoteState.{QuoteState}
 use Rattle.venue_rules.specs.declared.replies.QuoteState.TheVariants as state
@@ -18,10 +18,11 @@ use Rattle.day_events.specs.declared.event.Origin.{Origin}
 use Rattle.day_events.specs.declared.event.What.{What}
 use Rattle.day_events.specs.declared.event.What.TheVariants as what
 
--- what a message names of the venue's: a quote its room (131), and a response its quote (117)
+-- what a message names: a quote its room (131), a response its quote (117), and an order its link (583)
 abbrev pub named_in : App → Option (List ℕ)
 named_in (Quote d) = Some d.request_id
 named_in (QuoteResponse d) = Some d.quote_id
+named_in (NewOrderSingle d) = d.link_id
 named_in _ = None
 
 -- the sender's own identifier of a request (131), a quote (117) or a response (693)
@@ -55,8 +56,8 @@ ended_for_other false o to quote s = ended o to quote s
 abbrev pub reported_what : Origin → ℕ → ReplyBody → List Event
 reported_what o to (reply.OrderEntered r) = event o to (what.Entered (record { order = r.order; id = r.id; symbol = r.symbol; side = r.side; left = r.left })) ∷ []
 reported_what o to (reply.OrderFilled r) = event o to (what.Filled (record { trade = r.trade; order = r.order.order; id = r.order.id; side = r.order.side })) ∷ []
-reported_what o to (reply.OrderCancelled r) = event o to what.Cancelled ∷ []
-reported_what o to (reply.OrderReplaced r) = event o to what.Replaced ∷ []
+reported_what o to (reply.OrderCancelled r) = event o to (what.Cancelled r.order.order) ∷ []
+reported_what o to (reply.OrderReplaced r) = event o to (what.Replaced r.order.order) ∷ []
 reported_what o to (reply.RequestSent r) = event o to (what.Asked (record { room = r.room; symbol = r.symbol; side = r.side; quantity = r.quantity })) ∷ []
 reported_what o to (reply.QuoteStatus r) = ended_for_other (to + 1 == o.from) o to r.quote_id r.state
 reported_what o to (reply.QuoteSent r) = event o to (what.Quoted (record { quote = r.quote; bid = r.bid; offer = r.offer; end = r.end })) ∷ []

@@ -11,7 +11,7 @@ pub struct Origin {
     pub moment: Moment,
     /// who sent the message, by its place plus 1; 0 at a row of the clock
     pub from: u32,
-    /// the room of a quote (131), or the quote of a response (117), as the venue names it
+    /// the room of a quote (131) or the quote of a response (117), as the venue names it, or the link of an order (583)
     pub named: Option<Identifier>,
     /// the sender's own identifier of a request (131), a quote (117) or a response (693)
     pub own: Option<Identifier>,
@@ -81,8 +81,10 @@ pub struct RoomTrade {
 pub enum What {
     Entered(NewOrder),
     Filled(FilledOrder),
-    Cancelled,
-    Replaced,
+    /// the order; none of a held side
+    Cancelled(Option<u64>),
+    /// the order that replaced another
+    Replaced(Option<u64>),
     Asked(NewRequest),
     Shown(ShownPrice),
     Quoted(NewQuote),

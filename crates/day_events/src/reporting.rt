@@ -14,8 +14,8 @@ use participants::Who;
 use sef_moment::Moment;
 use std::alloc::{AllocError, Global};
 use venue_rules::{
-    FilledReport, OrderReport, QuoteSent, QuoteState, QuoteStatus, Reply, ReplyBody, RequestSent,
-    RoomReport, SnapshotEntry, Taken, TrailRow,
+    ChangedReport, FilledReport, OrderReport, QuoteSent, QuoteState, QuoteStatus, Reply, ReplyBody,
+    RequestSent, RoomReport, SnapshotEntry, Taken, TrailRow,
 };
 
 /// Appends what a reply says.
@@ -51,7 +51,7 @@ pub(crate) fn push_event(
     }
 }
 
-/// What a message names of the venue's: a quote its room (131), and a response its quote (117).
+/// What a message names: a quote its room (131), a response its quote (117), and an order its link (583).
 #[tactic(auto, unfolding(crate::specs::Events::named_in))]
 fn named_in(app: &App) -> Option<Identifier>
     ensures { result ≡ named_in app.now }
@@ -59,6 +59,7 @@ fn named_in(app: &App) -> Option<Identifier>
     match app {
         App::Quote(d) => Some(d.request_id),
         App::QuoteResponse(d) => Some(d.quote_id),
+        App::NewOrderSingle(d) => d.link_id,
         _ => None,
     }
 }
@@ -131,6 +132,28 @@ fn push_filled(
         side: report.order.side,
     };
     push_event(events, origin, to, What::Filled(order))
+}
+
+fn push_cancelled(
+    events: &mut Vec<Event>,
+    origin: &Origin,
+    to: Who,
+    report: &ChangedReport,
+) -> Result<(), AllocError>
+    ensures { OnOk result (events.new.items ≡ events.old.items ++ reported_what origin.now to (body.OrderCancelled report.now)) }
+{
+    push_event(events, origin, to, What::Cancelled(report.order.order))
+}
+
+fn push_replaced(
+    events: &mut Vec<Event>,
+    origin: &Origin,
+    to: Who,
+    report: &ChangedReport,
+) -> Result<(), AllocError>
+    ensures { OnOk result (events.new.items ≡ events.old.items ++ reported_what origin.now to (body.OrderReplaced report.now)) }
+{
+    push_event(events, origin, to, What::Replaced(report.order.order))
 }
 
 fn push_asked(
@@ -233,8 +256,8 @@ fn push_reported(events: &mut Vec<Event>, origin: &Origin, reply: &Reply) -> Res
     match &reply.what {
         ReplyBody::OrderEntered(report) => push_entered(events, origin, reply.to, report),
         ReplyBody::OrderFilled(report) => push_filled(events, origin, reply.to, report),
-        ReplyBody::OrderCancelled(_) => push_event(events, origin, reply.to, What::Cancelled),
-        ReplyBody::OrderReplaced(_) => push_event(events, origin, reply.to, What::Replaced),
+        ReplyBody::OrderCancelled(report) => push_cancelled(events, origin, reply.to, report),
+        ReplyBody::OrderReplaced(report) => push_replaced(events, origin, reply.to, report),
         ReplyBody::RequestSent(sent) => push_asked(events, origin, reply.to, sent),
         ReplyBody::QuoteStatus(status) => push_ended(events, origin, reply.to, status),
         ReplyBody::QuoteSent(sent) => push_quoted(events, origin, reply.to, sent),

@@ -1,3 +1,2 @@
 pub mod RowByRow
 pub mod Pages
-pub mod Walking

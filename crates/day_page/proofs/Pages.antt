@@ -16,6 +16,7 @@ use Rattle.venue_rules.specs.Readings.{trade_facts}
 use Rattle.venue_rules.specs.Run.{Input, run}
 use Rattle.day_sections.specs.Figures.{figures_part}
 use Rattle.day_sections.specs.People.{people_parts}
+use Rattle.day_sections.specs.Picks.{of_requests}
 use Rattle.day_sections.specs.Refusals.{causes, refusals_parts}
 use Rattle.day_sections.specs.Reports.{reports}
 use Rattle.day_sections.specs.Requests.{requests_parts}
@@ -25,7 +26,7 @@ use Rattle.day_sections.specs.Values.{are_shown, last_moment}
 use Rattle.day_tables.specs.Bulletin.{bulletin_parts}
 use Rattle.day_tables.specs.Parts.{plain_part}
 use Rattle.day_page.specs.declared.template.TheConstants.{END}
-use Rattle.day_page.specs.Days.{AreEvents}
+use Rattle.day_events.specs.Days.{AreEvents}
 use Rattle.day_page.specs.Printed.{IsDay, IsPage}
 use Rattle.day_page.specs.Rows.{AddsSection, listed, rows_parts}
 use Rattle.day_page.specs.Sections.{head_parts, page_parts, tables_parts, answered_parts}
@@ -52,12 +53,12 @@ tables_are m rs h es p x ts page one two last ep ex et figures bulletin trades =
 -- the requests, the refusals and the participants
 pub answered_are : (m : Market) (rs : List TrailRow) (h : History) (es : List Event) (linked : Bool) (p : ParticipantFile) (ts : List TradeFact) (page one two last : List ℕ)
     → p ≡ m.participants → ts ≡ trade_facts h.facts → linked ≡ are_shown rs
-    → one ≡ with_parts page (requests_parts p (are_shown rs) (last_moment rs) es (rooms es)) → two ≡ with_parts one (refusals_parts p linked es (causes es)) → last ≡ with_parts two (people_parts p rs ts es)
+    → one ≡ with_parts page (requests_parts p (are_shown rs) (last_moment rs) (of_requests es) (rooms es)) → two ≡ with_parts one (refusals_parts p linked es (causes es)) → last ≡ with_parts two (people_parts p rs ts es)
     → last ≡ with_parts page (answered_parts m rs h es)
 answered_are m rs h es linked p ts page one two last ep et el requests refusals people =
-    in_turn page one last (requests_parts p (are_shown rs) (last_moment rs) es (rooms es)) (refusals_parts p linked es (causes es) ++ people_parts p rs ts es) requests
+    in_turn page one last (requests_parts p (are_shown rs) (last_moment rs) (of_requests es) (rooms es)) (refusals_parts p linked es (causes es) ++ people_parts p rs ts es) requests
     (in_turn one two last (refusals_parts p linked es (causes es)) (people_parts p rs ts es) refusals people)
-    ∙ (λ j. with_parts page (requests_parts (ep j) (are_shown rs) (last_moment rs) es (rooms es) ++ (refusals_parts (ep j) (el j) es (causes es) ++ people_parts (ep j) rs (et j) es)))
+    ∙ (λ j. with_parts page (requests_parts (ep j) (are_shown rs) (last_moment rs) (of_requests es) (rooms es) ++ (refusals_parts (ep j) (el j) es (causes es) ++ people_parts (ep j) rs (et j) es)))
 
 -- the page, section by section
 pub page_is : (m : Market) (t : Trail) (h : History) (es : List Event) (p : ParticipantFile) (x : List Instrument) (blank one two three four last : List ℕ)

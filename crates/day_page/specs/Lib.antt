@@ -1,5 +1,3 @@
--- what the answers of the day say
-pub mod Days
 -- the rows, the head, and the page
 pub mod Rows
 pub mod Sections

@@ -9,7 +9,7 @@ use Rattle.venue_core.specs.Replay.{AreEmitted}
 use Rattle.venue_rules.specs.Facts.{History}
 use Rattle.venue_rules.specs.Market.{Market}
 use Rattle.venue_rules.specs.Run.{Input, run}
-use Rattle.day_page.specs.Days.{events}
+use Rattle.day_events.specs.Days.{events}
 use Rattle.day_page.specs.Rows.{listed}
 use Rattle.day_page.specs.Sections.{page_parts}
 

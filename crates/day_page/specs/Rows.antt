@@ -12,7 +12,7 @@ use Rattle.venue_rules.specs.declared.trail.TrailRow.{TrailRow}
 use Rattle.venue_rules.specs.Run.{Input, Message, Tick}
 use Rattle.day_sections.specs.Values.{are_shown}
 use Rattle.day_tables.specs.Parts.{plain_part}
-use Rattle.day_tables.specs.Values.{grouped, time_in}
+use Rattle.day_tables.specs.Values.{grouped}
 use Rattle.day_page.specs.declared.template.TheConstants.{COLUMNS, MESSAGE, ROWS, ROWS_END, ROWS_FOLDED, ROWS_OPEN, TICK}
 
 -- the rows that the page has: all, or none of more than 5,000
@@ -26,11 +26,11 @@ fold_part rs = if nat_le (length rs) 120 then plain_part ROWS_OPEN.now else plai
 abbrev pub message_part : ParticipantFile → TrailRow → App → Part
 message_part file r a = record {
   template = MESSAGE.now;
-  values = decimal r.n ∷ decimal r.n ∷ time_in (utc_text r.moment) ∷ sender_name file r.who ∷ decimal r.number ∷ decimal r.era ∷ came_words a ∷ readable r.text ∷ [];
+  values = decimal r.n ∷ decimal r.n ∷ utc_text r.moment ∷ sender_name file r.who ∷ decimal r.number ∷ decimal r.era ∷ came_words a ∷ readable r.text ∷ [];
 }
 
 abbrev pub tick_part : TrailRow → Part
-tick_part r = record { template = TICK.now; values = decimal r.n ∷ decimal r.n ∷ time_in (utc_text r.moment) ∷ [] }
+tick_part r = record { template = TICK.now; values = decimal r.n ∷ decimal r.n ∷ utc_text r.moment ∷ [] }
 
 -- a row, by the input that it stands for
 abbrev pub row_part : ParticipantFile → TrailRow → Input → Part

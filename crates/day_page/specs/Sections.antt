@@ -14,6 +14,7 @@ use Rattle.venue_rules.specs.Readings.{trade_facts}
 use Rattle.venue_rules.specs.Run.{Input}
 use Rattle.day_sections.specs.Figures.{figures_part}
 use Rattle.day_sections.specs.People.{people_parts}
+use Rattle.day_sections.specs.Picks.{of_requests}
 use Rattle.day_sections.specs.Refusals.{causes, refusals_parts}
 use Rattle.day_sections.specs.Reports.{reports}
 use Rattle.day_sections.specs.Requests.{requests_parts}
@@ -22,7 +23,7 @@ use Rattle.day_sections.specs.Trades.{trades_parts}
 use Rattle.day_sections.specs.Values.{are_shown, last_moment}
 use Rattle.day_tables.specs.Bulletin.{bulletin_parts}
 use Rattle.day_tables.specs.Parts.{plain_part}
-use Rattle.day_tables.specs.Values.{date_of, grouped, time_of}
+use Rattle.day_tables.specs.Values.{date_of, grouped, moment_of}
 use Rattle.day_page.specs.Rows.{rows_parts}
 
 -- the moment of a row, printed
@@ -41,7 +42,7 @@ top_part m t = record { template = TOP.now; values = m.participants.venue ∷ da
 abbrev pub head_part : Market → Trail → Part
 head_part m t = record {
   template = HEAD.now;
-  values = m.participants.venue ∷ date_of (first_utc t.rows) ∷ grouped (length t.rows) ∷ time_of (first_utc t.rows) ∷ time_of (last_utc t.rows)
+  values = m.participants.venue ∷ date_of (first_utc t.rows) ∷ grouped (length t.rows) ∷ moment_of (first_utc t.rows) ∷ moment_of (last_utc t.rows)
       ∷ grouped (length m.participants.names) ∷ grouped (length m.instruments) ∷ digest_text t
       ∷ sha256_text t.participants ∷ grouped (length t.participants) ∷ sha256_text t.instruments ∷ grouped (length t.instruments) ∷ [];
 }
@@ -59,7 +60,7 @@ tables_parts m rs h es =
 -- the requests for quotes, the refusals and the participants
 abbrev pub answered_parts : Market → List TrailRow → History → List Event → List Part
 answered_parts m rs h es =
-    requests_parts m.participants (are_shown rs) (last_moment rs) es (rooms es)
+    requests_parts m.participants (are_shown rs) (last_moment rs) (of_requests es) (rooms es)
     ++ (refusals_parts m.participants (are_shown rs) es (causes es)
     ++ people_parts m.participants rs (trade_facts h.facts) es)
 

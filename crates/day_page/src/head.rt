@@ -7,7 +7,7 @@ ghost use Rattle.day_page.specs.Sections.{first_utc, head_part, head_parts, last
 
 use crate::style::STYLE;
 use crate::template::{HEAD, TOP};
-use day_tables::{date_of, grouped_text, time_of};
+use day_tables::{date_of, grouped_text, moment_of};
 use instruments::Instruments;
 use page_text::Page;
 use participants::Participants;
@@ -88,8 +88,8 @@ fn add_identity(
             participants.venue(),
             date_of(&first),
             &rows,
-            time_of(&first),
-            time_of(&last),
+            moment_of(&first),
+            moment_of(&last),
             &people,
             &listed,
             digest.as_bytes(),

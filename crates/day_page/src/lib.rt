@@ -1,7 +1,6 @@
 //! The day of a trail as one page of HTML.
 #![tactic(auto)]
 
-mod day;
 mod head;
 mod printing;
 mod rows;

@@ -15,11 +15,10 @@ ghost use Rattle.day_sections.specs.Values.{are_shown};
 ghost use Rattle.day_page.specs.Printed.{EmitsPage, IsDay, IsPage};
 ghost use Rattle.day_page.specs.Sections.{tables_parts, answered_parts};
 
-use crate::day::day_of;
 use crate::head::add_head;
 use crate::rows::add_rows;
 use crate::template::END;
-use day_events::Event;
+use day_events::{Event, day_of};
 use day_sections::{
     Reported, add_figures, add_people, add_refusals, add_requests, add_trades, are_shown,
     reports_of,

@@ -8,7 +8,7 @@ ghost use Rattle.day_page.specs.Rows.{AddsRow, AddsRows, AddsSection, fold_part,
 
 use crate::template::{COLUMNS, MESSAGE, ROWS, ROWS_END, ROWS_FOLDED, ROWS_OPEN, TICK};
 use day_sections::are_shown;
-use day_tables::{grouped_text, number_text, time_in};
+use day_tables::{grouped_text, number_text};
 use fix_dictionary::App;
 use message_words::{came_words_of, readable_text, sender_name};
 use page_text::Page;
@@ -45,7 +45,7 @@ fn add_message(
         &[
             &number,
             &number,
-            time_in(&moment),
+            &moment,
             sender_name(participants, row.who),
             &sequence,
             &era,
@@ -60,7 +60,7 @@ fn add_tick(alloc: Global, page: &mut Page, row: &TrailRow) -> Result<(), AllocE
 {
     let number = number_text(alloc, row.n)?;
     let moment = print_utc(row.moment);
-    page.add(TICK, &[&number, &number, time_in(&moment)])
+    page.add(TICK, &[&number, &number, &moment])
 }
 
 fn add_taken(

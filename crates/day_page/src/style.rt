@@ -97,6 +97,7 @@ details.fold>summary b{color:var(--ink)}
 .out .a{color:var(--accent)}
 .asked{margin:8px 0 10px;display:grid;grid-template-columns:166px minmax(0,1fr);gap:3px 12px;font-size:13px}
 .asked dd{font-size:13px}
+.asked .lo::after{content:','}
 /* rows */
 .rows td,.rows th{vertical-align:top;padding-top:5px;padding-bottom:5px}
 .rows code{display:block;color:var(--soft);margin-top:1px}

@@ -6,11 +6,11 @@ pub(crate) const TOP: &[u8] =
 
 /// From the style to the first section.
 pub(crate) const HEAD: &[u8] =
-    b"\n</style>\n</head>\n<body>\n<svg width=\"0\" height=\"0\" style=\"position:absolute\" aria-hidden=\"true\"><defs><circle id=\"b\" r=\"3.6\"/><path id=\"r\" d=\"M0-5.2 5.2 0 0 5.2-5.2 0z\"/><path id=\"e\" d=\"M1-4 9 0 1 4z\"/></defs></svg>\n<header>\n<div class=\"mast\"><div><h1>$venue; <span>$day;</span></h1><p>The record of the day, replayed from its trail</p></div></div>\n<dl class=\"facts\">\n<div><dt>Rows</dt><dd>$rows;</dd></div>\n<div><dt>First row</dt><dd>$first;</dd></div>\n<div><dt>Last row</dt><dd>$last;</dd></div>\n<div><dt>Participants, instruments</dt><dd>$participants;, $instruments;</dd></div>\n<div class=\"l\"><dt>Digest of the trail</dt><dd><code class=\"dig\">$digest;</code></dd></div>\n<div class=\"l\"><dt>Participant file</dt><dd><code class=\"dig\">$participants;</code> <small>$length; bytes</small></dd></div>\n<div class=\"l\"><dt>Instrument file</dt><dd><code class=\"dig\">$instruments;</code> <small>$length; bytes</small></dd></div>\n</dl>\n</header>\n<nav aria-label=\"Sections\"><ol><li><a href=\"#bulletin\">Daily bulletin</a></li><li><a href=\"#trades\">Trades</a></li><li><a href=\"#requests\">Requests for quotes</a></li><li><a href=\"#refusals\">Refusals</a></li><li><a href=\"#participants\">Participants</a></li><li><a href=\"#rows\">Rows</a></li></ol></nav>\n<main>";
+    b"\n</style>\n</head>\n<body>\n<svg width=\"0\" height=\"0\" style=\"position:absolute\" aria-hidden=\"true\"><defs><circle id=\"b\" r=\"3.6\"/><path id=\"r\" d=\"M0-5.2 5.2 0 0 5.2-5.2 0z\"/><path id=\"e\" d=\"M1-4 9 0 1 4z\"/></defs></svg>\n<header>\n<div class=\"mast\"><div><h1>$venue; <span>$day;</span></h1><p>The record of the day, replayed from its trail</p></div></div>\n<dl class=\"facts\">\n<div><dt>Rows</dt><dd>$rows;</dd></div>\n<div><dt>First row (UTC)</dt><dd>$first;</dd></div>\n<div><dt>Last row (UTC)</dt><dd>$last;</dd></div>\n<div><dt>Participants, instruments</dt><dd>$participants;, $instruments;</dd></div>\n<div class=\"l\"><dt>Digest of the trail</dt><dd><code class=\"dig\">$digest;</code></dd></div>\n<div class=\"l\"><dt>Participant file</dt><dd><code class=\"dig\">$participants;</code> <small>$length; bytes</small></dd></div>\n<div class=\"l\"><dt>Instrument file</dt><dd><code class=\"dig\">$instruments;</code> <small>$length; bytes</small></dd></div>\n</dl>\n</header>\n<nav aria-label=\"Sections\"><ol><li><a href=\"#bulletin\">Daily bulletin</a></li><li><a href=\"#trades\">Trades</a></li><li><a href=\"#requests\">Requests for quotes</a></li><li><a href=\"#refusals\">Refusals</a></li><li><a href=\"#participants\">Participants</a></li><li><a href=\"#rows\">Rows</a></li></ol></nav>\n<main>";
 
 /// The head of the rows.
 pub(crate) const ROWS: &[u8] =
-    b"<section id=\"rows\">\n<h2>Rows<small>$count;</small></h2>\n<p class=\"lead\">What the venue took, in its order: each message in words, and as FIX text, with | for the byte 1. Behind each name stand the session&#39;s sequence number and era. Of more than 5,000 rows none stands here: <code>sef_replay --answers</code> prints them.</p>\n";
+    b"<section id=\"rows\">\n<h2>Rows<small>$count;</small></h2>\n<p class=\"lead\">What the venue took, in its order: each message in words, and as FIX text, with | for the byte 1. Behind each name are the session&#39;s sequence number and its era: an era is a series of sequence numbers, from one reset (141=Y) to the next. A day of more than 5,000 rows has none of them here: <code>sef_replay --answers</code> prints them.</p>\n";
 
 /// The rows of a short day.
 pub(crate) const ROWS_OPEN: &[u8] = b"<details class=\"fold\" open><summary>The rows</summary>";
@@ -24,7 +24,7 @@ pub(crate) const COLUMNS: &[u8] =
 
 /// A row of a message.
 pub(crate) const MESSAGE: &[u8] =
-    b"<tr id=\"n$row;\"><th scope=\"row\"><b>$row;</b></th><td class=\"w\">$time;</td><td>$participant; <small class=\"w\">$number; in era $era;</small></td><td class=\"say\">$words;<code>$text;</code></td></tr>";
+    b"<tr id=\"n$row;\"><th scope=\"row\"><b>$row;</b></th><td class=\"w\">$time;</td><td>$participant; <small class=\"w\">$number; in era $era;</small></td><td class=\"say\"><bdi>$words;</bdi><code>$text;</code></td></tr>";
 
 /// A row of the clock.
 pub(crate) const TICK: &[u8] =
@@ -35,4 +35,4 @@ pub(crate) const ROWS_END: &[u8] = b"</tbody></table></details></section>\n";
 
 /// The end of the page.
 pub(crate) const END: &[u8] =
-    b"</main>\n<footer><p>This page was made by a replay of the trail. A trail is no seal: compare its digest with one that was signed. Moments are of the venue&#39;s clock; who is related to whom is as the participant file says.</p></footer>\n</body>\n</html>\n";
+    b"</main>\n<footer><p>This page was made by a replay of the trail. A trail is no seal: compare its digest with one that was signed. Times are UTC, by the venue&#39;s clock; those of the tables are without their date, which each row has; who is related to whom is as the participant file says.</p></footer>\n</body>\n</html>\n";

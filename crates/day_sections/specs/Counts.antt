@@ -14,12 +14,12 @@ is_entered _ = false
 
 -- an order that was replaced
 abbrev pub is_replaced : What → Bool
-is_replaced what.Replaced = true
+is_replaced (what.Replaced x) = true
 is_replaced _ = false
 
 -- an order that was cancelled
 abbrev pub is_cancelled : What → Bool
-is_cancelled what.Cancelled = true
+is_cancelled (what.Cancelled x) = true
 is_cancelled _ = false
 
 -- the refusal of a row

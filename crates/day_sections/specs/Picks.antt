@@ -1,5 +1,5 @@
 -- Events that belong together, picked from those of a day.
-use Rattle.std.specs.Prelude.{ℕ, ◌==◌, ◌&&◌, Bool, true, false, List, bytes_eq, is_none, Option, Some, None}
+use Rattle.std.specs.Prelude.{ℕ, ◌==◌, ◌&&◌, Bool, true, false, List, filter, bytes_eq, is_none, Option, Some, None}
 use Rattle.venue_rules.specs.Rooms.{printed}
 use Rattle.day_events.specs.declared.event.Event.{Event}
 use Rattle.day_events.specs.declared.event.What.{What}
@@ -23,6 +23,16 @@ abbrev pub is_asked_in : ℕ → What → Bool
 is_asked_in room (what.Asked r) = r.room == room
 is_asked_in room _ = false
 
+-- what is said of a request
+abbrev pub is_of_request : What → Bool
+is_of_request (what.Asked x) = true
+is_of_request (what.Shown x) = true
+is_of_request (what.Quoted x) = true
+is_of_request (what.Withdrawn x) = true
+is_of_request what.Passed = true
+is_of_request (what.Traded x) = true
+is_of_request _ = false
+
 abbrev pub is_shown : What → Bool
 is_shown (what.Shown x) = true
 is_shown _ = false
@@ -34,7 +44,12 @@ is_of_cause cause _ = false
 -- What is shown in a room names it, and so does a quote: the message of its row is a quote, whose request (131) is the
 -- room.
 abbrev pub is_picked : Pick → Event → Bool
+is_picked pick.Requests e = is_of_request e.what
 is_picked (pick.Asked room) e = is_asked_in room e.what
 is_picked (pick.Shown room) e = is_shown e.what && names_room room e.at.named
 is_picked (pick.Quotes room) e = is_quoted e.what && names_room room e.at.named
 is_picked (pick.Refused cause) e = is_of_cause cause e.what
+
+-- what is said of requests
+abbrev pub of_requests : List Event → List Event
+of_requests es = filter (is_picked pick.Requests) es

@@ -12,7 +12,7 @@ use Rattle.venue_rules.specs.declared.trail.TradeFact.{TradeFact}
 use Rattle.day_events.specs.declared.event.Event.{Event}
 use Rattle.day_tables.specs.Parts.{framed, plain_part}
 use Rattle.day_tables.specs.Values.{grouped, time_in}
-use Rattle.day_sections.specs.declared.template.TheConstants.{CELL_END, DEAL, IN_BOOK, IN_ROOM, NO_ROW, TABLE_END, TRADE, TRADES}
+use Rattle.day_sections.specs.declared.template.TheConstants.{CELL_END, DEAL, IN_BOOK, IN_ROOM, NO_ROW, TRADE, TRADES, TRADES_END}
 use Rattle.day_sections.specs.Reports.{report_of}
 use Rattle.day_sections.specs.Values.{row_part}
 
@@ -53,4 +53,4 @@ abbrev pub count_part : List TradeFact → Part
 count_part ts = record { template = TRADES.now; values = grouped (length ts) ∷ [] }
 
 abbrev pub trades_parts : ParticipantFile → List Instrument → Bool → List Event → List TradeFact → List Part
-trades_parts file xs linked rs ts = framed (count_part ts) (flat_map (trade_parts file xs linked rs) ts) (plain_part TABLE_END.now)
+trades_parts file xs linked rs ts = framed (count_part ts) (flat_map (trade_parts file xs linked rs) ts) (plain_part TRADES_END.now)

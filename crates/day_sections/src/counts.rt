@@ -36,7 +36,7 @@ fn is_replaced(what: &What) -> bool
     ensures { result ≡ is_replaced what.now }
 {
     match what {
-        What::Replaced => true,
+        What::Replaced(_) => true,
         _ => false,
     }
 }
@@ -46,7 +46,7 @@ fn is_cancelled(what: &What) -> bool
     ensures { result ≡ is_cancelled what.now }
 {
     match what {
-        What::Cancelled => true,
+        What::Cancelled(_) => true,
         _ => false,
     }
 }

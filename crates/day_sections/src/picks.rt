@@ -1,7 +1,7 @@
 //! Events that belong together, picked from those of a day.
 
 ghost use Rattle.std.specs.Prelude.{◌≡◌, IfOk, filter};
-ghost use Rattle.day_sections.specs.Picks.{is_asked_in, is_of_cause, is_picked, is_same, is_shown, names_room};
+ghost use Rattle.day_sections.specs.Picks.{is_asked_in, is_of_cause, is_of_request, is_picked, is_same, is_shown, names_room};
 
 use crate::counts::is_quoted;
 use crate::rooms::keep;
@@ -13,6 +13,8 @@ use venue_rules::printed_identifier;
 /// Which events are picked.
 #[derive(Clone, Copy)]
 pub enum Pick {
+    /// what is said of requests, of whatever room
+    Requests,
     /// a request, as each recipient was asked in this room
     Asked(u64),
     /// the resting orders shown with a quote in this room
@@ -56,6 +58,22 @@ fn is_asked_in(room: u64, what: &What) -> bool
     }
 }
 
+/// Whether this is said of a request.
+#[tactic(auto, unfolding(crate::specs::Picks::is_of_request))]
+fn is_of_request(what: &What) -> bool
+    ensures { result ≡ is_of_request what.now }
+{
+    match what {
+        What::Asked(_) => true,
+        What::Shown(_) => true,
+        What::Quoted(_) => true,
+        What::Withdrawn(_) => true,
+        What::Passed => true,
+        What::Traded(_) => true,
+        _ => false,
+    }
+}
+
 #[tactic(auto, unfolding(crate::specs::Picks::is_shown))]
 fn is_shown(what: &What) -> bool
     ensures { result ≡ is_shown what.now }
@@ -80,6 +98,7 @@ fn is_picked(pick: &Pick, event: &Event) -> bool
     ensures { result ≡ is_picked pick.now event.now }
 {
     match pick {
+        Pick::Requests => is_of_request(&event.what),
         Pick::Asked(room) => is_asked_in(*room, &event.what),
         Pick::Shown(room) => is_shown(&event.what) && names_room(*room, &event.at.named),
         Pick::Quotes(room) => is_quoted(&event.what) && names_room(*room, &event.at.named),

@@ -4,7 +4,7 @@ ghost use Rattle.std.specs.Prelude.{◌≡◌, OnOk, IfOk, filter, take};
 ghost use Rattle.std.specs.List.{flat_map};
 ghost use Rattle.page_text.specs.Parts.{with_part, with_parts};
 ghost use Rattle.day_sections.specs.declared.picks.Pick.TheVariants as pick;
-ghost use Rattle.day_sections.specs.Picks.{is_picked};
+ghost use Rattle.day_sections.specs.Picks.{is_picked, of_requests};
 ghost use Rattle.day_sections.specs.Requests.{all_quotes, asked_parts, asked_section, fate_part, idle_part, if_quote_parts, if_request_parts, if_traded, most_rooms, once_part, opening_parts, optional_price, outcome_part, price_part, quote_part, quote_parts, request_parts, requests_parts, room_part, shown_order_parts, shown_parts, shown_section, side_word, side_words, some_requests, trade_in, traded_part, twice_part};
 ghost use Rattle.day_sections.specs.Rooms.{rooms};
 ghost use Rattle.day_sections.specs.Values.{are_shown, last_moment};
@@ -530,12 +530,13 @@ pub fn add_requests(
     rows: &[TrailRow],
     events: &[Event],
 ) -> Result<(), AllocError>
-    ensures { OnOk result (page.new ≡ with_parts page.old (requests_parts participants.now (are_shown rows.now) (last_moment rows.now) events.now (rooms events.now))) }
+    ensures { OnOk result (page.new ≡ with_parts page.old (requests_parts participants.now (are_shown rows.now) (last_moment rows.now) (of_requests events.now) (rooms events.now))) }
 {
+    let spoken = picked(alloc, events, &Pick::Requests)?;
     let answered = Answered {
         linked: are_shown(rows),
         last: last_moment(rows),
-        events,
+        events: &spoken,
     };
     let rooms = rooms(alloc, events)?;
     add_rooms(alloc, page, participants, &answered, &rooms)

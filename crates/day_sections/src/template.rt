@@ -2,7 +2,7 @@
 
 /// The day in six figures.
 pub(crate) const FIGURES: &[u8] =
-    b"<section id=\"figures\" style=\"padding-top:0\" aria-label=\"The day in six figures\">\n<dl class=\"six\"><div><dt>Messages</dt><dd><a href=\"#rows\">$messages;</a></dd><p>participants: $participants;, rows: $rows;</p></div><div><dt>Orders</dt><dd>$orders;</dd><p>entered in the book</p></div><div><dt>Trades</dt><dd><a href=\"#trades\">$trades;</a></dd><p>in the book: $book;, in requests: $requests;</p></div><div><dt>Quantity traded</dt><dd><a href=\"#bulletin\">$quantity;</a></dd><p>in the book: $book;, in requests: $requests;</p></div><div><dt>Requests</dt><dd>$requests;</dd><p>quotes: $quotes;, hit: $hit;</p></div><div><dt>Refusals</dt><dd>$refusals;</dd><p>a message or a held side each</p></div></dl></section>\n";
+    b"<section id=\"figures\" style=\"padding-top:0\" aria-label=\"The day in six figures\">\n<dl class=\"six\"><div><dt>Application messages taken</dt><dd><a href=\"#rows\">$messages;</a></dd><p>participants: $participants;, rows: $rows;</p></div><div><dt>Orders</dt><dd>$orders;</dd><p>accepted (New reported)</p></div><div><dt>Trades</dt><dd><a href=\"#trades\">$trades;</a></dd><p>in the book: $book;, in requests: $requests;</p></div><div><dt>Quantity traded</dt><dd><a href=\"#bulletin\">$quantity;</a></dd><p>in the book: $book;, in requests: $requests;</p></div><div><dt>Requests</dt><dd>$requests;</dd><p>quotes: $quotes;, hit: $hit;</p></div><div><dt>Refusals</dt><dd>$refusals;</dd><p>a message or a held side each</p></div></dl></section>\n";
 
 /// The head of the trades.
 pub(crate) const TRADES: &[u8] =
@@ -27,25 +27,29 @@ pub(crate) const DEAL: &[u8] =
 /// A trade without a report, of which there is none.
 pub(crate) const NO_ROW: &[u8] = b"";
 
-/// A row that are on the page.
+/// A row that is on the page.
 pub(crate) const ROW_LINK: &[u8] = b"<a href=\"#n$row;\">$row;</a> ";
 
-/// A row that does not.
+/// A row that is not.
 pub(crate) const ROW_ALONE: &[u8] = b"$row; ";
 
 /// The end of a cell and of its row.
 pub(crate) const CELL_END: &[u8] = b"</td></tr>";
+
+/// The end of the trades.
+pub(crate) const TRADES_END: &[u8] =
+    b"</tbody></table>\n<p class=\"s none\">One name as buyer and seller: two orders of one participant, the delay or more apart, or both sides of its cross: <code>sef_replay --csv</code> says which.</p></section>\n";
 
 /// The end of a section with one table.
 pub(crate) const TABLE_END: &[u8] = b"</tbody></table></section>\n";
 
 /// The head of the requests for quotes.
 pub(crate) const REQUESTS: &[u8] =
-    b"<section id=\"requests\">\n<h2>Requests for quotes<small>$count;</small></h2>\n<p class=\"lead\">To whom each request went, what was shown with its first quote, each quote and what became of it, and the trade (17 CFR 37.9(a)(2), (a)(3)). Of more than 300 requests the first 300 stand here: <code>sef_replay --answers --room</code> prints the others.</p>\n";
+    b"<section id=\"requests\">\n<h2>Requests for quotes<small>$count;</small></h2>\n<p class=\"lead\">To whom each request went, what was shown with its first quote, each quote and what became of it, and the trade (17 CFR 37.9(a)(2), (a)(3)). Of more than 300 requests the first 300 are here: <code>sef_replay --answers --room</code> prints the others.</p>\n";
 
 /// A request: its head, whose end says what came of it.
 pub(crate) const ROOM: &[u8] =
-    b"<details class=\"rfq\" open><summary><b>R$room;</b><span>$time;</span><span>$requester; asks $asked; $side; $quantity; <b>$symbol;</b> <small><bdi>$id;</bdi></small></span>";
+    b"<details class=\"rfq\" open><summary><b>R$room;</b><span>$time;</span><span>$requester; asks $asked; participants for quotes, $side; $quantity; <b>$symbol;</b> <small><bdi>$id;</bdi></small></span>";
 
 /// A request that traded.
 pub(crate) const ROOM_TRADED: &[u8] =
@@ -57,7 +61,7 @@ pub(crate) const ROOM_IDLE: &[u8] =
 
 /// Whom it asked, up to the names.
 pub(crate) const ROOM_ASKED: &[u8] =
-    b"</summary>\n<dl class=\"asked\" id=\"R$room;\"><dt>Asked together, row</dt><dd>";
+    b"</summary>\n<dl class=\"asked\" id=\"R$room;\"><dt>Asked together; the row</dt><dd>";
 
 /// A name in a list.
 pub(crate) const NAME: &[u8] = b"<span class=\"lo\">$name;</span> ";
@@ -118,7 +122,7 @@ pub(crate) const NO_REQUEST: &[u8] =
 
 /// The head of the refusals.
 pub(crate) const REFUSALS: &[u8] =
-    b"<section id=\"refusals\">\n<h2>Refusals by cause<small>$count;</small></h2>\n<table class=\"cards ref\"><caption class=\"q\">Refusals by cause</caption><thead><tr><th scope=\"col\">Cause, as it was answered</th><th scope=\"col\" class=\"n\">Rows</th><th scope=\"col\">Whose, and the row</th></tr></thead>\n<tbody>";
+    b"<section id=\"refusals\">\n<h2>Refusals by cause<small>$count;</small></h2>\n<p class=\"lead\">Of messages that the venue took, and of held sides of crosses. What a session rejected (35=3) or skipped as garbled is in no trail.</p>\n<table class=\"cards ref\"><caption class=\"q\">Refusals by cause</caption><thead><tr><th scope=\"col\">Cause, as it was answered</th><th scope=\"col\" class=\"n\">Rows</th><th scope=\"col\">Whose, and the row</th></tr></thead>\n<tbody>";
 
 /// A cause, up to the rows.
 pub(crate) const CAUSE: &[u8] =
@@ -139,7 +143,7 @@ pub(crate) const NO_REFUSAL: &[u8] =
 
 /// The head of the participants.
 pub(crate) const PEOPLE: &[u8] =
-    b"<section id=\"participants\">\n<h2>Participants<small>$count;</small></h2>\n<div class=\"wide\" tabindex=\"0\" role=\"region\" aria-label=\"Participants\"><table><caption class=\"q\">Each participant&#39;s day</caption>\n<thead><tr class=\"g\"><td></td><th colspan=\"2\" scope=\"colgroup\">Messages</th><th class=\"v\" colspan=\"3\" scope=\"colgroup\">Orders</th><th class=\"v\" colspan=\"2\" scope=\"colgroup\">Trades</th><th class=\"v\" colspan=\"1\" scope=\"colgroup\">Requests</th><th class=\"v\" colspan=\"3\" scope=\"colgroup\">Requests answered</th></tr>\n<tr><th scope=\"col\">Participant</th><th scope=\"col\" class=\"n\">Sent</th><th scope=\"col\" class=\"n\">Refused</th><th scope=\"col\" class=\"n v\">Entered</th><th scope=\"col\" class=\"n\">Replaced</th><th scope=\"col\" class=\"n\">Cancelled</th><th scope=\"col\" class=\"n v\">Bought</th><th scope=\"col\" class=\"n\">Sold</th><th scope=\"col\" class=\"n v\">Made</th><th scope=\"col\" class=\"n v\">Asked</th><th scope=\"col\" class=\"n\">Quotes</th><th scope=\"col\" class=\"n\">Hit</th></tr></thead>\n<tbody>";
+    b"<section id=\"participants\">\n<h2>Participants<small>$count;</small></h2>\n<p class=\"lead\">Cancelled are orders and held sides that their owner cancelled, not what is left of an immediate or cancel, or of a fill or kill, which the venue cancels as it enters.</p>\n<div class=\"wide\" tabindex=\"0\" role=\"region\" aria-label=\"Participants\"><table><caption class=\"q\">Each participant&#39;s day</caption>\n<thead><tr class=\"g\"><td></td><th colspan=\"2\" scope=\"colgroup\">Messages</th><th class=\"v\" colspan=\"3\" scope=\"colgroup\">Orders</th><th class=\"v\" colspan=\"2\" scope=\"colgroup\">Trades</th><th class=\"v\" colspan=\"1\" scope=\"colgroup\">Requests</th><th class=\"v\" colspan=\"3\" scope=\"colgroup\">Requests answered</th></tr>\n<tr><th scope=\"col\">Participant</th><th scope=\"col\" class=\"n\">Sent</th><th scope=\"col\" class=\"n\">Refused</th><th scope=\"col\" class=\"n v\">Entered</th><th scope=\"col\" class=\"n\">Replaced</th><th scope=\"col\" class=\"n\">Cancelled</th><th scope=\"col\" class=\"n v\">Bought</th><th scope=\"col\" class=\"n\">Sold</th><th scope=\"col\" class=\"n v\">Made</th><th scope=\"col\" class=\"n v\">Asked</th><th scope=\"col\" class=\"n\">Quotes</th><th scope=\"col\" class=\"n\">Hit</th></tr></thead>\n<tbody>";
 
 /// A participant.
 pub(crate) const PERSON: &[u8] =

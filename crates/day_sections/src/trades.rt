@@ -6,7 +6,7 @@ ghost use Rattle.page_text.specs.Parts.{with_part, with_parts};
 ghost use Rattle.day_sections.specs.Trades.{deal_part, head_part, place_part, room_part, row_of_part, time_text, trade_parts, trades_parts};
 
 use crate::reports::report_of;
-use crate::template::{CELL_END, DEAL, IN_BOOK, IN_ROOM, NO_ROW, TABLE_END, TRADE, TRADES};
+use crate::template::{CELL_END, DEAL, IN_BOOK, IN_ROOM, NO_ROW, TRADE, TRADES, TRADES_END};
 use crate::values::add_row_number;
 use day_events::Event;
 use day_tables::{grouped_text, name_at, number_text, price_bytes, symbol_at, time_in};
@@ -152,5 +152,5 @@ pub fn add_trades(
     let count = grouped_text(alloc, trades.len() as u64)?;
     page.add(TRADES, &[&count])?;
     add_each(alloc, page, participants, instruments, reported, trades)?;
-    page.add(TABLE_END, &[])
+    page.add(TRADES_END, &[])
 }

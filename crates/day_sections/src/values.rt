@@ -40,7 +40,7 @@ pub(crate) fn sender_at(participants: &Participants, from: u32) -> &[u8]
     }
 }
 
-/// Adds the number of a row that are on the page.
+/// Adds the number of a row that is on the page.
 fn add_row_link(alloc: Global, page: &mut Page, row: u64) -> Result<(), AllocError>
     ensures { OnOk result (page.new ≡ with_part page.old (row_link row)) }
 {

@@ -21,15 +21,15 @@ date_in utc = take 8 utc
 abbrev pub time_in : List ℕ → List ℕ
 time_in utc = drop 9 utc
 
--- the same of a row that may be absent
+-- the date of a row that may be absent, and its date and time
 
 abbrev pub date_of : Option (List ℕ) → List ℕ
 date_of None = codes "no rows"
 date_of (Some utc) = date_in utc
 
-abbrev pub time_of : Option (List ℕ) → List ℕ
-time_of None = codes "no rows"
-time_of (Some utc) = time_in utc
+abbrev pub moment_of : Option (List ℕ) → List ℕ
+moment_of None = codes "no rows"
+moment_of (Some utc) = utc
 
 -- a price field's value, between its tag and its SOH
 

@@ -4,7 +4,7 @@ ghost use Rattle.fix_fields.specs.Fields.{field_text};
 ghost use Rattle.fix_fields.specs.Forms.{price_text};
 ghost use Rattle.instruments.specs.Listing.{symbol_of};
 ghost use Rattle.participants.specs.Relations.{name_of};
-ghost use Rattle.day_tables.specs.Values.{date_in, date_of, grouped, grouped_digits, separator, time_in, time_of, value_in};
+ghost use Rattle.day_tables.specs.Values.{date_in, date_of, grouped, grouped_digits, separator, time_in, moment_of, value_in};
 
 use fix_dictionary::Price;
 use fix_fields::FieldWriter;
@@ -127,13 +127,13 @@ pub fn date_of(utc: &Option<[u8; 21]>) -> &[u8]
     }
 }
 
-/// Its time.
-pub fn time_of(utc: &Option<[u8; 21]>) -> &[u8]
-    ensures { result.now ≡ time_of utc.now }
+/// Its date and time.
+pub fn moment_of(utc: &Option<[u8; 21]>) -> &[u8]
+    ensures { result.now ≡ moment_of utc.now }
 {
     match utc {
         None => b"no rows",
-        Some(utc) => time_in(utc),
+        Some(utc) => utc,
     }
 }
 

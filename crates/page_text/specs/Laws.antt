@@ -14,7 +14,7 @@ empty_part p = record { template = p.template; values = [] }
 abbrev pub ValuesLeaveTagsAlone : Type 0
 ValuesLeaveTagsAlone = (ps : List Part) → tags Text (page_of ps) ≡ tags Text (page_of (map empty_part ps))
 
--- A value is read as it is: two values that differ are never shown as one.
+-- A value is read back as it is: two values that differ have two texts.
 abbrev pub ValuesAreReadBack : Type 0
 ValuesAreReadBack = (v : List ℕ) → All (λ b. b < 256) v → read_back Plain (escaped_all v) ≡ v
 

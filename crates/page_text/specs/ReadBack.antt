@@ -1,4 +1,5 @@
--- How the text of a value is read: as the HTML standard reads character references, of the six forms that are written.
+-- How the text of a value is read: as the HTML standard reads character references, of the six forms that are written,
+-- for bytes 32 to 126, which all values are.
 use Rattle.std.specs.Prelude.{ℕ, ◌+◌, ◌*◌, ◌-◌, List, [], ◌∷◌, ◌++◌, ◌==◌, bytes_eq, nat_lt, codes, if◌then◌else◌}
 
 -- between references, or within one, behind its `&`

@@ -3,7 +3,7 @@ use Rattle.std.proofs.lemmas.Result.{on_ok_weaker}
 use Rattle.std.specs.Prelude.{decimal}
 use Rattle.page_text.specs.Parts.{with_part}
 use Rattle.message_words.specs.Visible.{readable}
-use Rattle.day_tables.specs.Values.{date_of, grouped, time_in, time_of}
+use Rattle.day_tables.specs.Values.{date_of, grouped, moment_of}
 use Rattle.day_page.specs.declared.template.TheConstants.{HEAD}
 use Rattle.day_page.proofs.head.add_identity.Goals as goal
 
@@ -13,7 +13,7 @@ returns c =
     (λ e. e ∙ (λ j. with_part c.args.page.now (record {
       template = HEAD.now;
       values = c.venue.ensures.value j ∷ (c.date_of.ensures ∙ ap date_of c.first_utc-first.ensures) j ∷ (c.deref.ensures.value ∙ c.in_ok-rows.ensures) j
-          ∷ (c.time_of.ensures ∙ ap time_of c.first_utc-first.ensures) j ∷ (c.time_of-2.ensures ∙ ap time_of c.last_utc-last.ensures) j
+          ∷ (c.moment_of.ensures ∙ ap moment_of c.first_utc-first.ensures) j ∷ (c.moment_of-2.ensures ∙ ap moment_of c.last_utc-last.ensures) j
           ∷ (c.deref-2.ensures.value ∙ (c.in_ok-people.ensures ∙ ap grouped c.len.ensures.count)) j ∷ (c.deref-3.ensures.value ∙ (c.in_ok-listed.ensures ∙ ap grouped c.len-2.ensures.count)) j
           ∷ (c.as_bytes.ensures.value ∙ c.in_ok-digest.ensures) j ∷ (c.as_bytes-2.ensures.value ∙ c.in_ok-participants_digest.ensures) j ∷ (c.deref-4.ensures.value ∙ c.in_ok-participants_length.ensures) j
           ∷ (c.as_bytes-3.ensures.value ∙ c.in_ok-instruments_digest.ensures) j ∷ (c.deref-5.ensures.value ∙ c.in_ok-instruments_length.ensures) j ∷ [];

@@ -3,7 +3,7 @@ use Rattle.std.proofs.lemmas.Result.{on_ok_weaker}
 use Rattle.std.specs.Prelude.{decimal}
 use Rattle.page_text.specs.Parts.{with_part}
 use Rattle.message_words.specs.Visible.{readable}
-use Rattle.day_tables.specs.Values.{date_of, grouped, time_in, time_of}
+use Rattle.day_tables.specs.Values.{date_of}
 use Rattle.day_page.specs.declared.template.TheConstants.{TOP}
 use Rattle.day_page.proofs.head.add_top.Goals as goal
 

@@ -1,9 +1,7 @@
-use Rattle.std.proofs.Common.{◌∷◌, [], ◌∙◌, ap}
+use Rattle.std.proofs.Common.{◌∷◌, [], ◌∙◌}
 use Rattle.std.proofs.lemmas.Result.{on_ok_weaker}
 use Rattle.std.specs.Prelude.{decimal}
 use Rattle.page_text.specs.Parts.{with_part}
-use Rattle.message_words.specs.Visible.{readable}
-use Rattle.day_tables.specs.Values.{date_of, grouped, time_in, time_of}
 use Rattle.day_page.specs.declared.template.TheConstants.{TICK}
 use Rattle.day_page.proofs.rows.add_tick.Goals as goal
 
@@ -12,6 +10,6 @@ returns c =
     on_ok_weaker c.add.result
     (λ e. e ∙ (λ j. with_part c.args.page.now (record {
       template = TICK.now;
-      values = (c.deref.ensures.value ∙ c.in_ok-number.ensures) j ∷ (c.deref-2.ensures.value ∙ c.in_ok-number.ensures) j ∷ (c.time_in.ensures ∙ ap time_in c.print_utc-moment.ensures) j ∷ [];
+      values = (c.deref.ensures.value ∙ c.in_ok-number.ensures) j ∷ (c.deref-2.ensures.value ∙ c.in_ok-number.ensures) j ∷ c.print_utc-moment.ensures j ∷ [];
     })))
     c.add.ensures.added

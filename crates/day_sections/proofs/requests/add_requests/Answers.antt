@@ -9,5 +9,5 @@ use Rattle.day_sections.proofs.requests.add_requests.Goals as goal
 pub returns : goal.returns
 returns c =
     on_ok_weaker c.add_rooms.result
-    (λ e. e ∙ (λ j. with_parts c.args.page.now (requests_parts c.args.participants.now (c.are_shown.ensures j) (c.last_moment.ensures j) c.args.events.now ((c.deref.ensures.value ∙ c.in_ok-rooms.ensures) j))))
+    (λ e. e ∙ (λ j. with_parts c.args.page.now (requests_parts c.args.participants.now (c.are_shown.ensures j) (c.last_moment.ensures j) ((c.deref.ensures.value ∙ c.in_ok-spoken.ensures) j) ((c.deref-2.ensures.value ∙ c.in_ok-rooms.ensures) j))))
     c.add_rooms.ensures

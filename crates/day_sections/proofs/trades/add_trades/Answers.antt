@@ -3,7 +3,7 @@ use Rattle.std.proofs.lemmas.Result.{on_ok_weaker}
 use Rattle.page_text.specs.Parts.{with_part, with_parts}
 use Rattle.std.specs.List.{flat_map}
 use Rattle.day_tables.specs.Parts.{plain_part}
-use Rattle.day_sections.specs.declared.template.TheConstants.{TABLE_END, TRADES}
+use Rattle.day_sections.specs.declared.template.TheConstants.{TRADES_END, TRADES}
 use Rattle.day_sections.specs.Trades.{count_part, trade_parts}
 use Rattle.day_sections.proofs.Walks.{in_frame}
 use Rattle.day_sections.proofs.trades.add_trades.Goals as goal
@@ -12,7 +12,7 @@ pub returns : goal.returns
 returns c =
     let answered = c.args.reported.now in
     on_ok_weaker c.add-2.result
-    (in_frame c.args.page.now c.add.new.self c.add_each.new.page c.add-2.new.self (count_part c.args.trades.now) (flat_map (trade_parts c.args.participants.now c.args.instruments.now answered.linked answered.reports.now) c.args.trades.now) (plain_part TABLE_END.now)
+    (in_frame c.args.page.now c.add.new.self c.add_each.new.page c.add-2.new.self (count_part c.args.trades.now) (flat_map (trade_parts c.args.participants.now c.args.instruments.now answered.linked answered.reports.now) c.args.trades.now) (plain_part TRADES_END.now)
     (c.in_ok-add.ensures.added ∙ (λ j. with_part c.args.page.now (record { template = TRADES.now; values = (c.deref.ensures.value ∙ c.in_ok-count.ensures) j ∷ [] })))
     c.in_ok-add_each.ensures)
     c.add-2.ensures.added

@@ -3,9 +3,10 @@
 ghost use Rattle.std.specs.Prelude.{◌≡◌, ◌+◌, ◌≤◌, All, length, IfOk, OnOk};
 ghost use Rattle.venue_core.specs.Plan.{most_items};
 ghost use Rattle.venue_core.specs.Replay.{IsItem};
-ghost use Rattle.day_page.specs.Days.{AreEvents, TakesEvents};
+ghost use Rattle.day_events.specs.Days.{AreEvents, TakesEvents};
 
-use day_events::{Event, push_events_at};
+use crate::event::Event;
+use crate::reporting::push_events_at;
 use instruments::Instruments;
 use participants::Participants;
 use row_replay::{item_of, plan_item};
@@ -13,9 +14,9 @@ use std::alloc::{AllocError, Global};
 use venue_core::{Venue, day_goes_on};
 use venue_rules::TrailRow;
 
-/// A venue after the rows of a trail, with what its answers answered.
+/// A venue after the rows of a trail, with what its answers say.
 #[derive(Drop)]
-pub(crate) struct Day {
+pub struct Day {
     pub venue: Venue,
     pub events: Vec<Event>,
 }
@@ -41,8 +42,8 @@ fn take_row(
     Ok(())
 }
 
-/// The venue after the rows of a trail, with these participants and instruments, and what its answers answered.
-pub(crate) fn day_of(
+/// The venue after the rows of a trail, with these participants and instruments, and what its answers say.
+pub fn day_of(
     alloc: Global,
     participants: Participants,
     instruments: Instruments,

@@ -15,7 +15,7 @@ use Rattle.venue_core.specs.VenueFacts.{IsAfter, IsAnswer, IsHistory}
 use Rattle.day_events.specs.declared.event.Event.{Event}
 use Rattle.day_events.specs.Events.{events_at}
 use Rattle.row_replay.specs.Inputs.{input_of}
-use Rattle.day_page.specs.Days.{AreEvents, TakesEvents, events, events_from, taken_in}
+use Rattle.day_events.specs.Days.{AreEvents, TakesEvents, events, events_from, taken_in}
 
 -- one row further
 

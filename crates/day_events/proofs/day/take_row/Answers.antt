@@ -1,6 +1,6 @@
 use Rattle.venue_core.specs.Plan.{answer_of}
-use Rattle.day_page.proofs.Walking.{takes_row}
-use Rattle.day_page.proofs.day.take_row.Goals as goal
+use Rattle.day_events.proofs.Walking.{takes_row}
+use Rattle.day_events.proofs.day.take_row.Goals as goal
 
 pub returns-clause-taken : goal.returns-clause-taken
 returns-clause-taken c =

@@ -1,8 +1,8 @@
 use Rattle.std.proofs.Common.{◌+◌, ℕ, arith, ap, subst, sym, ◌∙◌}
 use Rattle.std.proofs.lemmas.List.Elements.{All-get_or}
 use Rattle.venue_core.specs.Replay.{IsItem}
-use Rattle.day_page.proofs.Walking.{answered_more, answered_nothing}
-use Rattle.day_page.proofs.day.day_of.Goals as goal
+use Rattle.day_events.proofs.Walking.{answered_more, answered_nothing}
+use Rattle.day_events.proofs.day.day_of.Goals as goal
 
 pub take_row-requires-clause-kept : goal.take_row-requires-clause-kept
 take_row-requires-clause-kept c = subst IsItem (sym c.row-item.is) (All-get_or IsItem c.args.rows.now c.loop-row.row-index c.row-item.result c.loop-row-test.true c.requires.kept)
