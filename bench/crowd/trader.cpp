@@ -141,7 +141,7 @@ int main(int count, char **words) {
     std::string kind = count > 5 ? words[5] : "";
     if (!(kind == "orders" && count == 8) && !(kind == "requests" && (count == 6 || count == 9)) &&
         !(kind == "looks" && count == 7)) {
-        fprintf(stderr, "trader PORT NAME RUN WINDOW (orders BUYS RESTS | requests [ASKED ASKED ASKED] | looks SYMBOL)\n");
+        fprintf(stderr, "trader PORT NAME RUN WINDOW (orders BUYS RESTS | requests [ASKED..] | looks SYMBOL)\n");
         return 2;
     }
     try {
