@@ -16,6 +16,7 @@ SIZES = (
     (199, 100_000, 1),
     (10, 1_000, 256),
     (100, 1_000, 256),
+    (199, 1_000, 256),
 )
 KINDS = ("rest", "replace", "cancel", "fill", "snapshot")
 # the RFQ rooms closed before
