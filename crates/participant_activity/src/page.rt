@@ -85,8 +85,20 @@ fn append_day(
 ) -> Result<(), AllocError>
     ensures { OnOk result (text.new.items ≡ text.old.items ++ day_text form (activity_of activity.now)) }
 {
-    append_moment(alloc, text, form, b"first message sent or owed (UTC)", activity.first)?;
-    append_moment(alloc, text, form, b"last message sent or owed (UTC)", activity.last)
+    append_moment(
+        alloc,
+        text,
+        form,
+        b"first message sent or owed (UTC)",
+        activity.first,
+    )?;
+    append_moment(
+        alloc,
+        text,
+        form,
+        b"last message sent or owed (UTC)",
+        activity.last,
+    )
 }
 
 fn append_requests(
@@ -164,10 +176,7 @@ fn append_quotes(
             counted!(b"quotes passed", counts.passed),
             counted!(b"quotes withdrawn", counts.withdrawn),
             counted!(b"quotes replaced", counts.replaced),
-            counted!(
-                b"quotes whose own end (62) passed",
-                lapsed
-            ),
+            counted!(b"quotes whose own end (62) passed", lapsed),
             counted!(
                 b"quotes whose end no message states (run out or traded elsewhere or live)",
                 ends.unreported
