@@ -110,8 +110,11 @@ outcome r names heard = step_if names heard.item heard.step ++ order_if (words_o
 abbrev pub gap_line : List ℕ → List ℕ
 gap_line number = joined (codes "        a gap: the expected number is " ∷ number ∷ codes ", and each message from it on is asked for again\n" ∷ [])
 
+abbrev pub is_resend_request : List ℕ → Bool
+is_resend_request body = bytes_eq (value_in (codes "35=") body) (codes "2")
+
 abbrev pub gap_if : List ℕ → List ℕ
-gap_if body = if bytes_eq (value_in (codes "35=") body) (codes "2") then gap_line (value_in (codes "7=") body) else []
+gap_if body = if is_resend_request body then gap_line (value_in (codes "7=") body) else []
 
 -- what a message says: its words, if it has some, or the gap that it names
 abbrev pub meaning : Reader → List ℕ → List ℕ

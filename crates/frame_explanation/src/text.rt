@@ -232,21 +232,34 @@ fn append_sent_line<'a>(
     )
 }
 
-/// Appends what a ResendRequest says of the expected number.
-fn append_gap_if(out: &mut Vec<u8>, body: &[u8]) -> Result<(), AllocError>
-    ensures { OnOk result (out.new.items ≡ out.old.items ++ text.gap_if body.now) }
+fn is_resend_request(body: &[u8]) -> bool
+    ensures { result ≡ text.is_resend_request body.now }
 {
-    if value_in(b"35=", body) != b"2".as_slice() {
-        return Ok(());
-    }
+    value_in(b"35=", body) == b"2".as_slice()
+}
+
+/// Appends the expected number, from which on messages are asked for again.
+fn append_gap<'a>(out: &mut Vec<u8>, number: &'a [u8]) -> Result<(), AllocError>
+    ensures { OnOk result (out.new.items ≡ out.old.items ++ text.gap_line number.now) }
+{
     append_parts(
         out,
         &[
             Part::Bytes(b"        a gap: the expected number is "),
-            Part::Bytes(value_in(b"7=", body)),
+            Part::Bytes(number),
             Part::Bytes(b", and each message from it on is asked for again\n"),
         ],
     )
+}
+
+/// Appends what a ResendRequest says of the expected number.
+fn append_gap_if(out: &mut Vec<u8>, body: &[u8]) -> Result<(), AllocError>
+    ensures { OnOk result (out.new.items ≡ out.old.items ++ text.gap_if body.now) }
+{
+    if !is_resend_request(body) {
+        return Ok(());
+    }
+    append_gap(out, value_in(b"7=", body))
 }
 
 /// Appends a message that a participant is sent in words, or the gap that it names.
