@@ -9,6 +9,9 @@ import time
 
 NAMES = ("chromium", "chromium-browser", "google-chrome", "chrome")
 
+# The height of a screenshot: Chromium keeps none that is much higher.
+MOST_HEIGHT = 8_000
+
 
 def browser():
     """The path of a Chromium on this machine, or None."""
@@ -92,11 +95,13 @@ class Browser:
         return result["result"].get("value")
 
     def look(self, width, scheme, path):
-        """Keeps a screenshot of the whole page, in a window of this width."""
+        """Keeps a screenshot of the page, or of its first MOST_HEIGHT pixels, in a window of this width."""
         self.call("Emulation.setEmulatedMedia", features=[{"name": "prefers-color-scheme", "value": scheme}])
         self.call("Emulation.setDeviceMetricsOverride", width=width, height=900, deviceScaleFactor=1, mobile=False)
         time.sleep(0.2)
-        picture = self.call("Page.captureScreenshot", format="png", captureBeyondViewport=True)
+        height = min(self.value("document.documentElement.scrollHeight"), MOST_HEIGHT)
+        part = {"x": 0, "y": 0, "width": width, "height": height, "scale": 1}
+        picture = self.call("Page.captureScreenshot", format="png", captureBeyondViewport=True, clip=part)
         with open(path, "wb") as file:
             file.write(base64.b64decode(picture["data"]))
 
