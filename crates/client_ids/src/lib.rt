@@ -11,4 +11,5 @@ mod used;
 pub use client_id::{ClientId, hash_key};
 pub use finding::{Probe, search};
 pub use index::IdIndex;
+pub use probing::lowered;
 pub use used::UsedIds;

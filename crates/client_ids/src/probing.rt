@@ -46,7 +46,8 @@ pub(crate) struct LastProbe<'a> {
     ghost within: { IsWithin names.now index.now },
 }
 
-fn lowered(order: Ordering) -> Ordering
+/// Equal counts as below, so that a search finds the place after what is equal.
+pub fn lowered(order: Ordering) -> Ordering
     ensures { result ≡ lowered order }
 {
     match order {

@@ -11,7 +11,6 @@ pub mod Kept
 -- the steps of held sides
 pub mod Steps
 -- what is kept of the facts: held sides and used identifiers
-pub mod GhostHistory
 pub mod ByDue
 pub mod Used
 pub mod Standing

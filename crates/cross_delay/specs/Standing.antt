@@ -9,7 +9,6 @@ use Rattle.cross_delay.specs.declared.held.Held.TheInside.{Inside}
 use Rattle.cross_delay.specs.ByDue.{by_due}
 use Rattle.cross_delay.specs.Contents.{Contents}
 use Rattle.cross_delay.specs.Kept.{IsDelay}
-use Rattle.cross_delay.specs.GhostHistory.{facts_in}
 use Rattle.cross_delay.specs.Used.{cross_names, order_names}
 
 -- a side no longer held had a used identifier, and no two sides have one identifier
@@ -18,15 +17,15 @@ pub record IsKnown (facts : List Fact) : Type 0 where
   pub apart : (who : ℕ) (id : List ℕ) → length (filter (λ h. is_name who id h.order.who h.order.id) (held_sides facts)) ≤ 1
 
 abbrev pub contents : Inside → Contents
-contents h = record { facts = facts_in h.past; spare = record { headroom = h.headroom } }
+contents h = record { facts = h.past; spare = record { headroom = h.headroom } }
 
 -- what is kept of the facts: the held sides, the first to fall due first, and the used identifiers
 pub record IsStanding (h : Inside) : Type 0 where
-  pub delay : IsDelay (facts_in h.past)
-  pub known : IsKnown (facts_in h.past)
-  pub sides : h.sides.items ≡ by_due (held (facts_in h.past))
-  pub orders : h.orders.names ≡ order_names (facts_in h.past)
-  pub crosses : h.crosses.names ≡ cross_names (facts_in h.past)
+  pub delay : IsDelay h.past
+  pub known : IsKnown h.past
+  pub sides : h.sides.items ≡ by_due (held h.past)
+  pub orders : h.orders.names ≡ order_names h.past
+  pub crosses : h.crosses.names ≡ cross_names h.past
   pub sides_capacity : vec_len h.sides + h.headroom ≤ vec_capacity h.sides
   pub orders_capacity : h.headroom ≤ h.orders.headroom
   pub crosses_capacity : h.headroom ≤ h.crosses.headroom

@@ -4,7 +4,6 @@
 //! `venue_rules` read off them.
 #![tactic(auto)]
 
-mod ghost_history;
 mod held;
 mod laws;
 mod plan;

@@ -10,7 +10,7 @@ use Rattle.venue_rules.specs.declared.facts.HeldSide.{HeldSide}
 use Rattle.venue_rules.specs.declared.facts.OrderFact.{OrderFact}
 use Rattle.venue_rules.specs.declared.refusals.CrossRefusal.{CrossRefusal}
 use Rattle.venue_rules.specs.declared.refusals.CrossRefusal.TheVariants.{LinkedOrderTooRecent, BookSideFull, TooManyHeld}
-use Rattle.venue_rules.specs.Market.{Market}
+use Rattle.venue_rules.specs.Market.{Market, market}
 use Rattle.venue_rules.specs.Facts.{History}
 use Rattle.venue_rules.specs.Answer.{Answer, Sender, answers, first_of, numbered}
 use Rattle.venue_rules.specs.Book.{Fill, is_side_full, too_soon}
@@ -22,7 +22,6 @@ use Rattle.price_book.specs.Plans.{IsEntryAccepted, IsEntryRefused}
 use Rattle.price_book.specs.Views.{number_of}
 use Rattle.cross_delay.specs.Plans.{is_full}
 use Rattle.venue_request.specs.declared.counts.Counts.{Counts}
-use Rattle.venue_request.specs.Market.{market}
 use Rattle.order_handler.specs.Parts.{Parts, answer_of, book_answer_of}
 use Rattle.order_handler.specs.Reads.{IsReadAlone}
 use Rattle.cross_handler.specs.declared.terms.Cause.{Cause}

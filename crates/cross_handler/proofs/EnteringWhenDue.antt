@@ -17,7 +17,7 @@ use Rattle.price_book.specs.declared.book.Refusal.TheVariants.{TooSoon, Full}
 use Rattle.price_book.specs.Plans.{IsEntryAccepted, IsEntryRefused}
 use Rattle.price_book.specs.Views.{number_of}
 use Rattle.venue_request.specs.declared.counts.Counts.{Counts}
-use Rattle.venue_request.specs.Market.{market}
+use Rattle.venue_rules.specs.Market.{market}
 use Rattle.order_handler.specs.Parts.{Parts, answer_of, book_answer_of}
 use Rattle.order_handler.specs.Reads.{IsReadAlone}
 use Rattle.cross_handler.specs.EnteringWhenDue.{entered_when_due, side_turned_away}

@@ -14,7 +14,7 @@ use Rattle.venue_rules.specs.Book.{is_side}
 use Rattle.venue_rules.specs.Crosses.{answer_cross, cross_refused, first_side}
 use Rattle.venue_rules.specs.Orders.{is_limit, price_or_zero}
 use Rattle.venue_request.specs.declared.counts.Counts.{Counts}
-use Rattle.venue_request.specs.Market.{market}
+use Rattle.venue_rules.specs.Market.{market}
 use Rattle.order_handler.specs.Parts.{Parts}
 use Rattle.order_handler.specs.Reads.{IsReadAlone, is_used}
 use Rattle.cross_handler.specs.declared.terms.Cause.{Cause}

@@ -5,10 +5,9 @@ ghost use Rattle.cross_handler.specs.Crossing.{IsSound, IsTermsOf, IsTurnedAway,
 use cross_delay::Held;
 use fix_dictionary::{NewOrderCross, Price};
 use instruments::Instruments;
-use order_handler::listing::{instrument_of, is_below_least, is_off_tick};
 use order_handler::{is_limit, is_used};
 use price_book::PriceBook;
-use venue_rules::{CrossRefusal, Who, is_side};
+use venue_rules::{CrossRefusal, Who, instrument_of, is_below_least, is_off_tick, is_side};
 
 /// Cause of a refusal before the book is asked.
 #[derive(Clone, Copy)]

@@ -5,7 +5,7 @@ ghost use Rattle.venue_rules.specs.Facts.{History};
 ghost use Rattle.venue_rules.specs.Run.{Tick, answer_input};
 ghost use Rattle.price_book.specs.Steps.{IsPlanOf};
 ghost use Rattle.venue_request.specs.Counting.{AreCounts};
-ghost use Rattle.venue_request.specs.Market.{market_of};
+ghost use Rattle.venue_rules.specs.Market.{market_of};
 ghost use Rattle.order_handler.specs.Made.{IsMade, are_listed};
 ghost use Rattle.order_handler.specs.Parts.{answer_of, book_answer_of};
 ghost use Rattle.order_handler.specs.Reads.{IsRead};

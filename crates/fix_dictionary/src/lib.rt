@@ -5,6 +5,7 @@ mod copy;
 mod kinds;
 mod lists;
 mod messages;
+mod msg_type;
 mod values;
 
 pub use kinds::MessageType;

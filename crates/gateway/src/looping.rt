@@ -29,7 +29,7 @@ fn run_turns<R: Wait, L: Line, C: Clock, G: Gate>(
     requires replies { thread.old.take.board ≡ replies.now }
     ensures loops { (turn_records : List TurnRecord) × ((r : Reader) → Loops r turns turn_records thread.old thread.new) × (G.passed gate.new ≡ G.passed gate.old ++ gates turn_records) × (C.answered clock.new ≡ C.answered clock.old ++ moments turn_records) }
 {
-    let mut at = Moment::of_ms(0).unwrap();
+    let mut at = Moment::EPOCH;
     for number in 0..turns {
         let turn = thread.turn(rt, clock, gate, intake, replies, number);
         at = turn.moment;

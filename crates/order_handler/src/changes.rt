@@ -4,13 +4,12 @@ ghost use Rattle.venue_rules.specs.declared.facts.Fact.{Fact as FactValue};
 ghost use Rattle.venue_rules.specs.Book.{find_order};
 ghost use Rattle.venue_rules.specs.Facts.{History};
 ghost use Rattle.venue_rules.specs.Changes.{answer_cancel, cancel_refused, cancelled, change_refused, held_cancelled, standing};
-ghost use Rattle.venue_rules.specs.Market.{Market};
+ghost use Rattle.venue_rules.specs.Market.{Market, market_of};
 ghost use Rattle.price_book.specs.Views.{seen};
 ghost use Rattle.order_handler.specs.Made.{IsMade, are_listed};
 ghost use Rattle.order_handler.specs.Parts.{answer_of};
 ghost use Rattle.order_handler.specs.Reads.{IsRead};
 ghost use Rattle.venue_request.specs.Counting.{AreCounts};
-ghost use Rattle.venue_request.specs.Market.{market_of};
 ghost use Rattle.venue_request.specs.Senders.{sender};
 
 use crate::answer::OrderAnswer;

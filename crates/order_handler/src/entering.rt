@@ -9,7 +9,7 @@ ghost use Rattle.order_handler.specs.Made.{are_listed};
 ghost use Rattle.order_handler.specs.Parts.{book_answer_of};
 ghost use Rattle.order_handler.specs.Reads.{IsRead};
 ghost use Rattle.venue_request.specs.Counting.{AreCounts};
-ghost use Rattle.venue_request.specs.Market.{market_of};
+ghost use Rattle.venue_rules.specs.Market.{market_of};
 
 use crate::answer::OrderAnswer;
 use crate::laws::parts_are_read_alone;
@@ -36,13 +36,12 @@ pub fn enter(
     ensures refused { IfErr result (λ e. (h : History) (delay : List Fact) → IsRead h book.old.facts delay turn.now.counts → IsEntryRefused (market_of turn.now.market) h.facts order.now turn.now.moment e) }
 {
     parts_are_read_alone();
-    let (participants, instruments) = (turn.market.participants, turn.market.instruments);
-    let plan = match book.plan_entry(participants, instruments, order, turn.moment) {
+    let plan = match book.plan_entry(turn.market, order, turn.moment) {
         Ok(plan) => plan,
         Err(refusal) => return Err(refusal),
     };
     let entry = plan.entered().unwrap();
-    let symbol = symbol_of(instruments, order.instrument);
+    let symbol = symbol_of(turn.market.instruments, order.instrument);
     let Ok(replies) = entry_replies(turn, &symbol, entry, plan.fills()) else {
         return Err(Refusal::NoMemory);
     };

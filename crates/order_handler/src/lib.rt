@@ -5,7 +5,6 @@ mod answer;
 mod changes;
 mod entering;
 mod laws;
-pub mod listing;
 mod messages;
 mod orders;
 mod prices;

@@ -8,13 +8,12 @@ ghost use Rattle.order_handler.specs.Made.{IsMade};
 ghost use Rattle.order_handler.specs.Parts.{answer_of};
 ghost use Rattle.order_handler.specs.Reads.{IsRead};
 ghost use Rattle.venue_request.specs.Counting.{AreCounts};
-ghost use Rattle.venue_request.specs.Market.{market_of};
+ghost use Rattle.venue_rules.specs.Market.{market_of};
 ghost use Rattle.venue_request.specs.Senders.{sender};
 
 use crate::answer::OrderAnswer;
 use crate::entering::enter;
 use crate::laws::parts_are_read_alone;
-use crate::listing::{instrument_of, is_below_least, is_off_tick};
 use crate::messages::business_reject;
 use crate::used::is_used;
 use cross_delay::Held;
@@ -24,7 +23,7 @@ use std::alloc::AllocError;
 use venue_request::Request;
 use venue_rules::{
     BusinessRefusal, OrderFact, OrderRefusal, OrderRefused, OrderReport, Reply, ReplyBody,
-    TimeInForce,
+    TimeInForce, instrument_of, is_below_least, is_off_tick,
 };
 
 /// Cause of a refusal before the book is asked.

@@ -8,11 +8,10 @@ ghost use Rattle.venue_rules.specs.MarketData.{answer_market_data};
 ghost use Rattle.price_book.specs.BookFacts.{book_facts};
 ghost use Rattle.order_handler.specs.Parts.{answer_of};
 ghost use Rattle.order_handler.specs.Shown.{IsNotShown, IsShown};
-ghost use Rattle.venue_request.specs.Market.{market_of};
+ghost use Rattle.venue_rules.specs.Market.{market_of};
 ghost use Rattle.venue_request.specs.Senders.{sender};
 
 use crate::answer::OrderAnswer;
-use crate::listing::instrument_of;
 use fix_dictionary::MarketDataRequest;
 use instruments::Instruments;
 use price_book::{PriceBook, book_is_read_alone};
@@ -20,6 +19,7 @@ use std::alloc::AllocError;
 use venue_request::Request;
 use venue_rules::{
     BookSnapshot, MarketDataRefusal, MarketDataReject, Reply, ReplyBody, SnapshotEntries,
+    instrument_of,
 };
 
 /// The requested instrument, or the first cause to refuse its snapshot.

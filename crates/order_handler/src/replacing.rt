@@ -2,7 +2,7 @@
 ghost use Rattle.std.specs.Prelude.{◌≡◌, ◌≤◌, ◌<◌, ◌^◌, ℕ, [], true, length, slice_get, Some, None, MatchOption, IfOk, IfErr};
 ghost use Rattle.venue_rules.specs.Book.{find_order};
 ghost use Rattle.venue_rules.specs.Facts.{History, entries, trades};
-ghost use Rattle.venue_rules.specs.Market.{Market};
+ghost use Rattle.venue_rules.specs.Market.{Market, market_of};
 ghost use Rattle.venue_rules.specs.Changes.{answer_replace, replace_refused};
 ghost use Rattle.price_book.specs.Views.{seen};
 ghost use Rattle.venue_request.specs.declared.counts.Counts.{Counts};
@@ -11,13 +11,11 @@ ghost use Rattle.order_handler.specs.Made.{IsMade, are_listed};
 ghost use Rattle.order_handler.specs.Parts.{answer_of};
 ghost use Rattle.order_handler.specs.Reads.{IsRead};
 ghost use Rattle.venue_request.specs.Counting.{AreCounts};
-ghost use Rattle.venue_request.specs.Market.{market_of};
 ghost use Rattle.venue_request.specs.Senders.{sender};
 
 use crate::answer::OrderAnswer;
 use crate::changes::{change_refused, standing};
 use crate::laws::parts_are_read_alone;
-use crate::listing::{is_below_least, is_off_tick};
 use crate::messages::business_reject;
 use crate::orders::is_limit;
 use crate::reports::replaced_replies;
@@ -28,7 +26,8 @@ use price_book::{FillPlan, PriceBook, Refusal, Resting};
 use std::alloc::AllocError;
 use venue_request::Request;
 use venue_rules::{
-    BusinessRefusal, ChangeKind, ChangeRefusal, ChangeRefused, OrderStatus, symbol_of,
+    BusinessRefusal, ChangeKind, ChangeRefusal, ChangeRefused, OrderStatus, is_below_least,
+    is_off_tick, symbol_of,
 };
 
 /// Cause of a refusal before the book is asked.
@@ -207,8 +206,7 @@ pub fn plan_replace(
         Err(cause) => return rejection(request, message, named, cause),
     };
     match book.plan_replace(
-        request.turn.market.participants,
-        request.turn.market.instruments,
+        request.turn.market,
         who,
         number,
         &message.order_id,

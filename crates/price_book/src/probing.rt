@@ -6,7 +6,7 @@ ghost use Rattle.price_book.specs.Numbered.{slot_at, slot_order, key_order, answ
 
 use crate::id_key::IdKey;
 use crate::numbered::Numbered;
-use client_ids::Probe;
+use client_ids::{Probe, lowered};
 use fix_dictionary::Identifier;
 use participants::Who;
 use std::cmp::Ordering;
@@ -30,15 +30,6 @@ fn compare_number(stored_orders: &Numbered, number: u64, who: Who, id: &Identifi
     match stored_orders.get(&number) {
         Some(stored_order) => compare_spelled(&stored_order.entry, who, id),
         None => Ordering::Less,
-    }
-}
-
-fn lowered(order: Ordering) -> Ordering
-    ensures { result ≡ lowered order }
-{
-    match order {
-        Ordering::Equal => Ordering::Less,
-        other => other,
     }
 }
 

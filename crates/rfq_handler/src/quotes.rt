@@ -12,7 +12,7 @@ ghost use Rattle.rfq_room.specs.RoomFacts.{room_facts};
 ghost use Rattle.rfq_room.specs.Steps.{IsPlanOf};
 ghost use Rattle.rfq_handler.specs.Known.{are_known};
 ghost use Rattle.rfq_handler.specs.Quoted.{IsQuoteAnswer, quote_replies};
-ghost use Rattle.venue_request.specs.Market.{market_of};
+ghost use Rattle.venue_rules.specs.Market.{market_of};
 ghost use Rattle.venue_request.specs.Senders.{sender};
 ghost use Rattle.rfq_handler.specs.Sent.{prices_sent, quote_sent, rests, shown_unless, symbol_in};
 
@@ -222,8 +222,7 @@ pub fn plan_quote(
     rooms_decide();
     book_is_read_alone();
     match rooms.plan_quote(
-        request.turn.market.participants,
-        request.turn.market.instruments,
+        request.turn.market,
         request.taken.from,
         quote,
         request.turn.moment,

@@ -7,7 +7,7 @@ ghost use Rattle.rfq_room.specs.RoomFacts.{room_facts};
 ghost use Rattle.rfq_room.specs.Steps.{IsPlanOf};
 ghost use Rattle.rfq_handler.specs.Known.{are_known};
 ghost use Rattle.rfq_handler.specs.Read.{first_room};
-ghost use Rattle.venue_request.specs.Market.{market_of};
+ghost use Rattle.venue_rules.specs.Market.{market_of};
 ghost use Rattle.venue_request.specs.Senders.{sender};
 ghost use Rattle.rfq_handler.specs.Sent.{request_sent};
 
@@ -87,12 +87,11 @@ pub fn plan_request(
     ensures known { IfOk result (λ a. are_known (length request.now.turn.market.participants.now.names) a.facts ≡ true) }
 {
     rooms_decide();
-    let (market, who) = (&request.turn.market, request.taken.from);
-    let (participants, instruments) = (market.participants, market.instruments);
-    match rooms.plan_ask(participants, instruments, who, message, request.turn.moment) {
+    let (market, who) = (request.turn.market, request.taken.from);
+    match rooms.plan_ask(market, who, message, request.turn.moment) {
         Ok(plan) => {
             let room = opened(&plan).unwrap();
-            let symbol = symbol_of(instruments, room.instrument);
+            let symbol = symbol_of(market.instruments, room.instrument);
             let replies = sent_to_all(request.turn.alloc, room, &symbol)?;
             Ok(RoomAnswer::of(plan, replies, 0, 0))
         }

@@ -13,7 +13,7 @@ ghost use Rattle.rfq_handler.specs.Known.{are_known};
 ghost use Rattle.rfq_handler.specs.Read.{first_answered, quote_at};
 ghost use Rattle.rfq_handler.specs.Responded.{IsAnswerTo, IsResponseEmitted, notify_hit, hits, is_own_room, pass_emitted, refused_state, response_replies};
 ghost use Rattle.venue_request.specs.Counting.{AreCounts};
-ghost use Rattle.venue_request.specs.Market.{market_of};
+ghost use Rattle.venue_rules.specs.Market.{market_of};
 ghost use Rattle.venue_request.specs.Senders.{sender};
 ghost use Rattle.rfq_handler.specs.Sent.{other_side, symbol_in, traded_report};
 

@@ -2,7 +2,7 @@
 ghost use Rattle.std.specs.Prelude.{◌≡◌, ◌++◌, ℕ, List, [], Some, true, length, flat_map, IfOk};
 ghost use Rattle.venue_rules.specs.declared.facts.RoomQuote.{RoomQuote as RoomQuoteValue};
 ghost use Rattle.venue_rules.specs.Facts.{History};
-ghost use Rattle.venue_rules.specs.Market.{Market};
+ghost use Rattle.venue_rules.specs.Market.{Market, market_of};
 ghost use Rattle.venue_rules.specs.Withdrawals.{answer_withdrawal};
 ghost use Rattle.rfq_room.specs.Causes.{withdrawal_id};
 ghost use Rattle.rfq_room.specs.RoomStore.{are_listed};
@@ -10,7 +10,6 @@ ghost use Rattle.rfq_room.specs.RoomFacts.{room_facts};
 ghost use Rattle.rfq_room.specs.Steps.{IsPlanOf};
 ghost use Rattle.rfq_room.specs.Emitted.{withdrawal_emitted};
 ghost use Rattle.rfq_handler.specs.Known.{are_known};
-ghost use Rattle.venue_request.specs.Market.{market_of};
 ghost use Rattle.venue_request.specs.Senders.{sender};
 ghost use Rattle.rfq_handler.specs.Sent.{both_emitted, named_status, to_maker, to_requester};
 

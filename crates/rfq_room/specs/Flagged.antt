@@ -14,7 +14,6 @@ use Rattle.rfq_room.specs.declared.room_index.RoomIndex.TheInside.{Inside}
 use Rattle.rfq_room.specs.Contents.{Contents}
 use Rattle.rfq_room.specs.Flags.{IsWithin, is_set}
 use Rattle.rfq_room.specs.LastQuotes.{last_in}
-use Rattle.rfq_room.specs.GhostHistory.{facts_in}
 
 -- the number that a fact flags: of a room that has traded, of a withdrawn quote, of a room with a quote
 abbrev pub number_in : FlagKind → Fact → Option ℕ
@@ -68,19 +67,19 @@ abbrev pub still_open : List Fact → ℕ → ℕ → ℕ → Bool
 still_open facts t room end = not (is_closed facts room) && nat_le t end
 
 abbrev pub contents : Inside → Contents
-contents m = record { facts = facts_in m.past; spare = record { headroom = m.headroom } }
+contents m = record { facts = m.past; spare = record { headroom = m.headroom } }
 
 -- the flags are those of the facts, one for each number that they give
 pub record AreFlagged (m : Inside) : Type 0 where
-  pub traded : (n : ℕ) → is_set m.traded.flags n ≡ is_flagged flag.Traded (facts_in m.past) n
-  pub withdrawn : (n : ℕ) → is_set m.withdrawn.flags n ≡ is_flagged flag.Withdrawn (facts_in m.past) n
-  pub quoted : (n : ℕ) → is_set m.quoted.flags n ≡ is_flagged flag.Quoted (facts_in m.past) n
-  pub traded_count : length m.traded.flags ≡ count_of flag.Traded (facts_in m.past)
-  pub withdrawn_count : length m.withdrawn.flags ≡ count_of flag.Withdrawn (facts_in m.past)
-  pub quoted_count : length m.quoted.flags ≡ count_of flag.Quoted (facts_in m.past)
-  pub lasts : (room maker : ℕ) → last_in m.lasts.entries room maker ≡ last_number (facts_in m.past) room maker
-  pub requests : (who : ℕ) (id : List ℕ) → list_any (is_of who id) m.requests.names ≡ list_any (is_of who id) (names_in named.Requests (facts_in m.past))
-  pub quotes : (who : ℕ) (id : List ℕ) → list_any (is_of who id) m.quotes.names ≡ list_any (is_of who id) (names_in named.Quotes (facts_in m.past))
+  pub traded : (n : ℕ) → is_set m.traded.flags n ≡ is_flagged flag.Traded m.past n
+  pub withdrawn : (n : ℕ) → is_set m.withdrawn.flags n ≡ is_flagged flag.Withdrawn m.past n
+  pub quoted : (n : ℕ) → is_set m.quoted.flags n ≡ is_flagged flag.Quoted m.past n
+  pub traded_count : length m.traded.flags ≡ count_of flag.Traded m.past
+  pub withdrawn_count : length m.withdrawn.flags ≡ count_of flag.Withdrawn m.past
+  pub quoted_count : length m.quoted.flags ≡ count_of flag.Quoted m.past
+  pub lasts : (room maker : ℕ) → last_in m.lasts.entries room maker ≡ last_number m.past room maker
+  pub requests : (who : ℕ) (id : List ℕ) → list_any (is_of who id) m.requests.names ≡ list_any (is_of who id) (names_in named.Requests m.past)
+  pub quotes : (who : ℕ) (id : List ℕ) → list_any (is_of who id) m.quotes.names ≡ list_any (is_of who id) (names_in named.Quotes m.past)
   pub traded_headroom : m.headroom ≤ m.traded.headroom
   pub withdrawn_headroom : m.headroom ≤ m.withdrawn.headroom
   pub quoted_headroom : m.headroom ≤ m.quoted.headroom

@@ -19,7 +19,6 @@ pub mod Steps
 -- the venue's answers, by the decisions of its rooms
 pub mod Emitted
 -- what is kept of the facts
-pub mod GhostHistory
 pub mod Flags
 pub mod LastQuotes
 pub mod Flagged

@@ -1,6 +1,7 @@
 //! Quote (S): quotes in a room.
 ghost use Rattle.std.specs.Prelude.{◌≡◌, ◌<◌, ◌==◌, None, IfOk, IfErr, length, nat_lt, not, true};
 ghost use Rattle.venue_rules.specs.Quotes.{is_absent_or, is_crossed, is_price_off_tick, lacks_price, quote_end};
+ghost use Rattle.venue_rules.specs.Market.{market_of};
 ghost use Rattle.rfq_room.specs.Causes.{quote_cause, quote_causes, terms_causes};
 ghost use Rattle.rfq_room.specs.RoomStore.{are_listed};
 ghost use Rattle.rfq_room.specs.Plans.{IsQuotePlanned, quote_made, quote_plan};
@@ -12,11 +13,10 @@ use crate::recipients::is_among;
 use crate::refusal::{Refusal, quote_refusal};
 use crate::room_store::RoomStore;
 use fix_dictionary::{FixChar, Price, Quantity, Quote, Side};
-use instruments::Instruments;
-use participants::{Participants, Who};
+use participants::Who;
 use sef_moment::Moment;
 use std::alloc::{AllocError, Global};
-use venue_rules::{Fact, QuoteRefusal, Room, RoomQuote};
+use venue_rules::{Fact, Market, QuoteRefusal, Room, RoomQuote, is_off_tick};
 
 // QuoteType (537) is absent or 1, tradeable.
 fn is_tradeable(quote_type: Option<FixChar>) -> bool
@@ -39,17 +39,12 @@ fn lacks_price(side: Option<Side>, bid: Option<Price>, offer: Option<Price>) -> 
     }
 }
 
-fn is_price_off_tick(
-    participants: &Participants,
-    instruments: &Instruments,
-    instrument: u32,
-    price: Option<Price>,
-) -> bool
-    requires { instrument < length instruments.now }
-    ensures { result ≡ is_price_off_tick (record { participants = participants.now; instruments = instruments.now }) instrument price }
+fn is_price_off_tick(market: Market<'_>, instrument: u32, price: Option<Price>) -> bool
+    requires { instrument < length market.instruments.now }
+    ensures { result ≡ is_price_off_tick (market_of market.entry) instrument price }
 {
     match price {
-        Some(price) => price.get().unsigned_abs() % instruments.get(instrument).tick != 0,
+        Some(price) => is_off_tick(market.instruments, instrument, price),
         None => false,
     }
 }
@@ -86,26 +81,21 @@ fn is_to_come(end: Option<Moment>, moment: Moment) -> bool
 
 // Causes that refuse a quote for its own terms.
 fn terms_cause(
-    participants: &Participants,
-    instruments: &Instruments,
+    market: Market<'_>,
     room: &Room,
     quote: &Quote,
     moment: Moment,
 ) -> Option<QuoteRefusal>
-    requires { room.now.instrument < length instruments.now }
-    ensures { result ≡ first_cause (terms_causes (record { participants = participants.now; instruments = instruments.now }) room.now quote.now moment) }
+    requires { room.now.instrument < length market.instruments.now }
+    ensures { result ≡ first_cause (terms_causes (market_of market.entry) room.now quote.now moment) }
 {
     if !is_tradeable(quote.quote_type) {
         return Some(QuoteRefusal::NotTradeable);
     }
     if lacks_price(room.side, quote.bid_price, quote.offer_price)
-        || (is_price_off_tick(participants, instruments, room.instrument, quote.bid_price)
-            || (is_price_off_tick(
-                participants,
-                instruments,
-                room.instrument,
-                quote.offer_price,
-            ) || is_crossed(quote.bid_price, quote.offer_price)))
+        || (is_price_off_tick(market, room.instrument, quote.bid_price)
+            || (is_price_off_tick(market, room.instrument, quote.offer_price)
+                || is_crossed(quote.bid_price, quote.offer_price)))
     {
         return Some(QuoteRefusal::InvalidPrice);
     }
@@ -120,16 +110,15 @@ fn terms_cause(
 
 // Causes that refuse a quote in a room.
 fn quote_cause(
-    participants: &Participants,
-    instruments: &Instruments,
+    market: Market<'_>,
     kept: &RoomStore,
     who: Who,
     room: &Room,
     quote: &Quote,
     moment: Moment,
 ) -> Option<QuoteRefusal>
-    requires { room.now.instrument < length instruments.now }
-    ensures { result ≡ first_cause (quote_causes (record { participants = participants.now; instruments = instruments.now }) kept.now.facts who room.now quote.now moment) }
+    requires { room.now.instrument < length market.instruments.now }
+    ensures { result ≡ first_cause (quote_causes (market_of market.entry) kept.now.facts who room.now quote.now moment) }
 {
     if !is_among(room.recipients.as_slice(), who) {
         return Some(QuoteRefusal::NotAsked);
@@ -137,7 +126,8 @@ fn quote_cause(
     if !kept.is_open(moment, room) {
         return Some(QuoteRefusal::RoomOver);
     }
-    if !instruments
+    if !market
+        .instruments
         .get(room.instrument)
         .symbol
         .is(quote.symbol.as_slice())
@@ -147,7 +137,7 @@ fn quote_cause(
     if kept.known_flags().is_quote_id_used(who, &quote.quote_id) {
         return Some(QuoteRefusal::DuplicateQuote);
     }
-    terms_cause(participants, instruments, room, quote, moment)
+    terms_cause(market, room, quote, moment)
 }
 
 // The earlier of the quote's own end and the room's.
@@ -199,21 +189,20 @@ fn draft_in(
 /// The plan of a quote, before memory is reserved for it.
 pub(crate) fn draft_quote(
     alloc: Global,
-    participants: &Participants,
-    instruments: &Instruments,
+    market: Market<'_>,
     kept: &RoomStore,
     who: Who,
     quote: &Quote,
     moment: Moment,
 ) -> Result<RoomPlan, Refusal>
-    requires { are_listed (length instruments.now) kept.now.facts ≡ true }
-    ensures planned { IfOk result (λ p. (quote_cause (record { participants = participants.now; instruments = instruments.now }) kept.now.facts who quote.now moment ≡ None) × IsQuotePlanned kept.now.facts who quote.now p) }
-    ensures refused { IfErr result (IsQuoteRefused (quote_cause (record { participants = participants.now; instruments = instruments.now }) kept.now.facts who quote.now moment)) }
+    requires { are_listed (length market.instruments.now) kept.now.facts ≡ true }
+    ensures planned { IfOk result (λ p. (quote_cause (market_of market.entry) kept.now.facts who quote.now moment ≡ None) × IsQuotePlanned kept.now.facts who quote.now p) }
+    ensures refused { IfErr result (IsQuoteRefused (quote_cause (market_of market.entry) kept.now.facts who quote.now moment)) }
 {
     let Some(room) = kept.find_room(&quote.request_id) else {
         return Err(quote_refusal(QuoteRefusal::UnknownRequest));
     };
-    if let Some(cause) = quote_cause(participants, instruments, kept, who, room, quote, moment) {
+    if let Some(cause) = quote_cause(market, kept, who, room, quote, moment) {
         return Err(quote_refusal(cause));
     }
     let Ok(plan) = draft_in(alloc, kept, who, room, quote) else {

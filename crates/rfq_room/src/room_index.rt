@@ -11,10 +11,10 @@ ghost use Rattle.rfq_room.specs.Flagged.{AreThere, IsThere, count_of, is_flagged
 
 use crate::facts::{quote_in, room_in};
 use crate::flags::Flags;
-use crate::ghost_history::GhostHistory;
 use crate::last_quotes::LastQuotes;
 use client_ids::{ClientId, UsedIds};
 use fix_dictionary::Identifier;
+use ghost_history::GhostHistory;
 use participants::Who;
 use sef_moment::Moment;
 use std::alloc::{AllocError, Global};
@@ -43,7 +43,7 @@ enum IdKind {
 /// facts.
 #[derive(Drop)]
 pub(crate) struct RoomIndex {
-    past: GhostHistory,
+    past: GhostHistory<Fact>,
     traded: Flags,
     withdrawn: Flags,
     quoted: Flags,
@@ -261,6 +261,6 @@ impl RoomIndex {
         add_names(&mut self.requests, IdKind::Requests, facts);
         add_names(&mut self.quotes, IdKind::Quotes, facts);
         self.headroom -= facts.len();
-        self.past.add(facts);
+        self.past.append(facts);
     }
 }

@@ -3,7 +3,6 @@ use Rattle.std.specs.Vec.{vec_capacity, vec_len}
 use Rattle.venue_rules.specs.declared.trail.RoomFact.{RoomFact}
 use Rattle.trade_history.specs.declared.quoted.QuotedRooms.TheInside.{Inside}
 use Rattle.trade_history.specs.Quoted.{Quoted, found}
-use Rattle.trade_history.specs.GhostHistory.{rooms_in}
 
 -- Readings of rooms, by number.
 
@@ -23,9 +22,9 @@ with_number n None = None
 with_number n (Some f) = if f.number == n then Some f else None
 
 abbrev pub quoted : Inside → Quoted
-quoted q = record { rooms = rooms_in q.past; room = vec_capacity q.read - vec_len q.read }
+quoted q = record { rooms = q.past; room = vec_capacity q.read - vec_len q.read }
 
 -- a search by number finds what a search of the rooms by their first quotes finds
 pub record IsByNumber (q : Inside) : Type 0 where
   pub rising : AreRising 0 q.read.items
-  pub same : (n : ℕ) → found n q.read.items ≡ found n (rooms_in q.past)
+  pub same : (n : ℕ) → found n q.read.items ≡ found n q.past

@@ -7,5 +7,4 @@ pub mod Numbered
 -- the rooms read off a history
 pub mod ReadOf
 -- the rooms as kept, by number
-pub mod GhostHistory
 pub mod ByNumber

@@ -3,7 +3,6 @@
 //! Kept next to the book and the rooms, so that a reading takes no pass over the day's facts.
 #![tactic(auto)]
 
-mod ghost_history;
 mod laws;
 mod quoted;
 mod trades;

@@ -5,14 +5,14 @@ ghost use Rattle.venue_rules.specs.Readings.{shown_order};
 ghost use Rattle.trade_history.specs.ByNumber.{AreRising, put, with_number};
 ghost use Rattle.trade_history.specs.Quoted.{found, room_shown};
 
-use crate::ghost_history::GhostHistory;
+use ghost_history::GhostHistory;
 use std::alloc::{AllocError, Global};
 use std::marker::Model;
 use venue_rules::{Recipients, Room, RoomFact, Shown, ShownOrder, SnapshotEntry};
 
 /// The rooms with a quote so far, by number; contracts see them by their first quotes.
 pub struct QuotedRooms {
-    past: GhostHistory,
+    past: GhostHistory<RoomFact>,
     read: Vec<RoomFact>,
 }
 

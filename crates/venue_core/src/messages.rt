@@ -3,7 +3,7 @@ ghost use Rattle.std.specs.Prelude.{◌≡◌, IfOk};
 ghost use Rattle.venue_rules.specs.Answers.{answer};
 ghost use Rattle.venue_rules.specs.Facts.{History};
 ghost use Rattle.venue_request.specs.Counting.{AreCounts};
-ghost use Rattle.venue_request.specs.Market.{market_of as lent_market};
+ghost use Rattle.venue_rules.specs.Market.{market_of as lent_market};
 ghost use Rattle.order_handler.specs.Reads.{IsRead};
 ghost use Rattle.venue_core.specs.Files.{market_of};
 ghost use Rattle.venue_core.specs.Plan.{AreFew, IsFit, IsListed, IsMade, IsPlanned};
@@ -22,8 +22,8 @@ use rfq_handler::{plan_request, plan_response, plan_withdrawal};
 use rfq_room::rooms_decide;
 use sef_moment::Moment;
 use std::alloc::{AllocError, Global};
-use venue_request::{Market as Lent, Request, Turn};
-use venue_rules::Taken;
+use venue_request::{Request, Turn};
+use venue_rules::{Market as Lent, Taken};
 
 // The answer of the handler of the message, with memory reserved but for its trades.
 fn answer_message(request: &Request<'_>, day: &mut VenueState) -> Result<Plan, AllocError>

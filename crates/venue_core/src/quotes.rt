@@ -1,7 +1,7 @@
 //! Plans of quotes, with the reading of a room's first quote.
 ghost use Rattle.std.specs.Prelude.{◌≡◌, option_map, IfOk};
 ghost use Rattle.venue_rules.specs.Quotes.{answer_quote};
-ghost use Rattle.venue_request.specs.Market.{market_of as lent_market};
+ghost use Rattle.venue_rules.specs.Market.{market_of as lent_market};
 ghost use Rattle.venue_request.specs.Senders.{sender};
 ghost use Rattle.venue_core.specs.Plan.{IsFit, IsListed, IsPlanned};
 ghost use Rattle.venue_core.specs.Read.{picture_in, quote_read};

@@ -10,7 +10,8 @@ use crate::plan::Plan;
 use crate::venue_state::{VenueState, counts};
 use sef_moment::Moment;
 use std::alloc::{AllocError, Global};
-use venue_request::{Market as Lent, Turn};
+use venue_request::Turn;
+use venue_rules::Market as Lent;
 
 /// Plans the first held side due, and reserves memory for it.
 pub(crate) fn plan_due(

@@ -1,5 +1,3 @@
--- the market of the two files
-pub mod Market
 -- the sender of a message
 pub mod Senders
 -- counts of reports and trades

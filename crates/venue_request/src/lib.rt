@@ -2,13 +2,11 @@
 #![tactic(auto)]
 
 mod counts;
-mod market;
 mod request;
 mod turn;
 mod unprocessed;
 
 pub use counts::Counts;
-pub use market::Market;
 pub use request::Request;
 pub use turn::Turn;
 pub use unprocessed::business_reject;

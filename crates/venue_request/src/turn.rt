@@ -1,9 +1,9 @@
 //! Turns of a venue.
 
 use crate::counts::Counts;
-use crate::market::Market;
 use sef_moment::Moment;
 use std::alloc::Global;
+use venue_rules::Market;
 
 /// What every input is answered with: the allocator, the market, the counts before it, and its moment.
 #[derive(Clone, Copy)]

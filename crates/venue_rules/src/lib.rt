@@ -7,7 +7,9 @@ mod facts;
 mod fixture;
 mod identifiers;
 mod laws;
+mod listing;
 mod lists;
+mod market;
 mod names;
 mod refusals;
 mod replies;
@@ -26,7 +28,9 @@ pub use laws::{
     open_rooms_are_few, printed_numbers_are_identifiers, replies_are_few,
     replies_go_to_participants, rows_are_in_order, run_goes_on, runs_join,
 };
+pub use listing::{instrument_of, is_below_least, is_off_tick};
 pub use lists::{Recipients, RowText, Shown, SnapshotEntries};
+pub use market::Market;
 pub use names::is_name;
 pub use participants::Who;
 pub use refusals::{
@@ -39,4 +43,6 @@ pub use replies::{
     QuoteStatus, Reply, ReplyBody, RequestRefused, RequestSent, RoomReport, SnapshotEntry,
 };
 pub use sides::{buyer, is_side, opposite};
-pub use trail::{EventFault, Keep, RoomFact, ShownOrder, Taken, TradeFact, TrailFault, TrailRow};
+pub use trail::{
+    EventFault, Keep, RoomFact, ShownOrder, Taken, TradeFact, TrailFault, TrailRow, last_of,
+};

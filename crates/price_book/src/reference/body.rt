@@ -3,10 +3,11 @@ ghost use Rattle.std.specs.Prelude.{◌≡◌, ◌≤◌, ◌+◌, ℕ, [], ◌+
 ghost use Rattle.std.specs.Vec.{vec_capacity, vec_len};
 ghost use Rattle.venue_rules.specs.Facts.{is_order_id_used};
 ghost use Rattle.venue_rules.specs.Book.{filled, find_order, picture, side_capacity};
+ghost use Rattle.venue_rules.specs.Market.{market_of};
 ghost use Rattle.price_book.specs.declared.plan.FilledOrder.{FilledOrder};
 ghost use Rattle.price_book.specs.Kept.{IsBook, are_own};
 ghost use Rattle.price_book.specs.Views.{seen};
-ghost use Rattle.price_book.specs.Plans.{entry_plan, IsEntryRefused, IsEntryAccepted, IsReplacePlanned, IsReplaceRefused, cancel_plan, replacing};
+ghost use Rattle.price_book.specs.Plans.{IsEntryPlanned, IsEntryRefused, IsReplacePlanned, IsReplaceRefused, cancel_plan, replacing};
 ghost use Rattle.price_book.specs.Steps.{IsPlanOf};
 
 use crate::book::Refusal;
@@ -19,12 +20,11 @@ use crate::reference::replacing::draft_replace;
 use crate::replacing::replacing;
 use crate::resting::Resting;
 use fix_dictionary::{Identifier, Price, Quantity};
-use instruments::Instruments;
-use participants::{Participants, Who};
+use participants::Who;
 use sef_moment::Moment;
 use std::alloc::{AllocError, Global};
 use std::marker::Model;
-use venue_rules::{Fact, OrderFact, SnapshotEntry, fills_are_within};
+use venue_rules::{Fact, Market, OrderFact, SnapshotEntry, fills_are_within};
 
 /// Facts of one day.
 #[derive(Drop)]
@@ -87,22 +87,21 @@ impl ReferenceBook {
     /// Plans the entry of an order, and reserves memory for it.
     pub fn plan_entry(
         &mut self,
-        participants: &Participants,
-        instruments: &Instruments,
+        market: Market<'_>,
         order: &OrderFact,
         moment: Moment,
     ) -> Result<FillPlan, Refusal>
         ensures kept { self.new.facts ≡ self.old.facts }
-        ensures planned { IfOk result (λ p. IsEntryAccepted (record { participants = participants.now; instruments = instruments.now }) self.old.facts order.now moment × (p ≡ entry_plan self.old.facts order.now moment)) }
+        ensures planned { IfOk result (IsEntryPlanned (market_of market.entry) self.old.facts order.now moment) }
         ensures made { IfOk result (λ p. IsPlanOf self.new p.facts) }
         ensures few { IfOk result (λ p. length p.fills ≤ side_capacity) }
         ensures within { IfOk result (λ p. (k : ℕ) → sum_by (λ (f : FilledOrder). f.quantity) (take k p.fills) ≤ order.now.quantity) }
         ensures here { IfOk result (λ p. All (λ (f : FilledOrder). f.instrument ≡ order.now.instrument) p.fills) }
-        ensures refused { IfErr result (IsEntryRefused (record { participants = participants.now; instruments = instruments.now }) self.old.facts order.now moment) }
+        ensures refused { IfErr result (IsEntryRefused (market_of market.entry) self.old.facts order.now moment) }
     {
         let alloc = *self.facts.allocator();
         fills_are_within();
-        let plan = draft_entry(alloc, participants, instruments, &self.facts, order, moment)?;
+        let plan = draft_entry(alloc, market, &self.facts, order, moment)?;
         if self.facts.reserve(plan.facts().len()).is_err() {
             return Err(Refusal::NoMemory);
         }
@@ -131,8 +130,7 @@ impl ReferenceBook {
     /// Plans a replacement, with this identifier, of a resting order; reserves memory for it.
     pub fn plan_replace(
         &mut self,
-        participants: &Participants,
-        instruments: &Instruments,
+        market: Market<'_>,
         who: Who,
         order_id: &Identifier,
         id: &Identifier,
@@ -142,25 +140,16 @@ impl ReferenceBook {
     ) -> Result<FillPlan, Refusal>
         requires { MatchOption (find_order self.old.facts who order_id.now) ⊥ (λ r. filled r < quantity) }
         ensures kept { self.new.facts ≡ self.old.facts }
-        ensures planned { IfOk result (λ p. MatchOption (find_order self.old.facts who order_id.now) ⊥ (IsReplacePlanned (record { participants = participants.now; instruments = instruments.now }) self.old.facts who id.now quantity price moment p)) }
+        ensures planned { IfOk result (λ p. MatchOption (find_order self.old.facts who order_id.now) ⊥ (IsReplacePlanned (market_of market.entry) self.old.facts who id.now quantity price moment p)) }
         ensures made { IfOk result (λ p. IsPlanOf self.new p.facts) }
         ensures few { IfOk result (λ p. length p.fills ≤ side_capacity) }
-        ensures refused { IfErr result (λ e. MatchOption (find_order self.old.facts who order_id.now) ⊥ (λ r. IsReplaceRefused (record { participants = participants.now; instruments = instruments.now }) self.old.facts (replacing r id.now quantity price) moment e)) }
+        ensures refused { IfErr result (λ e. MatchOption (find_order self.old.facts who order_id.now) ⊥ (λ r. IsReplaceRefused (market_of market.entry) self.old.facts (replacing r id.now quantity price) moment e)) }
     {
         let alloc = *self.facts.allocator();
         fills_are_within();
         let order = find_order(&self.facts, who, order_id).unwrap();
         let new_order = replacing(order, id, quantity, price);
-        let plan = draft_replace(
-            alloc,
-            participants,
-            instruments,
-            &self.facts,
-            who,
-            order,
-            new_order,
-            moment,
-        )?;
+        let plan = draft_replace(alloc, market, &self.facts, who, order, new_order, moment)?;
         if self.facts.reserve(plan.facts().len()).is_err() {
             return Err(Refusal::NoMemory);
         }

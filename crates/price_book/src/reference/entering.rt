@@ -2,9 +2,10 @@
 ghost use Rattle.std.specs.Prelude.{◌≡◌, ◌≤◌, ◌-◌, ◌^◌, map, length, true, IfOk, IfErr};
 ghost use Rattle.venue_rules.specs.Book.{fills, filled_by, is_side_full, side_capacity};
 ghost use Rattle.venue_rules.specs.Entering.{entry_facts};
+ghost use Rattle.venue_rules.specs.Market.{market_of};
 ghost use Rattle.price_book.specs.Kept.{are_whole};
 ghost use Rattle.price_book.specs.Views.{seen_fill};
-ghost use Rattle.price_book.specs.Plans.{printed, entry_plan, IsEntryRefused, IsEntryAccepted};
+ghost use Rattle.price_book.specs.Plans.{IsEntryPlanned, printed, IsEntryRefused};
 
 use crate::book::Refusal;
 use crate::entering::{MAX_ORDERS_PER_SIDE, plan_of};
@@ -14,11 +15,9 @@ use crate::plan::FillPlan;
 use crate::reading::{next_order, resting};
 use crate::reference::fills::fills;
 use fix_dictionary::Amount;
-use instruments::Instruments;
-use participants::Participants;
 use sef_moment::Moment;
 use std::alloc::{AllocError, Global};
-use venue_rules::{Entry, Fact, OrderFact};
+use venue_rules::{Entry, Fact, Market, OrderFact};
 
 // Whether the order would rest on a side at capacity.
 fn is_side_full(
@@ -41,21 +40,20 @@ fn is_side_full(
 /// The plan of an entry, before memory is reserved for it.
 pub(crate) fn draft_entry(
     alloc: Global,
-    participants: &Participants,
-    instruments: &Instruments,
+    market: Market<'_>,
     facts: &[Fact],
     order: &OrderFact,
     moment: Moment,
 ) -> Result<FillPlan, Refusal>
     requires { are_whole facts.now ≡ true }
-    ensures planned { IfOk result (λ p. IsEntryAccepted (record { participants = participants.now; instruments = instruments.now }) facts.now order.now moment × (p ≡ entry_plan facts.now order.now moment)) }
+    ensures planned { IfOk result (IsEntryPlanned (market_of market.entry) facts.now order.now moment) }
     ensures whole { IfOk result (λ _. order.now.quantity ≤ 10 ^ 15) }
-    ensures refused { IfErr result (IsEntryRefused (record { participants = participants.now; instruments = instruments.now }) facts.now order.now moment) }
+    ensures refused { IfErr result (IsEntryRefused (market_of market.entry) facts.now order.now moment) }
 {
     let Ok(fills) = fills(alloc, facts, order) else {
         return Err(Refusal::NoMemory);
     };
-    if let Some(number) = too_soon(participants, instruments, order, moment, &fills) {
+    if let Some(number) = too_soon(market, order, moment, &fills) {
         return Err(Refusal::TooSoon(number));
     }
     let unfilled = unfilled(order.quantity.get(), &fills);

@@ -1,9 +1,10 @@
 //! Replacement of an order in the reference book.
 ghost use Rattle.std.specs.Prelude.{◌≡◌, ◌≤◌, ◌<◌, ◌+◌, ◌^◌, true, None, IfOk, IfErr};
-ghost use Rattle.venue_rules.specs.Book.{filled, too_soon};
+ghost use Rattle.venue_rules.specs.Book.{filled};
+ghost use Rattle.venue_rules.specs.Market.{market_of};
 ghost use Rattle.price_book.specs.Kept.{are_whole};
 ghost use Rattle.price_book.specs.Views.{seen};
-ghost use Rattle.price_book.specs.Plans.{IsReplaceRefused, replace_plan, replacing};
+ghost use Rattle.price_book.specs.Plans.{IsReplaceRefused, IsReplacement, replacing};
 
 use crate::book::Refusal;
 use crate::entering::plan_of;
@@ -13,17 +14,15 @@ use crate::plan::FillPlan;
 use crate::reading::next_order;
 use crate::reference::fills::fills;
 use crate::resting::Resting;
-use instruments::Instruments;
-use participants::{Participants, Who};
+use participants::Who;
 use sef_moment::Moment;
 use std::alloc::Global;
-use venue_rules::{Entry, Fact, OrderFact};
+use venue_rules::{Entry, Fact, Market, OrderFact};
 
 /// The plan of a replacement, before memory is reserved for it.
 pub(crate) fn draft_replace(
     alloc: Global,
-    participants: &Participants,
-    instruments: &Instruments,
+    market: Market<'_>,
     facts: &[Fact],
     who: Who,
     order: Resting<'_>,
@@ -31,13 +30,13 @@ pub(crate) fn draft_replace(
     moment: Moment,
 ) -> Result<FillPlan, Refusal>
     requires { are_whole facts.now ≡ true }
-    ensures planned { IfOk result (λ p. (too_soon (record { participants = participants.now; instruments = instruments.now }) facts.now new_order moment ≡ None) × (p ≡ replace_plan facts.now (seen order.entry) who new_order moment)) }
-    ensures refused { IfErr result (IsReplaceRefused (record { participants = participants.now; instruments = instruments.now }) facts.now new_order moment) }
+    ensures planned { IfOk result (IsReplacement (market_of market.entry) facts.now (seen order.entry) who new_order moment) }
+    ensures refused { IfErr result (IsReplaceRefused (market_of market.entry) facts.now new_order moment) }
 {
     let Ok(fills) = fills(alloc, facts, &new_order) else {
         return Err(Refusal::NoMemory);
     };
-    if let Some(number) = too_soon(participants, instruments, &new_order, moment, &fills) {
+    if let Some(number) = too_soon(market, &new_order, moment, &fills) {
         return Err(Refusal::TooSoon(number));
     }
     let Ok(gone) = removed(alloc, who, order.entry.number, &new_order.id) else {

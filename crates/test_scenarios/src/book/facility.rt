@@ -7,7 +7,7 @@ use participants::Who;
 use rfq_room::{RoomPlan, Rooms};
 use std::alloc::Global;
 use std::marker::Model;
-use venue_rules::{Fact, TradeSource};
+use venue_rules::{Fact, Market as Files, TradeSource};
 
 // The number of the room in which a plan makes a quote.
 fn room_quoted(plan: &RoomPlan) -> Option<u64> {
@@ -58,14 +58,11 @@ impl Facility {
     /// A request for quotes.
     pub(crate) fn ask(&mut self, who: Who, request: &QuoteRequest) -> Result<()> {
         let market = &self.market;
-        let Ok(plan) = self.rooms.plan_ask(
-            &market.participants,
-            &market.instruments,
-            who,
-            request,
-            market.moment,
-        )
-        else {
+        let files = Files {
+            participants: &market.participants,
+            instruments: &market.instruments,
+        };
+        let Ok(plan) = self.rooms.plan_ask(files, who, request, market.moment) else {
             return Err(anyhow!("refused"));
         };
         self.rooms.apply(plan);
@@ -75,14 +72,11 @@ impl Facility {
     /// A quote; whether it is the first in its room.
     pub(crate) fn quote(&mut self, who: Who, quote: &Quote) -> Result<bool> {
         let market = &self.market;
-        let Ok(plan) = self.rooms.plan_quote(
-            &market.participants,
-            &market.instruments,
-            who,
-            quote,
-            market.moment,
-        )
-        else {
+        let files = Files {
+            participants: &market.participants,
+            instruments: &market.instruments,
+        };
+        let Ok(plan) = self.rooms.plan_quote(files, who, quote, market.moment) else {
             return Err(anyhow!("refused"));
         };
         let Some(number) = room_quoted(&plan) else {

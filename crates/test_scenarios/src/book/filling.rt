@@ -42,12 +42,7 @@ pub(crate) fn enter_all(market: &Market, book: &mut PriceBook, orders: u64) -> u
 // Whether one more order on a full side is refused for that.
 fn refuses_more(market: &Market, book: &mut PriceBook) -> bool {
     let order = resting(400, 0, Side::Buy);
-    match book.plan_entry(
-        &market.participants,
-        &market.instruments,
-        &order,
-        market.moment,
-    ) {
+    match book.plan_entry(market.files(), &order, market.moment) {
         Err(refusal) => refusal == Refusal::Full,
         Ok(_) => false,
     }
@@ -55,12 +50,7 @@ fn refuses_more(market: &Market, book: &mut PriceBook) -> bool {
 
 // How many orders an order fills; none where it is refused.
 fn fills_of(market: &Market, book: &mut PriceBook, order: &OrderFact) -> usize {
-    match book.plan_entry(
-        &market.participants,
-        &market.instruments,
-        order,
-        market.moment,
-    ) {
+    match book.plan_entry(market.files(), order, market.moment) {
         Ok(plan) => {
             let fills = plan.fills().len();
             book.apply(plan);

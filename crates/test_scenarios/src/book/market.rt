@@ -10,7 +10,7 @@ use participants::{Participants, Who};
 use price_book::PriceBook;
 use sef_moment::Moment;
 use std::alloc::{AllocError, Global};
-use venue_rules::OrderFact;
+use venue_rules::{Market as Files, OrderFact};
 
 /// Who trades what, and when.
 #[derive(Drop)]
@@ -18,6 +18,16 @@ pub(crate) struct Market {
     pub(crate) participants: Participants,
     pub(crate) instruments: Instruments,
     pub(crate) moment: Moment,
+}
+
+impl Market {
+    /// The two files, lent.
+    pub(crate) fn files(&self) -> Files<'_> {
+        Files {
+            participants: &self.participants,
+            instruments: &self.instruments,
+        }
+    }
 }
 
 /// Five participants, and two instruments.
@@ -34,12 +44,7 @@ pub(crate) fn enter(market: &Market, book: &mut PriceBook, order: &OrderFact) ->
     if book.used(order.who, &order.id) {
         return Err(anyhow!("used"));
     }
-    let Ok(plan) = book.plan_entry(
-        &market.participants,
-        &market.instruments,
-        order,
-        market.moment,
-    ) else {
+    let Ok(plan) = book.plan_entry(market.files(), order, market.moment) else {
         return Err(anyhow!("refused"));
     };
     book.apply(plan);
@@ -83,16 +88,8 @@ pub(crate) fn replace(
         return Err(anyhow!("filled"));
     }
     let number = order.entry.number;
-    let Ok(plan) = book.plan_replace(
-        &market.participants,
-        &market.instruments,
-        who,
-        number,
-        id,
-        units,
-        price,
-        market.moment,
-    ) else {
+    let Ok(plan) = book.plan_replace(market.files(), who, number, id, units, price, market.moment)
+    else {
         return Err(anyhow!("refused"));
     };
     book.apply(plan);

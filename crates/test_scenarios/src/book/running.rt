@@ -86,18 +86,10 @@ struct Books {
 
 fn enter(market: &Market, books: &mut Books, tally: &mut Tally, n: u64, state: u64) {
     let order = drawn(n, state);
-    let first = books.book.plan_entry(
-        &market.participants,
-        &market.instruments,
-        &order,
-        market.moment,
-    );
-    let second = books.scanned.plan_entry(
-        &market.participants,
-        &market.instruments,
-        &order,
-        market.moment,
-    );
+    let first = books.book.plan_entry(market.files(), &order, market.moment);
+    let second = books
+        .scanned
+        .plan_entry(market.files(), &order, market.moment);
     match (first, second) {
         (Ok(first), Ok(second)) => {
             count_plan(tally, &first, &second);
@@ -162,8 +154,7 @@ fn replace(
         return;
     }
     let first = books.book.plan_replace(
-        &market.participants,
-        &market.instruments,
+        market.files(),
         who,
         number,
         &id,
@@ -171,16 +162,9 @@ fn replace(
         terms,
         market.moment,
     );
-    let second = books.scanned.plan_replace(
-        &market.participants,
-        &market.instruments,
-        who,
-        old,
-        &id,
-        units,
-        terms,
-        market.moment,
-    );
+    let second = books
+        .scanned
+        .plan_replace(market.files(), who, old, &id, units, terms, market.moment);
     match (first, second) {
         (Ok(first), Ok(second)) => {
             count_plan(tally, &first, &second);

@@ -5,7 +5,7 @@ use Rattle.price_book.specs.declared.book.Refusal.{Refusal}
 use Rattle.price_book.specs.Plans.{IsEntryRefused}
 use Rattle.cross_delay.specs.declared.held.Refusal.{Refusal as HoldRefusal}
 use Rattle.cross_delay.specs.Plans.{IsHoldRefused}
-use Rattle.venue_request.specs.Market.{market_of}
+use Rattle.venue_rules.specs.Market.{market_of}
 use Rattle.venue_request.specs.Senders.{sender}
 use Rattle.cross_handler.specs.Crossing.{cross_order}
 use Rattle.cross_handler.proofs.Answering.{full-answers, held-answers, many-answers, soon-answers, turned-answers}

@@ -2,7 +2,7 @@ use Rattle.std.proofs.Common.{◌∙◌, subst}
 use Rattle.std.proofs.lemmas.Result.{IfOk-weaker}
 use Rattle.price_book.specs.declared.book.Refusal.{Refusal}
 use Rattle.price_book.specs.Plans.{IsEntryRefused}
-use Rattle.venue_request.specs.Market.{market_of}
+use Rattle.venue_rules.specs.Market.{market_of}
 use Rattle.order_handler.specs.Parts.{book_answer_of}
 use Rattle.cross_handler.proofs.EnteringWhenDue.{entered_when_due-enters, entered_when_due-full, entered_when_due-soon}
 use Rattle.cross_handler.proofs.ticks.entered_when_due.Goals as goal

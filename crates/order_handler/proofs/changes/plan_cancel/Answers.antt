@@ -8,7 +8,7 @@ use Rattle.venue_rules.specs.declared.replies.OrderStatus.{OrderStatus}
 use Rattle.venue_rules.specs.Changes.{cancel_refused}
 use Rattle.cross_delay.specs.Plan.{Plan as DelayPlan}
 use Rattle.order_handler.specs.Parts.{Parts}
-use Rattle.venue_request.specs.Market.{market_of}
+use Rattle.venue_rules.specs.Market.{market_of}
 use Rattle.venue_request.specs.Senders.{sender}
 use Rattle.order_handler.proofs.Changing.{cancel-again, cancel-planned, order-listed}
 use Rattle.order_handler.proofs.Turning.{book-made}

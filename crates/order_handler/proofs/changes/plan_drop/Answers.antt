@@ -3,7 +3,7 @@ use Rattle.std.proofs.lemmas.Result.{IfOk-weaker}
 use Rattle.venue_rules.specs.Delay.{find_held}
 use Rattle.price_book.specs.Plan.{Plan}
 use Rattle.order_handler.specs.Parts.{Parts}
-use Rattle.venue_request.specs.Market.{market_of}
+use Rattle.venue_rules.specs.Market.{market_of}
 use Rattle.venue_request.specs.Senders.{sender}
 use Rattle.order_handler.proofs.Changing.{cancel-unknown, drop-planned, held-again, held-listed}
 use Rattle.order_handler.proofs.changes.plan_drop.Goals as goal

@@ -4,10 +4,9 @@ use Rattle.venue_rules.specs.Answer.{Answer, numbered}
 use Rattle.venue_rules.specs.Book.{fills}
 use Rattle.venue_rules.specs.Entering.{entering}
 use Rattle.venue_rules.specs.Facts.{entries, trades}
-use Rattle.venue_rules.specs.Market.{Market}
+use Rattle.venue_rules.specs.Market.{Market, market_of}
 use Rattle.price_book.specs.Plan.{Plan}
 use Rattle.order_handler.specs.Made.{are_listed}
-use Rattle.venue_request.specs.Market.{market_of}
 use Rattle.order_handler.specs.Parts.{Parts}
 use Rattle.order_handler.specs.Reports.{reports_of}
 use Rattle.order_handler.proofs.Accepting.{accepted-is, accepted-read, trades-entered}

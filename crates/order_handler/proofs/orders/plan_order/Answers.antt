@@ -1,6 +1,6 @@
 use Rattle.std.proofs.Common.{◌∙◌}
 use Rattle.std.proofs.lemmas.Result.{IfOk-weaker}
-use Rattle.venue_request.specs.Market.{market_of}
+use Rattle.venue_rules.specs.Market.{market_of}
 use Rattle.venue_request.specs.Senders.{sender}
 use Rattle.order_handler.specs.Parts.{answer_of}
 use Rattle.order_handler.proofs.Turning.{alone-answer, entered-planned, full-planned, soon-planned, turned-planned}

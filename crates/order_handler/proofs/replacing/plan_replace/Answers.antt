@@ -2,11 +2,10 @@ use Rattle.std.proofs.Common.{ℕ, ◌<◌, nat_le, false, ◌≡◌, ◌∙◌,
 use Rattle.std.proofs.lemmas.Bool.Decides.{nat_tests}
 use Rattle.std.proofs.lemmas.Result.{IfOk-weaker}
 use Rattle.venue_rules.specs.Book.{Resting, filled, find_order}
-use Rattle.venue_rules.specs.Market.{Market}
+use Rattle.venue_rules.specs.Market.{Market, market_of}
 use Rattle.venue_rules.specs.declared.replies.OrderStatus.{OrderStatus}
 use Rattle.price_book.specs.Views.{seen}
 use Rattle.order_handler.specs.Changed.{IsReplacing, change_turned_away}
-use Rattle.venue_request.specs.Market.{market_of}
 use Rattle.venue_request.specs.Senders.{sender}
 use Rattle.order_handler.specs.Parts.{answer_of}
 use Rattle.order_handler.proofs.Changing.{order-listed}

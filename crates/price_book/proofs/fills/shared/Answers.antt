@@ -3,7 +3,6 @@ use Rattle.std.specs.Option.{option_copied}
 use Rattle.std.proofs.lemmas.List.{length-reverse}
 use Rattle.venue_rules.specs.Book.{Resting, against, opposite, resting}
 use Rattle.price_book.specs.declared.row.Row.{Row}
-use Rattle.price_book.specs.GhostHistory.{facts_in}
 use Rattle.price_book.specs.Live.{seen_slot}
 use Rattle.price_book.specs.Numbered.{slot_at}
 use Rattle.price_book.specs.Rows.{rows_of}
@@ -17,14 +16,14 @@ use Rattle.price_book.proofs.fills.shared.Goals.{then-wanted-eq0-via-then-wanted
 pub returns-in_default : goal.returns-in_default
 returns-in_default c =
     let o = c.args.order.now in
-    let f = facts_in c.args.book.past.now in
+    let f = c.args.book.past.now in
     let none : against f o ≡ [] = ap (λ s. met o (resting f o.instrument s)) (sym c.opposite.ensures) ∙ ap (met o) c.in_default.ensures in
     (ap (map seen_fill) c.new-fills.ensures.items ∙ sym (ap (share_out o.quantity) none), c.get-wanted.ensures.value ∙ sym (ap (left_over o.quantity) none))
 
 pub loop-at-init : goal.loop-at-init
 loop-at-init c =
     let o = c.args.order.now in
-    let f = facts_in c.args.book.past.now in
+    let f = c.args.book.past.now in
     rw (c.len-at.ensures, none-read (length c.in-Some.rows.now.items)) (
       ap (λ ys. map seen_fill ys ++ share_out c.get-wanted.result (against f o)) c.new-fills.ensures.items ∙ ap (λ q. share_out q (against f o)) c.get-wanted.ensures.value,
       ap (λ q. left_over q (against f o)) c.get-wanted.ensures.value,
@@ -33,7 +32,7 @@ loop-at-init c =
 pub returns-then-wanted-eq0 : goal.returns-then-wanted-eq0
 returns-then-wanted-eq0 c =
     let o = c.args.order.now in
-    let f = facts_in c.args.book.past.now in
+    let f = c.args.book.past.now in
     let high : c.loop-at.at ≤ length c.in-Some.rows.now.items = rw c.len-at.ensures at c.loop-at.auto.at in
     let i = length c.in-Some.rows.now.items - c.loop-at.at in
     let rs : List Resting = resting f o.instrument (opposite o.side) in
@@ -55,7 +54,7 @@ returns-then-wanted-eq0 c =
 pub returns-in_default-get : goal.returns-in_default-get
 returns-in_default-get c =
     let o = c.args.order.now in
-    let f = facts_in c.args.book.past.now in
+    let f = c.args.book.past.now in
     let high : c.loop-at.at ≤ length c.in-Some.rows.now.items = rw c.len-at.ensures at c.loop-at.auto.at in
     let i = length c.in-Some.rows.now.items - c.loop-at.at in
     let rs : List Resting = resting f o.instrument (opposite o.side) in
@@ -69,7 +68,7 @@ returns-in_default-get c =
 pub loop-at-preserved : goal.loop-at-preserved
 loop-at-preserved c =
     let o = c.args.order.now in
-    let f = facts_in c.args.book.past.now in
+    let f = c.args.book.past.now in
     let high : c.loop-at.at ≤ length c.in-Some.rows.now.items = rw c.len-at.ensures at c.loop-at.auto.at in
     let i = length c.in-Some.rows.now.items - c.loop-at.at in
     let rs : List Resting = resting f o.instrument (opposite o.side) in
@@ -93,7 +92,7 @@ loop-at-preserved c =
 pub returns : goal.returns
 returns c =
     let o = c.args.order.now in
-    let f = facts_in c.args.book.past.now in
+    let f = c.args.book.past.now in
     let i = length c.in-Some.rows.now.items - c.loop-at.at in
     let rs : List Resting = resting f o.instrument (opposite o.side) in
     let rows : reverse c.in-Some.rows.now.items ≡ rows_of rs = c.in-Some.ensures ∙ ap (λ s. rows_of (resting f o.instrument s)) c.opposite.ensures in

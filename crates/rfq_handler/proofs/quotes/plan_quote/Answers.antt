@@ -1,7 +1,7 @@
 use Rattle.std.proofs.Common.{◌≡◌, ◌∙◌, ap, sym, subst, length, Some, option_map}
 use Rattle.std.proofs.lemmas.Result.{IfOk-weaker}
 use Rattle.venue_rules.specs.Answer.{Sender}
-use Rattle.venue_rules.specs.Market.{Market}
+use Rattle.venue_rules.specs.Market.{Market, market_of}
 use Rattle.venue_rules.specs.Rooms.{find_room}
 use Rattle.rfq_room.specs.Causes.{quote_cause}
 use Rattle.rfq_room.specs.RoomStore.{are_listed}
@@ -11,7 +11,6 @@ use Rattle.rfq_room.specs.Steps.{IsPlanOf}
 use Rattle.rfq_room.specs.declared.refusal.Cause.TheVariants as cause
 use Rattle.rfq_handler.specs.Known.{are_known}
 use Rattle.rfq_handler.specs.Quoted.{IsQuoteAnswer}
-use Rattle.venue_request.specs.Market.{market_of}
 use Rattle.venue_request.specs.Senders.{sender}
 use Rattle.rfq_handler.proofs.Makers.{quote-known, quote-listed, sender-known}
 use Rattle.rfq_handler.proofs.Rooms.{quiet-known, quiet-listed, quiet-made}

@@ -1,7 +1,7 @@
 use Rattle.std.proofs.Common.{◌≡◌, ◌∙◌, ap, sym, length, option_map, Some}
 use Rattle.std.proofs.lemmas.Result.{IfOk-weaker}
 use Rattle.venue_rules.specs.Answer.{Answer, Sender}
-use Rattle.venue_rules.specs.Market.{Market}
+use Rattle.venue_rules.specs.Market.{Market, market_of}
 use Rattle.rfq_room.specs.Causes.{request_cause}
 use Rattle.rfq_room.specs.Plan.{Plan}
 use Rattle.rfq_room.specs.Plans.{room_asked}
@@ -10,7 +10,6 @@ use Rattle.rfq_room.specs.declared.refusal.Cause.TheVariants as cause
 use Rattle.rfq_handler.specs.Counting.{reports_in, trades_in}
 use Rattle.rfq_handler.specs.Known.{are_known}
 use Rattle.rfq_handler.specs.Read.{first_room}
-use Rattle.venue_request.specs.Market.{market_of}
 use Rattle.venue_request.specs.Senders.{sender}
 use Rattle.rfq_handler.proofs.Requesting.{accepted-answer, asked-known, request-answer, request-holds, request-opens, sent-quiet}
 use Rattle.rfq_handler.proofs.Refused.{of-request}

@@ -11,7 +11,7 @@ use Rattle.rfq_room.specs.declared.decision.Decision.TheVariants.{Refuse}
 use Rattle.rfq_room.specs.declared.refusal.Cause.TheVariants as cause
 use Rattle.rfq_handler.specs.Known.{are_known}
 use Rattle.rfq_handler.specs.Responded.{IsAnswerTo, IsResponseEmitted}
-use Rattle.venue_request.specs.Market.{market_of}
+use Rattle.venue_rules.specs.Market.{market_of}
 use Rattle.venue_request.specs.Senders.{sender}
 use Rattle.rfq_handler.proofs.Rooms.{quiet-known, quiet-listed, quiet-made}
 use Rattle.rfq_handler.proofs.Responding.{accepted-answer, if-both, planned-quote-there, planned-room-there, planned-trades, response-answer, response-holds, response-known}

@@ -2,7 +2,7 @@ use Rattle.std.proofs.Common.{◌≡◌, ◌∙◌, ap, sym, flat_map, Some, Non
 use Rattle.std.proofs.lemmas.Result.{IfOk-weaker}
 use Rattle.venue_rules.specs.declared.facts.RoomQuote.{RoomQuote}
 use Rattle.venue_rules.specs.Answer.{Answer, Sender}
-use Rattle.venue_rules.specs.Market.{Market}
+use Rattle.venue_rules.specs.Market.{Market, market_of}
 use Rattle.rfq_room.specs.Causes.{withdrawal_cause, withdrawal_id}
 use Rattle.rfq_room.specs.RoomStore.{are_listed}
 use Rattle.rfq_room.specs.Named.{named_quotes}
@@ -11,7 +11,6 @@ use Rattle.rfq_room.specs.Refusals.{cause_of}
 use Rattle.rfq_room.specs.declared.refusal.Cause.TheVariants as cause
 use Rattle.rfq_handler.specs.Counting.{reports_in, trades_in}
 use Rattle.rfq_handler.specs.Known.{are_known}
-use Rattle.venue_request.specs.Market.{market_of}
 use Rattle.venue_request.specs.Senders.{sender}
 use Rattle.rfq_handler.specs.Sent.{both_emitted}
 use Rattle.rfq_handler.proofs.Rooms.{quiet-known, quiet-listed, quiet-made}

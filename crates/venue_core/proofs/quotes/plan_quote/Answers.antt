@@ -1,6 +1,6 @@
 use Rattle.std.proofs.Common.{◌∙◌, sym, subst, ℕ, ◌≤◌, Option, Some, None, length, arith}
 use Rattle.venue_rules.specs.declared.trail.RoomFact.{RoomFact}
-use Rattle.venue_request.specs.Market.{market_of}
+use Rattle.venue_rules.specs.Market.{market_of}
 use Rattle.venue_request.specs.Senders.{sender}
 use Rattle.venue_core.specs.Read.{IsReadWith, read_count}
 use Rattle.venue_core.proofs.FirstQuotes.{quote-is-read}

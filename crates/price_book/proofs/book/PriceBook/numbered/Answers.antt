@@ -1,6 +1,5 @@
 use Rattle.std.proofs.Common.{◌≡◌, ◌∙◌, ap, sym, List, Some}
 use Rattle.venue_rules.specs.Book.{Resting}
-use Rattle.price_book.specs.GhostHistory.{facts_in}
 use Rattle.price_book.specs.Live.{live, find_live}
 use Rattle.price_book.specs.Numbered.{numbered}
 use Rattle.price_book.specs.Steps.{IsOwnOf}
@@ -10,7 +9,7 @@ use Rattle.price_book.proofs.book.PriceBook.numbered.Goals as goal
 
 pub returns : goal.returns
 returns c = λ who r own.
-    let facts = facts_in c.self.inside.past in
+    let facts = c.self.inside.past in
     let rs : List Resting = live facts in
     let is : IsOwnOf facts who c.args.number r = rw (← c.self.view_is) at own in
     let found : find_live who is.own.id rs ≡ Some r = find_order-live facts who is.own.id ∙ is.own.found in

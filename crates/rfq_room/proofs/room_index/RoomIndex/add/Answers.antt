@@ -8,33 +8,32 @@ use Rattle.rfq_room.specs.declared.room_index.IdKind.TheVariants as named
 use Rattle.rfq_room.specs.Flags.{is_set}
 use Rattle.rfq_room.specs.LastQuotes.{last_in}
 use Rattle.rfq_room.specs.Flagged.{AreThere, count_of, is_flagged, last_number, name_in, names_in, number_in}
-use Rattle.rfq_room.specs.GhostHistory.{facts_in}
 use Rattle.rfq_room.proofs.Flagging.{any-added, count-added, last-added, there-same}
 use Rattle.rfq_room.proofs.room_index.RoomIndex.add.Goals as goal
 
 pub add_flags-requires-clause-there : goal.add_flags-requires-clause-there
 add_flags-requires-clause-there c =
-    let old : List Fact = facts_in c.self.inside.past in
+    let old : List Fact = c.self.inside.past in
     let there : AreThere old c.args.facts.now.items = rw (← c.self.view_is) at c.requires.there in
     there-same flag.Traded old c.args.facts.now.items c.deref.result.now (length c.self.inside.traded.flags) c.self.invariant.traded_count c.deref.ensures.value there
 
 pub add_flags-requires-2-clause-there : goal.add_flags-requires-2-clause-there
 add_flags-requires-2-clause-there c =
-    let old : List Fact = facts_in c.self.inside.past in
+    let old : List Fact = c.self.inside.past in
     let there : AreThere old c.args.facts.now.items = rw (← c.self.view_is) at c.requires.there in
     there-same flag.Withdrawn old c.args.facts.now.items c.deref-2.result.now (length c.self.inside.withdrawn.flags) c.self.invariant.withdrawn_count c.deref-2.ensures.value there
 
 pub add_flags-requires-3-clause-there : goal.add_flags-requires-3-clause-there
 add_flags-requires-3-clause-there c =
-    let old : List Fact = facts_in c.self.inside.past in
+    let old : List Fact = c.self.inside.past in
     let there : AreThere old c.args.facts.now.items = rw (← c.self.view_is) at c.requires.there in
     there-same flag.Quoted old c.args.facts.now.items c.deref-3.result.now (length c.self.inside.quoted.flags) c.self.invariant.quoted_count c.deref-3.ensures.value there
 
 pub invariant_of-self : goal.invariant_of-self
 invariant_of-self c =
-    let old : List Fact = facts_in c.self.inside.past in
+    let old : List Fact = c.self.inside.past in
     let added : List Fact = c.args.facts.now.items in
-    let facts : facts_in c.add.new.self ≡ old ++ added = c.add.ensures in
+    let facts : c.append.new.self ≡ old ++ added = c.append.ensures in
     record {
       traded = λ n. c.add_flags.ensures.flags n ∙ ap (λ fs. is_flagged flag.Traded fs n || is_set c.self.inside.traded.flags n) c.deref.ensures.value ∙ ap (λ b. is_flagged flag.Traded added n || b) (c.self.invariant.traded n) ∙ any-added (nat_eq n) (number_in flag.Traded) old added ∙ ap (λ fs. is_flagged flag.Traded fs n) (sym facts);
       traded_count = c.add_flags.ensures.count ∙ ap (λ fs. length c.self.inside.traded.flags + count_of flag.Traded fs) c.deref.ensures.value ∙ ap (λ n. n + count_of flag.Traded added) c.self.invariant.traded_count ∙ sym (ap (count_of flag.Traded) facts ∙ count-added flag.Traded old added);

@@ -1,4 +1,3 @@
-use Rattle.trade_history.specs.GhostHistory.{rooms_in}
 use Rattle.trade_history.proofs.ByNumber.{found-one-more, rises-one}
 use Rattle.trade_history.proofs.quoted.QuotedRooms.add.Goals as goal
 
@@ -8,5 +7,5 @@ invariant_of-self c =
     let ks = c.self.inside.read.items in
     record {
       rising = rw c.put.ensures (rises-one f ks c.self.invariant.rising);
-      same = λ n. rw (c.put.ensures, c.add.ensures) (found-one-more n f ks (rooms_in c.self.inside.past) c.self.invariant.rising (c.self.invariant.same n));
+      same = λ n. rw (c.put.ensures, c.add.ensures) (found-one-more n f ks c.self.inside.past c.self.invariant.rising (c.self.invariant.same n));
     }

@@ -28,7 +28,7 @@ returns-clause-fresh g c =
       history = subst (λ (p : VenueFacts). IsStanding p no_history) (sym e.venue.1) c.in_ok-venue.ensures.history;
       rows = λ _. e.keeper.0 ∙ c.requires;
       count = e.start.1;
-      moment = e.start.2 ∙ c.epoch.ensures;
+      moment = e.start.2;
       sides = fresh_sides c.args.participants c.args.participants.names c.in_ok-slots.slots.items c.in_ok-engine.engine.queues c.in_ok-slots.ensures.fresh long e.queues.1;
     }
 

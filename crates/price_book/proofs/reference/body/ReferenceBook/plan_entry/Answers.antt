@@ -1,6 +1,7 @@
 use Rattle.std.proofs.Common.{◌≡◌, ap, sym, ◌∙◌, length, map, arith, rules}
 use Rattle.std.proofs.lemmas.List.{length-map}
 use Rattle.venue_rules.specs.Book.{fills}
+use Rattle.venue_rules.specs.Market.{market_of}
 use Rattle.price_book.specs.Steps.{Enters, facts_of}
 use Rattle.price_book.specs.Plans.{printed}
 use Rattle.price_book.proofs.Keeping.{fills-few}
@@ -13,7 +14,7 @@ returns-clause-made c =
     record {
       step = Enters c.args.order.now c.args.moment;
       allowed = record {
-        market = record { participants = c.args.participants.now; instruments = c.args.instruments.now };
+        market = market_of c.args.market;
         free = rw same at c.in_ok-plan.ensures.planned.0.0;
         place = rw same at c.in_ok-plan.ensures.planned.0.1;
         whole = c.in_ok-plan.ensures.whole;

@@ -1,6 +1,7 @@
 use Rattle.std.proofs.Common.{◌≡◌, refl, ap, sym, ◌∙◌, length, Some, option_map, arith, rules}
 use Rattle.std.proofs.lemmas.List.{length-map}
 use Rattle.venue_rules.specs.Book.{Resting, fills, find_order}
+use Rattle.venue_rules.specs.Market.{market_of}
 use Rattle.price_book.specs.Views.{seen}
 use Rattle.price_book.specs.Steps.{Changes, facts_of}
 use Rattle.price_book.specs.Plans.{printed, replacing}
@@ -24,7 +25,7 @@ returns-clause-made c =
     record {
       step = Changes order c.args.who c.replacing-new_order.result c.args.moment;
       allowed = record {
-        market = record { participants = c.args.participants.now; instruments = c.args.instruments.now };
+        market = market_of c.args.market;
         free = rw same at c.in_ok-plan.ensures.planned.0;
         own = record {
           id = c.args.order_id.now;

@@ -1,0 +1,2 @@
+-- the entries of a past
+pub mod Past
