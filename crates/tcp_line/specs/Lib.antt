@@ -1,3 +1,4 @@
 pub mod Link
 pub mod Endings
 pub mod Events
+pub mod Passed

@@ -8,7 +8,7 @@ use crate::events::{EventKind, EventSender};
 use crate::session_wakers::SessionWakers;
 use crate::stop::{Stop, StopSource};
 use crate::waker::IdleWait;
-use gateway::ghost_history::GhostHistory;
+use ghost_history::GhostHistory;
 use sef_moment::Moment;
 use std::sync::Arc;
 use std::time;
@@ -19,7 +19,7 @@ use venue_worker::Clock;
 fn moment_after(elapsed: Duration) -> Moment
     ensures { result ≡ min (as_nanos elapsed / 10 ^ 6) greatest }
 {
-    let start = Moment::of_ms(0).unwrap();
+    let start = Moment::EPOCH;
     let milliseconds = elapsed.as_millis().min(u64::MAX as u128);
     start.plus(milliseconds as u64)
 }
@@ -66,15 +66,13 @@ impl<T: time::Clock> SystemClock<T> {
 }
 
 impl<T: time::Clock> Clock for SystemClock<T> {
-    ghost use Rattle.gateway.specs.GhostHistory.{entries};
-
-    ghost answered = { λ c. entries c.past };
+    ghost answered = { λ c. c.past };
 
     fn now(&mut self) -> Moment {
         if let Ok(elapsed) = self.clock.since_1970() {
             self.last = moment_after(elapsed);
         }
-        self.past.add(self.last);
+        self.past.add(&self.last);
         self.last
     }
 }

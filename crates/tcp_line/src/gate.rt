@@ -5,9 +5,9 @@ use crate::dirty_flag::DirtyFlag;
 use crate::events::{EventKind, EventSender};
 use crate::line_watch::{LineEnd, LineWatch};
 use crate::notices::{Known, event_of};
+use crate::passed::Passed;
 use crate::stop::Stop;
 use crate::waker::{IdleWait, Peers, ThreadWaker};
-use gateway::ghost_history::GhostHistory;
 use gateway::line::Gate;
 use gateway::notice::Notice;
 use sef_moment::Moment;
@@ -77,7 +77,7 @@ pub struct TcpGate {
     moved: Moved,
     deferred: u64,
     ahead: u64,
-    past: GhostHistory<bool>,
+    past: Passed,
 }
 
 // Written-out drop (docs/ARCHITECTURE.md).
@@ -111,7 +111,7 @@ impl TcpGate {
             moved: Moved::Nothing,
             deferred: 0,
             ahead: 0,
-            past: GhostHistory::new(),
+            past: Passed::new(),
         }
     }
 
@@ -294,9 +294,9 @@ impl TcpGate {
 }
 
 impl Gate for TcpGate {
-    ghost use Rattle.gateway.specs.GhostHistory.{entries};
+    ghost use Rattle.tcp_line.specs.Passed.{answers};
 
-    ghost passed = { λ g. entries g.past };
+    ghost passed = { λ g. answers g.past };
 
     fn pass<R: Wait>(&mut self, rt: &R, _turn: u64) -> bool {
         self.turns = self.turns.saturating_add(1);

@@ -15,6 +15,7 @@ mod line_timer;
 mod line_watch;
 mod notices;
 mod opening;
+mod passed;
 mod served_line;
 mod session_wakers;
 mod stop;

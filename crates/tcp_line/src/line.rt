@@ -6,10 +6,12 @@ ghost use Rattle.tcp_line.specs.Link.{GivesAhead, HasFlushed, HasRead, IsHeard};
 use crate::connection::{Arrival, Connection, READ_AHEAD};
 use crate::dirty_flag::DirtyFlag;
 use crate::draining::pass_over;
-use crate::line_log::{LineLog, past_of};
+use crate::line_log::LineLog;
 use gateway::line::{Accept, Line, LineFault, Read};
 use gateway::mem_line::LineEvent;
-use gateway::piece::{Given, Piece, READ_SIZE};
+use gateway::piece::READ_SIZE;
+use gateway::read_outcome::given_of;
+use ghost_history::GhostHistory;
 use mio::unix::SourceFd;
 use mio::{Interest, Registry, Token};
 use std::alloc::Global;
@@ -346,20 +348,6 @@ impl<T: Clock + Drop> TcpLine<T> {
     }
 }
 
-/// What a read gave, by its answer and what the buffer has afterwards.
-pub(crate) fn given_of(answer: Read, buffer: &[u8; READ_SIZE]) -> Given
-    ensures { result ≡ given answer buffer.now }
-{
-    match answer {
-        Read::Got { count } => Given::Got {
-            piece: Piece::front(buffer, count),
-        },
-        Read::Quiet => Given::Quiet,
-        Read::Ended => Given::Ended,
-        Read::Fault => Given::Fault,
-    }
-}
-
 // Reads once. What waits is given to the system before it is asked to read, but only once all that was read ahead is
 // given, so that one system call may carry the replies to all that another one read. A read that gave nothing has asked
 // the system: so nothing waits after turns that read and got nothing, after which a thread goes to sleep. (A thread
@@ -413,7 +401,7 @@ impl<T: Clock + Drop> Line for TcpLine<T> {
         ensures said { MatchResult result (λ _. self.new.log ≡ self.old.log ++ Took bytes.now ∷ []) (λ _. self.new.log ≡ self.old.log ++ Broke_off bytes.now ∷ []) }
         ensures gone { IfErr result (λ _. self.new.connection ≡ None) }
     {
-        let past = past_of(bytes);
+        let past = GhostHistory::of(bytes);
         self.activity.note();
         if self.has_taken(bytes) {
             self.log.note(LineEvent::Took { bytes: past });

@@ -2,19 +2,18 @@
 ghost use Rattle.std.specs.Prelude.{◌≡◌, ◌^◌, ◌-◌, [], ◌∷◌, ◌++◌, min};
 ghost use Rattle.gateway.specs.Said.{fault_of, faults_in};
 ghost use Rattle.gateway.specs.Memory.{said_of, fault_count};
-ghost use Rattle.gateway.specs.GhostHistory.{entries};
 
-use gateway::ghost_history::GhostHistory;
 use gateway::line::Accept;
 use gateway::mem_line::LineEvent;
 use gateway::piece::Given;
+use ghost_history::GhostHistory;
 use std::marker::Model;
 
-/// The account of a line. Contracts see all of it; its last event and the count of faults take memory.
+/// The account of a line. Contracts see all of it; only the count of faults takes memory.
 pub struct LineLog {
     past: GhostHistory<LineEvent>,
     faults: u64,
-    ghost counted: { faults ≡ min (fault_count (entries past)) (2 ^ 64 - 1) },
+    ghost counted: { faults ≡ min (fault_count past) (2 ^ 64 - 1) },
 }
 
 // Written-out drop (docs/ARCHITECTURE.md).
@@ -31,11 +30,10 @@ impl Model for LineLog {
     ghost use Rattle.std.specs.Prelude.{List};
     ghost use Rattle.gateway.specs.Said.{Said};
     ghost use Rattle.gateway.specs.Memory.{said_in};
-    ghost use Rattle.gateway.specs.GhostHistory.{entries};
 
     ghost Value = { List Said };
 
-    ghost view = { λ a. said_in (entries a.past) };
+    ghost view = { λ a. said_in a.past };
 }
 
 impl LineLog {
@@ -54,7 +52,7 @@ impl LineLog {
         ensures { self.new ≡ self.old ++ said_of spoken ∷ [] }
     {
         let faults = faults_of(&spoken);
-        self.past.add(spoken);
+        self.past.add(&spoken);
         self.faults = self.faults.saturating_add(faults);
     }
 
@@ -86,15 +84,4 @@ fn faults_of(spoken: &LineEvent) -> u64
         LineEvent::Took { bytes: _ } => 0,
         LineEvent::BrokeOff { bytes: _ } => 1,
     }
-}
-
-/// These bytes, for contracts alone.
-pub(crate) fn past_of(bytes: &[u8]) -> GhostHistory<u8>
-    ensures { entries result ≡ bytes.now }
-{
-    let mut past = GhostHistory::new();
-    for byte in bytes {
-        past.add(*byte);
-    }
-    past
 }

@@ -107,7 +107,7 @@ fn worker_clock<T: Clock + Copy + Drop, S: StopSource + Drop>(
         stop,
         worker,
     } = common;
-    let own = SystemClock::from(clock, Moment::of_ms(0).unwrap());
+    let own = SystemClock::from(clock, Moment::EPOCH);
     let share = VenueShare {
         source,
         stop,
@@ -177,6 +177,6 @@ fn open_line<R: Net<Listener = TcpListener, Stream = TcpStream>, T: Clock + Copy
     };
     let served = ServedLine::new(line, clock, shared);
     let gate = TcpGate::new(sleeper, share, events);
-    let own = SystemClock::from(clock, Moment::of_ms(0).unwrap());
+    let own = SystemClock::from(clock, Moment::EPOCH);
     Ok((served, own, gate))
 }

@@ -7,14 +7,16 @@ ghost use Rattle.tcp_line.specs.Link.{IsHeard};
 use crate::clocks::ms_of;
 use crate::dirty_flag::DirtyFlag;
 use crate::events::Counts;
-use crate::line::{TcpLine, given_of};
-use crate::line_log::{LineLog, past_of};
+use crate::line::TcpLine;
+use crate::line_log::LineLog;
 use crate::line_timer::{Fate, LineTimer};
 use crate::line_watch::{LineEnd, LineWatch};
 use crate::stop::Stop;
 use gateway::line::{Accept, Line, LineFault, Read};
 use gateway::mem_line::LineEvent;
-use gateway::piece::{Given, READ_SIZE};
+use gateway::piece::READ_SIZE;
+use gateway::read_outcome::given_of;
+use ghost_history::GhostHistory;
 use std::sync::{Arc, Wait};
 use std::time::Clock;
 
@@ -315,7 +317,7 @@ impl<T: Clock + Drop> Line for ServedLine<T> {
     fn write<R: Wait>(&mut self, _rt: &R, bytes: &[u8]) -> Result<(), LineFault>
         ensures said { MatchResult result (λ _. self.new.log ≡ self.old.log ++ Took bytes.now ∷ []) (λ _. self.new.log ≡ self.old.log ++ Broke_off bytes.now ∷ []) }
     {
-        let past = past_of(bytes);
+        let past = GhostHistory::of(bytes);
         self.shared.activity.note();
         if self.line.has_taken(bytes) {
             self.shared

@@ -4,10 +4,11 @@ ghost use Rattle.gateway.specs.Said.{IsWithin};
 
 use super::cues::Day;
 use super::pace::sleep_a_little;
-use super::watched::{given_of, past_of};
 use gateway::line::{Accept, Line, LineFault, Read};
 use gateway::mem_line::LineEvent;
 use gateway::piece::READ_SIZE;
+use gateway::read_outcome::given_of;
+use ghost_history::GhostHistory;
 use std::alloc::Global;
 use std::io;
 use std::net::{Net, TcpListener, TcpStream};
@@ -133,7 +134,7 @@ impl<'a, N: Net<Listener = TcpListener, Stream = TcpStream> + Clock + Drop> Line
     }
 
     fn write<R: Wait>(&mut self, _rt: &R, bytes: &[u8]) -> Result<(), LineFault> {
-        let past = past_of(bytes);
+        let past = GhostHistory::of(bytes);
         self.wait(bytes);
         match self.give(bytes) {
             Ok(()) => {

@@ -3,9 +3,9 @@ ghost use Rattle.std.specs.Prelude.{◌≡◌, []};
 
 use super::signal::Signal;
 use super::watched::WatchedLine;
-use gateway::ghost_history::GhostHistory;
 use gateway::line::Gate;
 use gateway::mem_line::{MemClock, MemLine};
+use ghost_history::GhostHistory;
 use sef_moment::Moment;
 use std::sync::Wait;
 use std::time::Duration;
@@ -114,14 +114,12 @@ impl<'a, T: time::Clock> PacedGate<'a, T> {
 }
 
 impl<'a, T: time::Clock> Gate for PacedGate<'a, T> {
-    ghost use Rattle.gateway.specs.GhostHistory.{entries};
-
-    ghost passed = { λ g. entries g.past };
+    ghost passed = { λ g. g.past };
 
     fn pass<R: Wait>(&mut self, _rt: &R, _turn: u64) -> bool {
         sleep_a_little(&self.clock);
         self.wait();
-        self.past.add(true);
+        self.past.add(&true);
         true
     }
 }

@@ -1,42 +1,16 @@
 //! A line of the venue that is watched: it signals each application message that was written on it, and ends on a
 //! signal.
 ghost use Rattle.std.specs.Prelude.{◌≡◌, []};
-ghost use Rattle.gateway.specs.GhostHistory.{entries};
-ghost use Rattle.gateway.specs.Said.{IsWithin, given};
+ghost use Rattle.gateway.specs.Said.{IsWithin};
 
 use super::signal::Signal;
-use gateway::ghost_history::GhostHistory;
 use gateway::line::{Accept, Line, LineFault, Read};
 use gateway::mem_line::LineEvent;
-use gateway::piece::{Given, Piece, READ_SIZE};
+use gateway::piece::READ_SIZE;
+use gateway::read_outcome::given_of;
+use ghost_history::GhostHistory;
 use std::sync::Wait;
 use tcp_line::LineLog;
-
-/// These bytes, for contracts alone.
-pub fn past_of(bytes: &[u8]) -> GhostHistory<u8>
-    ensures { entries result ≡ bytes.now }
-{
-    let mut past = GhostHistory::new();
-    for byte in bytes {
-        past.add(*byte);
-    }
-    past
-}
-
-/// What a line gave, for contracts alone.
-pub fn given_of(answer: Read, buffer: &[u8; READ_SIZE]) -> Given
-    requires { IsWithin answer }
-    ensures { result ≡ given answer buffer.now }
-{
-    match answer {
-        Read::Got { count } => Given::Got {
-            piece: Piece::front(buffer, count),
-        },
-        Read::Quiet => Given::Quiet,
-        Read::Ended => Given::Ended,
-        Read::Fault => Given::Fault,
-    }
-}
 
 // Whether a type of one character is a session's.
 fn is_of_the_session(kind: u8) -> bool {
@@ -120,7 +94,7 @@ impl<'a, L: Line + Drop> Line for WatchedLine<'a, L> {
     }
 
     fn write<R: Wait>(&mut self, rt: &R, bytes: &[u8]) -> Result<(), LineFault> {
-        let past = past_of(bytes);
+        let past = GhostHistory::of(bytes);
         match self.line.write(rt, bytes) {
             Ok(()) => {
                 emit(bytes, self.emitted);
