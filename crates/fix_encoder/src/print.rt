@@ -486,30 +486,6 @@ fn print_business_message_reject(
     )
 }
 
-fn app_kind(message: &App) -> &[u8]
-    ensures { result.now ≡ app_kind message.now }
-{
-    match message {
-        App::QuoteCancel(_) => b"Z",
-        App::QuoteResponse(_) => b"AJ",
-        App::QuoteStatusReport(_) => b"AI",
-        App::NewOrderSingle(_) => b"D",
-        App::OrderCancelRequest(_) => b"F",
-        App::OrderCancelReplaceRequest(_) => b"G",
-        App::ExecutionReport(_) => b"8",
-        App::OrderCancelReject(_) => b"9",
-        App::MarketDataRequestReject(_) => b"Y",
-        App::BusinessMessageReject(_) => b"j",
-        App::QuoteRequest(_) => b"R",
-        App::Quote(_) => b"S",
-        App::QuoteRequestReject(_) => b"AG",
-        App::NewOrderCross(_) => b"s",
-        App::MarketDataRequest(_) => b"V",
-        App::MarketDataSnapshot(_) => b"W",
-        App::Unsupported(kind) => kind.as_slice(),
-    }
-}
-
 fn append_app(out: &mut Vec<u8>, message: &App) -> Result<(), AllocError>
     ensures text { Appends out.old.items out.new.items (slots_text (app_slots message.now)) result }
     ensures fits { FitsBody (Body.App message.now) }
@@ -572,7 +548,7 @@ fn body_kind(body: BodyRef) -> &[u8]
 {
     match body {
         BodyRef::Admin(message) => admin_kind(message),
-        BodyRef::App(message) => app_kind(message),
+        BodyRef::App(message) => message.msg_type(),
     }
 }
 
@@ -608,7 +584,7 @@ fn append_application(out: &mut Vec<u8>, message: &App) -> Result<(), AllocError
     ensures text { Appends out.old.items out.new.items (app_text message.now) result }
     ensures fits { OnOk result (FitsBody (Body.App message.now)) }
 {
-    append_bytes(out, 35, app_kind(message))?;
+    append_bytes(out, 35, message.msg_type())?;
     append_app(out, message)
 }
 

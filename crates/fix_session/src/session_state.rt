@@ -65,7 +65,7 @@ impl SessionState {
     pub(crate) fn new() -> SessionState
         ensures { result ≡ state.new_line }
     {
-        let start = Moment::of_ms(0).unwrap();
+        let start = Moment::EPOCH;
         SessionState {
             up: false,
             logged_on: false,
