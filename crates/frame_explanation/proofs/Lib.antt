@@ -1,5 +1,4 @@
 mod Appends
-mod FirstPiece
 mod Going
 mod Integers
 mod Listed

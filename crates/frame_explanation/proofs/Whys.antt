@@ -4,7 +4,7 @@ use Rattle.std.specs.Prelude.{◌==◌}
 use Rattle.std.specs.List.{list_any}
 use Rattle.std.proofs.lemmas.List.{take_rest}
 use Rattle.frame_explanation.specs.Broken.{behind_body, body_in, to_trailer, why_behind, why_body, why_of}
-use Rattle.frame_explanation.specs.Pieces.{first_value}
+use Rattle.fix_pieces.specs.Pieces.{first_value}
 
 by_cases : (digits sum body rest : List ℕ) (found : Option (List ℕ)) → found ≡ Some sum → list_any (λ b. b == 1) rest ≡ true → why_body digits sum body ≡ why_of digits body found rest
 by_cases digits sum body rest found f soh = rw (f, soh) refl

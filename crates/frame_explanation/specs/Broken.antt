@@ -6,7 +6,7 @@ use Rattle.fix_frame.specs.Frame.{counted, three_digits}
 use Rattle.message_words.specs.Visible.{readable}
 use Rattle.frame_explanation.specs.Frames.{body_length}
 use Rattle.frame_explanation.specs.Parts.{joined}
-use Rattle.frame_explanation.specs.Pieces.{begins, first_value}
+use Rattle.fix_pieces.specs.Pieces.{begins, first_value}
 
 -- the digits of the checksum of a frame with this BodyLength and body
 abbrev pub sum_of : (digits body : List ℕ) → List ℕ

@@ -8,7 +8,7 @@ use Rattle.fix_frame.specs.Frame.{trailer}
 use Rattle.frame_explanation.specs.declared.frames.Look.{Look}
 use Rattle.frame_explanation.specs.declared.frames.Look.TheVariants.{Frame, Broken, Nothing}
 use Rattle.frame_explanation.specs.declared.frames.Found.{Found}
-use Rattle.frame_explanation.specs.Pieces.{begins}
+use Rattle.fix_pieces.specs.Pieces.{begins}
 
 -- `8=FIXT.1.1|9=`, with which every frame begins
 abbrev pub opening : List ℕ

@@ -1,6 +1,6 @@
 -- What is listed of a log: each thing found in it, once and in order, with its place and its bytes; whose session hears
 -- a frame, and when; and before the first frame of a session what brings it to that frame's number.
-use Rattle.std.specs.Prelude.{ℕ, suc, ◌+◌, ◌-◌, ◌==◌, ◌&&◌, nat_le, nat_lt, Bool, true, false, List, [], ◌∷◌, ◌++◌, length, take, drop, if◌then◌else◌, bytes_eq, codes, decimal, Option, Some, None, Result, Ok, Err}
+use Rattle.std.specs.Prelude.{ℕ, suc, ◌+◌, ◌-◌, ◌==◌, ◌&&◌, ◌||◌, not, nat_le, nat_lt, Bool, true, false, List, [], ◌∷◌, ◌++◌, length, take, drop, if◌then◌else◌, bytes_eq, codes, decimal, Option, Some, None, Result, Ok, Err}
 use Rattle.std.specs.List.{list_any}
 use Rattle.fix_fields.specs.Forms.{integer_in}
 use Rattle.fix_fields.specs.declared.value.ValueFault.{ValueFault}
@@ -79,6 +79,17 @@ sender_in names body last = or_last (find_participant names (value_in (codes "49
 abbrev pub is_logon : List ℕ → Bool
 is_logon body = bytes_eq (value_in (codes "35=") body) (codes "A")
 
+abbrev pub is_repeat : List ℕ → Bool
+is_repeat body = bytes_eq (value_in (codes "43=") body) (codes "Y")
+
+abbrev pub is_reset : List ℕ → Bool
+is_reset body = bytes_eq (value_in (codes "35=") body) (codes "4")
+
+-- the first frame of a session: a Logon with number 1 or without, or another with number 1 that is no repeat and no
+-- SequenceReset
+abbrev pub is_first : List ℕ → Bool
+is_first body = (is_logon body && nat_lt (number_in body) 2) || (number_in body == 1 && (not (is_repeat body) && not (is_reset body)))
+
 -- a frame that is assumed
 abbrev pub assumed : (who moment : ℕ) → Bool → List ℕ → Item
 assumed who moment connects body =
@@ -99,11 +110,11 @@ abbrev pub reset_body : ParticipantFile → (who moment number : ℕ) → List �
 reset_body names who moment number =
     header names who moment (codes "35=4") (1 ∷ codes "34=2") ++ joined ((1 ∷ codes "36=") ∷ decimal number ∷ (1 ∷ []) ∷ [])
 
--- what brings a session to its first frame: a Logon, unless that frame is one with number 1 or without; and a
--- SequenceReset, unless the frame has the next number
+-- what brings a session to the first frame that a log has of it: nothing where that is the session's first; else a
+-- Logon, and a SequenceReset unless the frame has the next number
 abbrev pub session_items : ParticipantFile → (who moment : ℕ) → List ℕ → List Item
 session_items names who moment body =
-    if is_logon body && nat_lt (number_in body) 2
+    if is_first body
     then []
     else (
     assumed who moment true (logon_body names who moment)
@@ -124,14 +135,18 @@ abbrev pub unheard_item : Source → State → (number place : ℕ) → (text bo
 unheard_item from s number place text body =
     record { source = from; number = number; place = place; who = s.who; moment = s.moment; connects = false; text = text; body = body }
 
-abbrev pub came_item : (who moment number place : ℕ) → (text body : List ℕ) → Item
-came_item who moment number place text body =
-    record { source = source.Participant; number = number; place = place; who = who; moment = moment; connects = is_logon body; text = text; body = body }
+-- a frame comes on a new connection: a Logon, or the first frame of a session
+abbrev pub is_new : List ℕ → ℕ → List ℕ → Bool
+is_new begun who body = is_logon body || (not (has_begun begun who) && is_first body)
+
+abbrev pub came_item : Bool → (who moment number place : ℕ) → (text body : List ℕ) → Item
+came_item connects who moment number place text body =
+    record { source = source.Participant; number = number; place = place; who = who; moment = moment; connects = connects; text = text; body = body }
 
 abbrev pub came_items : ParticipantFile → State → (number place : ℕ) → (text body : List ℕ) → List Item
 came_items names s number place text body =
     begin_items names s.begun (sender_in names body s.who) (moment_in body s.moment) body
-    ++ came_item (sender_in names body s.who) (moment_in body s.moment) number place text body ∷ []
+    ++ came_item (is_new s.begun (sender_in names body s.who) body) (sender_in names body s.who) (moment_in body s.moment) number place text body ∷ []
 
 abbrev pub came_after : ParticipantFile → State → List ℕ → State
 came_after names s body =

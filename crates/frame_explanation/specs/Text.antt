@@ -39,7 +39,7 @@ counts count found = joined (
     ∷ decimal (count - bytes_found found)
     ∷ codes " of "
     ∷ decimal count
-    ∷ codes "\nanswered by a new venue with an empty book; each session expects the number of its first frame; each moment is the frame's own (52), or the last; one before the last counts as the last\n"
+    ∷ codes "\nanswered by a new venue with an empty book; each session expects the number of its first frame, 2 where that is a repeat of 1 or has none; each moment is the frame's own (52), or the last; one before the last counts as the last\n"
     ∷ [])
 
 abbrev pub head : ℕ → List Found → List ℕ
@@ -165,7 +165,7 @@ heading names listed = heading_line listed.number listed.place (name_of names li
 
 -- a frame whose 49 names nobody
 abbrev pub stranger_if : Option ℕ → List ℕ
-stranger_if None = joined (codes "    49 (SenderCompID) names no participant of the file\n" ∷ [])
+stranger_if None = joined (codes "    49 (SenderCompID) names no participant of the file: taken as sent by the one above\n" ∷ [])
 stranger_if (Some who) = []
 
 abbrev pub stranger : ParticipantFile → List ℕ → List ℕ

@@ -7,7 +7,7 @@ ghost use Rattle.frame_explanation.specs.Broken as broken;
 
 use crate::frames::{OPENING, body_length, checksum, has_soh, three_digits, trailer};
 use crate::parts::{Part, append_parts};
-use crate::pieces::{SOH, begins, first_value, piece, rest_of};
+use fix_pieces::{SOH, begins, first_value, piece, rest_of};
 use itoa::Buffer;
 use message_words::readable_text;
 use std::alloc::{AllocError, Global};

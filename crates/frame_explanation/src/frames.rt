@@ -5,8 +5,8 @@ ghost use Rattle.std.specs.List.{list_any};
 ghost use Rattle.fix_frame.specs.Frame.{three_digits, trailer};
 ghost use Rattle.frame_explanation.specs.Frames as frames;
 
-use crate::pieces::{SOH, begins, piece};
 use fix_fields::read_integer;
+use fix_pieces::{SOH, begins, piece};
 use std::alloc::{AllocError, Global};
 
 /// The bytes with which every frame begins.

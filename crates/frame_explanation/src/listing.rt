@@ -108,10 +108,38 @@ fn is_logon(body: &[u8]) -> bool
     value_in(b"35=", body) == b"A".as_slice()
 }
 
+fn is_repeat(body: &[u8]) -> bool
+    ensures { result ≡ listing.is_repeat body.now }
+{
+    value_in(b"43=", body) == b"Y".as_slice()
+}
+
+fn is_reset(body: &[u8]) -> bool
+    ensures { result ≡ listing.is_reset body.now }
+{
+    value_in(b"35=", body) == b"4".as_slice()
+}
+
+/// Whether a frame is the first of a session: a Logon with number 1 or without, or another with number 1 that is no
+/// repeat and no SequenceReset.
+fn is_first(body: &[u8]) -> bool
+    ensures { result ≡ listing.is_first body.now }
+{
+    let number = number_in(body);
+    (is_logon(body) && number < 2) || (number == 1 && !is_repeat(body) && !is_reset(body))
+}
+
 fn has_begun(begun: &[Who], who: Who) -> bool
     ensures { result ≡ listing.has_begun begun.now who }
 {
     begun.iter().any(|other| other.place() == who.place())
+}
+
+/// Whether a frame comes on a new connection.
+fn is_new(begun: &[Who], who: Who, body: &[u8]) -> bool
+    ensures { result ≡ listing.is_new begun.now who body.now }
+{
+    is_logon(body) || (!has_begun(begun, who) && is_first(body))
 }
 
 fn append_item(listed: &mut Vec<LogItem>, one: LogItem) -> Result<(), AllocError>
@@ -211,8 +239,8 @@ fn assume_number(
     assume(alloc, listed, hearing, false, &body)
 }
 
-/// Appends what brings a session to the number of its first frame: a Logon, unless that is one with number 1, and a
-/// SequenceReset, where the number is not the next one.
+/// Appends what brings a session to the first frame that the log has of it, unless that is the session's first: a
+/// Logon, and a SequenceReset where the number is not the next one.
 fn assume_session(
     alloc: Global,
     listed: &mut Vec<LogItem>,
@@ -222,11 +250,11 @@ fn assume_session(
 ) -> Result<(), AllocError>
     ensures { OnOk result (map listing.seen listed.new.items ≡ map listing.seen listed.old.items ++ listing.session_items participants.now hearing.now.who hearing.now.moment body.now) }
 {
-    let number = number_in(body);
-    if is_logon(body) && number < 2 {
+    if is_first(body) {
         return Ok(());
     }
     assume_logon(alloc, listed, participants, hearing)?;
+    let number = number_in(body);
     if number < 3 {
         return Ok(());
     }
@@ -279,11 +307,11 @@ fn list_unheard(
 fn append_came(
     listed: &mut Vec<LogItem>,
     hearing: &Hearing,
+    connects: bool,
     part: LogPart,
 ) -> Result<(), AllocError>
-    ensures { OnOk result (map listing.seen listed.new.items ≡ map listing.seen listed.old.items ++ listing.came_item hearing.now.who hearing.now.moment part.number part.place part.text.items part.body.items ∷ []) }
+    ensures { OnOk result (map listing.seen listed.new.items ≡ map listing.seen listed.old.items ++ listing.came_item connects hearing.now.who hearing.now.moment part.number part.place part.text.items part.body.items ∷ []) }
 {
-    let connects = is_logon(&part.body);
     append_item(
         listed,
         LogItem {
@@ -315,6 +343,8 @@ fn list_came(
         who: sender_in(participants, body, stand.who),
         moment: moment_in(body, stand.moment),
     };
+    let begun = stand.begun.as_slice();
+    let connects = is_new(begun, hearing.who, body);
     begin_session(
         alloc,
         listed,
@@ -325,7 +355,7 @@ fn list_came(
     )?;
     stand.who = hearing.who;
     stand.moment = hearing.moment;
-    append_came(listed, &hearing, part)
+    append_came(listed, &hearing, connects, part)
 }
 
 fn is_of_venue(participants: &Participants, body: &[u8]) -> bool
@@ -384,7 +414,7 @@ pub(crate) fn list_log(
     let mut listed = Vec::new(alloc);
     let mut stand = Stand {
         who: Who::of(0),
-        moment: epoch(),
+        moment: Moment::EPOCH,
         begun: Vec::new(alloc),
     };
     let mut number = 0u64;
@@ -394,14 +424,4 @@ pub(crate) fn list_log(
         list_part(alloc, &mut listed, participants, &mut stand, part)?;
     }
     Ok(listed)
-}
-
-/// 1970 begins.
-fn epoch() -> Moment
-    ensures { result ≡ 0 }
-{
-    match Moment::of_ms(0) {
-        Some(moment) => moment,
-        None => unreachable!(),
-    }
 }
