@@ -1,4 +1,3 @@
-pub mod FirstPiece
 pub mod Integers
 pub mod Texts
 pub mod Scan

@@ -1,8 +1,9 @@
 -- What the body of a frame says.
-use Rattle.std.specs.Prelude.{ℕ, ◌+◌, ◌==◌, ◌&&◌, ◌||◌, not, nat_le, Bool, true, List, [], ◌∷◌, ◌++◌, Option, Some, None, if◌then◌else◌, codes}
+use Rattle.std.specs.Prelude.{ℕ, ◌+◌, ◌==◌, ◌&&◌, ◌||◌, not, nat_le, Bool, true, false, List, [], ◌∷◌, ◌++◌, Option, Some, None, bytes_eq, if◌then◌else◌, codes}
 use Rattle.fix_fields.specs.Forms.{integer_in}
 use Rattle.desk_log.specs.Frames.{number_of}
-use Rattle.desk_log.specs.Pieces.{begins, first_value, is_piece}
+use Rattle.fix_pieces.specs.Pieces.{begins, first_value}
+use Rattle.desk_log.specs.Pieces.{is_piece}
 
 abbrev pub number_if : ℕ → ℕ → Option (List ℕ) → Option ℕ
 number_if low high None = None
@@ -19,11 +20,19 @@ is_between from to body = is_piece (codes "49=") from body && is_piece (codes "5
 abbrev pub is_kind : List ℕ → List ℕ → Bool
 is_kind kind body = is_piece (codes "35=") kind body
 
--- the message is the session's: Heartbeat, TestRequest, ResendRequest, Reject, SequenceReset, Logout or Logon
+-- the session's kinds: Heartbeat, TestRequest, ResendRequest, Reject, SequenceReset, Logout and Logon
+abbrev pub is_session_kind : List ℕ → Bool
+is_session_kind kind =
+    bytes_eq kind (codes "0") || (bytes_eq kind (codes "1") || (bytes_eq kind (codes "2") || (bytes_eq kind (codes "3")
+    || (bytes_eq kind (codes "4") || (bytes_eq kind (codes "5") || bytes_eq kind (codes "A"))))))
+
+abbrev pub is_session_value : Option (List ℕ) → Bool
+is_session_value None = false
+is_session_value (Some kind) = is_session_kind kind
+
+-- the message is the session's
 abbrev pub is_session : List ℕ → Bool
-is_session body =
-    is_kind (codes "0") body || (is_kind (codes "1") body || (is_kind (codes "2") body || (is_kind (codes "3") body
-    || (is_kind (codes "4") body || (is_kind (codes "5") body || is_kind (codes "A") body)))))
+is_session body = is_session_value (first_value (codes "35=") body)
 
 -- A Logon that does not go on behind the greatest number so far, or that says so (141=Y): both sides number from 1
 -- again, as a venue that was restarted does.

@@ -10,7 +10,7 @@ use Rattle.desk_log.specs.declared.frames.Look.{Look}
 use Rattle.desk_log.specs.declared.frames.Look.TheVariants.{Frame, Broken, Nothing}
 use Rattle.desk_log.specs.declared.frames.FrameFault.TheVariants.{Length, Checksum}
 use Rattle.desk_log.specs.declared.frames.BrokenFrame.{BrokenFrame}
-use Rattle.desk_log.specs.Pieces.{begins}
+use Rattle.fix_pieces.specs.Pieces.{begins}
 
 -- `8=FIXT.1.1|9=`, with which every frame begins
 abbrev pub opening : List ℕ

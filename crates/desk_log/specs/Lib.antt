@@ -1,5 +1,6 @@
 pub mod Pieces
 pub mod Frames
+pub mod Scan
 pub mod Bodies
 pub mod Numbered
 pub mod Once

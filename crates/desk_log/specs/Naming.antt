@@ -1,6 +1,6 @@
 -- What a message is, in a few words, from its text: its type, and the identifier of what it is about.
 use Rattle.std.specs.Prelude.{ℕ, List, [], Option, Some, None, bytes_eq, if◌then◌else◌, codes}
-use Rattle.desk_log.specs.Pieces.{first_value}
+use Rattle.fix_pieces.specs.Pieces.{first_value}
 
 abbrev pub value_or : List ℕ → Option (List ℕ) → List ℕ
 value_or other None = other

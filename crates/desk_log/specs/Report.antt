@@ -36,7 +36,7 @@ use Rattle.desk_log.specs.declared.numbered.Place.{Place}
 use Rattle.desk_log.specs.declared.once.Conflict.{Conflict}
 use Rattle.desk_log.specs.declared.owed.Owed.{Owed}
 use Rattle.desk_log.specs.declared.reading.Reading.{Reading}
-use Rattle.desk_log.specs.Frames.{first_broken, line_of, outside}
+use Rattle.desk_log.specs.Frames.{line_of}
 use Rattle.desk_log.specs.Comparing.{is_owed}
 use Rattle.desk_log.specs.Missing.{gaps_between, is_era, place_from}
 use Rattle.desk_log.specs.Naming.{field, kind_words, named_of}
@@ -207,11 +207,11 @@ abbrev pub messages_said : (logged once passed : ℕ) → List ℕ
 messages_said logged once passed =
     joined (codes "; " ∷ decimal logged ∷ codes " application messages, " ∷ decimal once ∷ codes " without the repeats; " ∷ decimal passed ∷ codes " bytes in no frame\n" ∷ [])
 
-abbrev pub counts_line : (from to log : List ℕ) → Reading → List ℕ
-counts_line from to log r = frames_said from to r.bodies (length r.frames.items) ++ messages_said (length r.logged.items) (length r.once.items) (outside log)
+abbrev pub counts_line : (from to : List ℕ) → Reading → List ℕ
+counts_line from to r = frames_said from to r.bodies (length r.frames.items) ++ messages_said (length r.logged.items) (length r.once.items) r.outside
 
 -- the comparison, and below it what was read
 abbrev pub report : (from to log : List ℕ) → Compared → List Owed → Reading → List ℕ
 report from to log c owed r =
     said c.comparison r.conflict c.count log to owed r.frames.items r.once.items
-    ++ (counts_line from to log r ++ broken_line log (first_broken log))
+    ++ (counts_line from to r ++ broken_line log r.broken)

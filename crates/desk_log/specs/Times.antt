@@ -20,7 +20,7 @@ use Rattle.desk_log.specs.declared.reading.Reading.{Reading}
 use Rattle.desk_log.specs.declared.times.Times.{Times}
 use Rattle.desk_log.specs.Numbered.{Logged, body_at}
 use Rattle.desk_log.specs.Parts.{joined}
-use Rattle.desk_log.specs.Pieces.{first_value}
+use Rattle.fix_pieces.specs.Pieces.{first_value}
 
 -- SendingTime (52), where it can be read
 abbrev pub moment_of : Result ℕ ValueFault → Option ℕ

@@ -1,10 +1,11 @@
 //! What the body of a frame says.
 
-ghost use Rattle.std.specs.Prelude.{◌≡◌, ◌≤◌, IfOk, OnOk, ◌++◌, option_map, [], true};
+ghost use Rattle.std.specs.Prelude.{◌≡◌, ◌<◌, ◌≤◌, IfOk, ◌++◌, length, option_map};
 ghost use Rattle.desk_log.specs.Bodies as bodies;
 
-use crate::pieces::{begins, first_value, is_piece};
+use crate::pieces::is_piece;
 use fix_fields::read_integer;
+use fix_pieces::{begins, first_value, rest_of};
 use std::alloc::{AllocError, Global};
 
 /// The greatest sequence number, and the number that can follow it.
@@ -45,17 +46,26 @@ fn is_kind(kind: &[u8], body: &[u8]) -> bool
     is_piece(b"35=", kind, body)
 }
 
+fn is_session_kind(kind: &[u8]) -> bool
+    ensures { result ≡ bodies.is_session_kind kind.now }
+{
+    kind == b"0".as_slice()
+        || kind == b"1".as_slice()
+        || kind == b"2".as_slice()
+        || kind == b"3".as_slice()
+        || kind == b"4".as_slice()
+        || kind == b"5".as_slice()
+        || kind == b"A".as_slice()
+}
+
 /// Whether the message is the session's.
 pub(crate) fn is_session(body: &[u8]) -> bool
     ensures { result ≡ bodies.is_session body.now }
 {
-    is_kind(b"0", body)
-        || is_kind(b"1", body)
-        || is_kind(b"2", body)
-        || is_kind(b"3", body)
-        || is_kind(b"4", body)
-        || is_kind(b"5", body)
-        || is_kind(b"A", body)
+    match first_value(b"35=", body) {
+        Some(kind) => is_session_kind(kind),
+        None => false,
+    }
 }
 
 /// Whether the message is a Logon that does not go on behind the greatest number so far, or that has 141=Y.
@@ -93,34 +103,28 @@ fn is_header(piece: &[u8]) -> bool
         || begins(b"1128=", piece)
 }
 
-fn keeps(starts: bool, kept: bool, text: &[u8]) -> bool
-    ensures { result ≡ bodies.keeps starts kept text.now }
+/// Appends the first piece of a body, with its SOH, unless it is a field of the header. Returns the pieces behind it.
+fn append_piece<'a>(text: &mut Vec<u8>, body: &'a [u8]) -> Result<&'a [u8], AllocError>
+    requires { 0 < length body.now }
+    ensures text { IfOk result (λ rest. text.new.items ++ bodies.text_of rest.now ≡ text.old.items ++ bodies.text_of body.now) }
+    ensures fewer { IfOk result (λ rest. length rest.now < length body.now) }
 {
-    if starts { !is_header(text) } else { kept }
-}
-
-fn append_if(text: &mut Vec<u8>, kept: bool, byte: u8) -> Result<(), AllocError>
-    ensures { OnOk result (text.new.items ≡ text.old.items ++ bodies.byte_if kept byte) }
-{
-    if kept {
-        text.push(byte)?;
+    let rest = rest_of(body);
+    if is_header(body) {
+        return Ok(rest);
     }
-    Ok(())
+    text.extend_from_slice(&body[..body.len() - rest.len()])?;
+    Ok(rest)
 }
 
 /// The body without the fields of the header.
-#[tactic(auto, using(crate::proofs::Texts::text_more))]
 pub(crate) fn text_of(alloc: Global, body: &[u8]) -> Result<Vec<u8>, AllocError>
     ensures { IfOk result (λ text. text.items ≡ bodies.text_of body.now) }
 {
     let mut text = Vec::with_capacity(alloc, body.len())?;
-    let mut starts = true;
-    let mut kept = true;
-    for at in 0..body.len() {
-        let byte = body[at];
-        kept = keeps(starts, kept, &body[at..]);
-        append_if(&mut text, kept, byte)?;
-        starts = byte == 1;
+    let mut rest = body;
+    while !rest.is_empty() {
+        rest = append_piece(&mut text, rest)?;
     }
     Ok(text)
 }

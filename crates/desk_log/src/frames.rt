@@ -1,4 +1,4 @@
-//! The frames of a log.
+//! What begins as a frame.
 
 ghost use Rattle.std.specs.Prelude.{◌≡◌, ◌%◌, ◌+◌, ◌-◌, ◌<◌, ◌≤◌, ◌++◌, drop, IfOk, IfSome, true, length, sum, ◌==◌, option_map};
 ghost use Rattle.std.specs.List.{count_by, list_any};
@@ -6,8 +6,8 @@ ghost use Rattle.fix_fields.specs.Cut.{before};
 ghost use Rattle.fix_frame.specs.Frame.{trailer};
 ghost use Rattle.desk_log.specs.Frames as frames;
 
-use crate::pieces::{begins, piece};
 use fix_fields::read_integer;
+use fix_pieces::{begins, piece};
 use std::alloc::{AllocError, Global};
 
 /// The byte that ends each field.
@@ -25,7 +25,7 @@ const GREATEST_BODY: u64 = 999_999;
 const LEAST_BODY: u64 = 4;
 
 /// The length of CheckSum, in bytes.
-const TRAILER_LENGTH: usize = 7;
+pub(crate) const TRAILER_LENGTH: usize = 7;
 
 /// Where a body stands in a log.
 #[derive(Clone, Copy)]
@@ -154,7 +154,7 @@ fn look_behind(bytes: &[u8]) -> Look
 }
 
 /// What begins these bytes.
-fn look_at(bytes: &[u8]) -> Look
+pub(crate) fn look_at(bytes: &[u8]) -> Look
     ensures look { result ≡ frames.look bytes.now }
     ensures within { frames.IsWithin bytes.now result }
 {
@@ -163,105 +163,6 @@ fn look_at(bytes: &[u8]) -> Look
     } else {
         Look::Nothing
     }
-}
-
-/// Takes the byte at a place: one of the frame before, which ends at `next`; or the first of a frame, whose body is
-/// appended; or one of none. Returns where the frame ends.
-fn take_body(
-    bodies: &mut Vec<Span>,
-    at: usize,
-    next: usize,
-    log: &[u8],
-) -> Result<usize, AllocError>
-    requires { at < length log.now }
-    ensures { IfOk result (λ later. bodies.new.items ++ frames.bodies_from (at + 1) (later - (at + 1)) (drop (at + 1) log.now) ≡ bodies.old.items ++ frames.bodies_from at (next - at) (drop at log.now)) }
-{
-    if at < next {
-        return Ok(next);
-    }
-    match look_at(&log[at..]) {
-        Look::Frame(start, end) => {
-            bodies.push(Span {
-                start: at + start,
-                end: at + end,
-            })?;
-            Ok(at + end + TRAILER_LENGTH)
-        }
-        Look::Broken(_) => Ok(next),
-        Look::Nothing => Ok(next),
-    }
-}
-
-/// The bodies of the frames of a log.
-pub(crate) fn bodies_in(alloc: Global, log: &[u8]) -> Result<Vec<Span>, AllocError>
-    ensures { IfOk result (λ bodies. bodies.items ≡ frames.bodies_in log.now) }
-{
-    let mut bodies = Vec::new(alloc);
-    let mut next = 0;
-    for at in 0..log.len() {
-        next = take_body(&mut bodies, at, next, log)?;
-    }
-    Ok(bodies)
-}
-
-/// How many bytes at a place belong to no frame, 0 or 1, and where the frame ends that is there.
-fn outside_at(at: usize, next: usize, log: &[u8]) -> (usize, usize)
-    requires { at < length log.now }
-    ensures count { result.0 + frames.outside_from (result.1 - (at + 1)) (drop (at + 1) log.now) ≡ frames.outside_from (next - at) (drop at log.now) }
-    ensures bound { result.0 ≤ 1 }
-{
-    if at < next {
-        return (0, next);
-    }
-    match look_at(&log[at..]) {
-        Look::Frame(_, end) => (0, at + end + TRAILER_LENGTH),
-        Look::Broken(_) => (1, next),
-        Look::Nothing => (1, next),
-    }
-}
-
-/// The number of bytes that belong to no frame.
-pub(crate) fn outside(log: &[u8]) -> usize
-    ensures { result ≡ frames.outside log.now }
-{
-    let mut count = 0;
-    let mut next = 0;
-    for at in 0..log.len() {
-        let (more, later) = outside_at(at, next, log);
-        count += more;
-        next = later;
-    }
-    count
-}
-
-/// What begins at a place as a frame and is none, and where the frame ends that is there.
-fn broken_at(at: usize, next: usize, log: &[u8]) -> (Option<BrokenFrame>, usize)
-    requires { at < length log.now }
-    ensures { frames.broken_from at (next - at) (drop at log.now) ≡ frames.either result.0 (frames.broken_from (at + 1) (result.1 - (at + 1)) (drop (at + 1) log.now)) }
-{
-    if at < next {
-        return (None, next);
-    }
-    match look_at(&log[at..]) {
-        Look::Frame(_, end) => (None, at + end + TRAILER_LENGTH),
-        Look::Broken(fault) => (Some(BrokenFrame { at, fault }), next),
-        Look::Nothing => (None, next),
-    }
-}
-
-/// The first place at which something begins as a frame and is none, and why.
-pub(crate) fn first_broken(log: &[u8]) -> Option<BrokenFrame>
-    ensures { result ≡ frames.first_broken log.now }
-{
-    let mut next = 0;
-    for at in 0..log.len() {
-        let (found, later) = broken_at(at, next, log);
-        if let Some(broken) = found {
-            return Some(broken);
-        }
-        next = later;
-    }
-    None
 }
 
 /// The line of a place, from 1.

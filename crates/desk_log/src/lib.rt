@@ -17,6 +17,7 @@ mod pieces;
 mod printing;
 mod reading;
 mod report;
+mod scanning;
 mod times;
 
 pub use comparing::Comparison;

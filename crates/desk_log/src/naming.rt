@@ -3,7 +3,7 @@
 ghost use Rattle.std.specs.Prelude.{◌≡◌, bytes_eq, codes};
 ghost use Rattle.desk_log.specs.Naming as specs;
 
-use crate::pieces::first_value;
+use fix_pieces::first_value;
 
 fn field<'a>(prefix: &[u8], text: &'a [u8]) -> &'a [u8]
     ensures { result.now ≡ specs.field prefix.now text.now }

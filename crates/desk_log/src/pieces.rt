@@ -1,57 +1,13 @@
-//! The pieces of a body, between its SOHs.
+//! The value of a piece of a body.
 
-ghost use Rattle.std.specs.Prelude.{◌≡◌, ◌<◌, ◌≤◌, length, MatchOption, None, Some, option_map};
-ghost use Rattle.fix_fields.specs.Cut.{before, behind};
-ghost use Rattle.desk_log.specs.Pieces as pieces;
+ghost use Rattle.std.specs.Prelude.{◌≡◌};
+ghost use Rattle.desk_log.specs.Pieces.{is_piece};
 
-use memchr::memchr;
-
-const SOH: u8 = 1;
-
-/// The text up to the first SOH.
-pub(crate) fn piece(text: &[u8]) -> &[u8]
-    ensures { result.now ≡ before 1 text.now }
-{
-    match memchr(SOH, text) {
-        Some(place) => &text[..place],
-        None => text,
-    }
-}
-
-/// The text behind the first SOH.
-fn rest_of(text: &[u8]) -> &[u8]
-    ensures rest { result.now ≡ behind 1 text.now }
-    ensures fewer { 0 < length text.now → length result.now < length text.now }
-{
-    match memchr(SOH, text) {
-        Some(place) => &text[place + 1..],
-        None => &[],
-    }
-}
-
-pub(crate) fn begins(prefix: &[u8], text: &[u8]) -> bool
-    ensures { result ≡ pieces.begins prefix.now text.now }
-{
-    prefix.len() <= text.len() && &text[..prefix.len()] == prefix
-}
-
-/// The text behind the prefix in the first piece that begins with it.
-pub(crate) fn first_value<'a>(prefix: &[u8], body: &'a [u8]) -> Option<&'a [u8]>
-    ensures { MatchOption result (pieces.first_value prefix.now body.now ≡ None) (λ value. pieces.first_value prefix.now body.now ≡ Some value.now) }
-{
-    let mut rest = body;
-    while !rest.is_empty() {
-        if begins(prefix, rest) {
-            return Some(piece(&rest[prefix.len()..]));
-        }
-        rest = rest_of(rest);
-    }
-    None
-}
+use fix_pieces::first_value;
 
 /// Whether the first piece with this prefix has this value.
 pub(crate) fn is_piece(prefix: &[u8], value: &[u8], body: &[u8]) -> bool
-    ensures { result ≡ pieces.is_piece prefix.now value.now body.now }
+    ensures { result ≡ is_piece prefix.now value.now body.now }
 {
     match first_value(prefix, body) {
         Some(found) => found == value,

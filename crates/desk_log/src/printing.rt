@@ -11,14 +11,14 @@ ghost use Rattle.desk_log.specs.declared.comparing.Comparison.TheVariants as com
 ghost use Rattle.desk_log.specs.declared.fault.LogFault.TheVariants.{Output};
 ghost use Rattle.desk_log.specs.Comparing.{agreed as agreed_count, comparison_of as comparison_as};
 ghost use Rattle.desk_log.specs.Compares.{Agrees, Compares, HasNone, IsRefused};
-ghost use Rattle.desk_log.specs.Frames.{first_broken as first_broken_of, separated};
+ghost use Rattle.desk_log.specs.Frames.{separated};
 ghost use Rattle.desk_log.specs.Reading.{IsReading};
 ghost use Rattle.desk_log.specs.Report as specs;
 ghost use Rattle.desk_log.specs.Times.{times_text};
 
 use crate::comparing::{Compared, Comparison, agreed, comparison_of};
 use crate::fault::{LogFault, NoLog};
-use crate::frames::{first_broken, has_soh, line_of, with_soh};
+use crate::frames::{has_soh, line_of, with_soh};
 use crate::numbered::Ends;
 use crate::owed::{Owed, owed_of};
 use crate::reading::{Reading, read};
@@ -69,9 +69,9 @@ fn read_log(
 /// What is in a file that is no log of the participant.
 fn found_in(log: &[u8], reading: &Reading) -> NoLog
     ensures frames { result.frames ≡ reading.now.bodies }
-    ensures broken { result.broken ≡ specs.broken_of log.now (first_broken_of log.now) }
+    ensures broken { result.broken ≡ specs.broken_of log.now reading.now.broken }
 {
-    let broken = match first_broken(log) {
+    let broken = match &reading.broken {
         Some(broken) => Some((line_of(broken.at, log), broken.fault)),
         None => None,
     };

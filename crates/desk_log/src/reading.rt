@@ -3,9 +3,10 @@
 ghost use Rattle.std.specs.Prelude.{◌≡◌, IfOk, length};
 ghost use Rattle.desk_log.specs.Reading as specs;
 
-use crate::frames::{Span, bodies_in};
+use crate::frames::{BrokenFrame, Span};
 use crate::numbered::{Ends, Numbered, Place, logged_in, numbered_in};
 use crate::once::{Conflict, conflict_in, first_in, listed};
+use crate::scanning::scan_log;
 use std::alloc::{AllocError, Global};
 
 /// What was read of a log.
@@ -13,6 +14,10 @@ use std::alloc::{AllocError, Global};
 pub struct Reading {
     /// The number of frames, of both directions.
     pub bodies: usize,
+    /// The number of bytes that belong to no frame.
+    pub outside: usize,
+    /// The first place at which something begins as a frame and is none.
+    pub broken: Option<BrokenFrame>,
     /// The frames from the one to the other.
     pub frames: Vec<Numbered>,
     /// The application messages among them.
@@ -27,14 +32,16 @@ pub struct Reading {
 pub(crate) fn read(alloc: Global, ends: &Ends, log: &[u8]) -> Result<Reading, AllocError>
     ensures { IfOk result (λ reading. specs.IsReading ends.now.from.now ends.now.to.now log.now reading) }
 {
-    let bodies = bodies_in(alloc, log)?;
-    let frames = numbered_in(alloc, ends, log, &bodies)?;
+    let found = scan_log(alloc, log)?;
+    let frames = numbered_in(alloc, ends, log, &found.bodies)?;
     let logged = logged_in(alloc, &frames)?;
     let kept = first_in(alloc, &logged)?;
     let once = listed(alloc, &kept)?;
     let conflict = conflict_in(alloc, log, &kept, &logged)?;
     Ok(Reading {
-        bodies: bodies.len(),
+        bodies: found.bodies.len(),
+        outside: found.outside,
+        broken: found.broken,
         frames,
         logged,
         once,

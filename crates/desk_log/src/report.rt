@@ -6,7 +6,7 @@ ghost use Rattle.desk_log.specs.Numbered.{text_at};
 ghost use Rattle.desk_log.specs.Report as specs;
 
 use crate::comparing::{Compared, Comparison};
-use crate::frames::{BrokenFrame, FrameFault, Span, first_broken, line_of, outside};
+use crate::frames::{BrokenFrame, FrameFault, Span, line_of};
 use crate::gap::{append_gaps, message_at};
 use crate::numbered::{Ends, Place, text_at};
 use crate::once::Conflict;
@@ -487,19 +487,14 @@ fn append_messages(
     )
 }
 
-fn append_counts(
-    out: &mut Vec<u8>,
-    ends: &Ends,
-    log: &[u8],
-    reading: &Reading,
-) -> Result<(), AllocError>
-    ensures { OnOk result (out.new.items ≡ out.old.items ++ specs.counts_line ends.now.from.now ends.now.to.now log.now reading.now) }
+fn append_counts(out: &mut Vec<u8>, ends: &Ends, reading: &Reading) -> Result<(), AllocError>
+    ensures { OnOk result (out.new.items ≡ out.old.items ++ specs.counts_line ends.now.from.now ends.now.to.now reading.now) }
 {
     let frames = reading.frames.len();
     let logged = reading.logged.len();
     let once = reading.once.len();
     append_frames(out, ends, reading.bodies, frames)?;
-    append_messages(out, logged, once, outside(log))
+    append_messages(out, logged, once, reading.outside)
 }
 
 /// What is printed of a comparison.
@@ -515,7 +510,7 @@ pub(crate) fn report(
 {
     let mut text = Vec::new(alloc);
     append_said(alloc, &mut text, compared, log, ends.to, owed, reading)?;
-    append_counts(&mut text, ends, log, reading)?;
-    append_broken(&mut text, log, &first_broken(log))?;
+    append_counts(&mut text, ends, reading)?;
+    append_broken(&mut text, log, &reading.broken)?;
     Ok(text)
 }

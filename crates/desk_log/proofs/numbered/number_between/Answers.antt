@@ -1,6 +1,6 @@
 use Rattle.std.proofs.Common.{ℕ, ◌≤◌, Option, sym, subst}
 use Rattle.std.specs.Prelude.{IfSome, codes}
-use Rattle.desk_log.specs.Pieces.{first_value}
+use Rattle.fix_pieces.specs.Pieces.{first_value}
 use Rattle.desk_log.proofs.Integers.{number_bound}
 use Rattle.desk_log.proofs.numbered.number_between.Goals as goal
 

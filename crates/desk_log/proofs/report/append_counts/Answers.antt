@@ -12,10 +12,9 @@ returns c =
     let logged : c.len-logged.result ≡ length r.logged.items = omega (arith, c.len-logged.ensures, r.logged.ok.0) in
     let once : c.len-once.result ≡ length r.once.items = omega (arith, c.len-once.ensures, r.once.ok.0) in
     on_ok_weaker c.append_messages.result
-    (λ e. e ∙ ap (λ (l : List ℕ). l ++ messages_said c.len-logged.result c.len-once.result c.outside.result) c.in_ok-append_frames.ensures
-    ∙ append_assoc out (said c.len-frames.result) (messages_said c.len-logged.result c.len-once.result c.outside.result)
-    ∙ ap (λ (n : ℕ). out ++ (said n ++ messages_said c.len-logged.result c.len-once.result c.outside.result)) frames
-    ∙ ap (λ (n : ℕ). out ++ (said (length r.frames.items) ++ messages_said n c.len-once.result c.outside.result)) logged
-    ∙ ap (λ (n : ℕ). out ++ (said (length r.frames.items) ++ messages_said (length r.logged.items) n c.outside.result)) once
-    ∙ ap (λ (n : ℕ). out ++ (said (length r.frames.items) ++ messages_said (length r.logged.items) (length r.once.items) n)) c.outside.ensures)
+    (λ e. e ∙ ap (λ (l : List ℕ). l ++ messages_said c.len-logged.result c.len-once.result r.outside) c.in_ok-append_frames.ensures
+    ∙ append_assoc out (said c.len-frames.result) (messages_said c.len-logged.result c.len-once.result r.outside)
+    ∙ ap (λ (n : ℕ). out ++ (said n ++ messages_said c.len-logged.result c.len-once.result r.outside)) frames
+    ∙ ap (λ (n : ℕ). out ++ (said (length r.frames.items) ++ messages_said n c.len-once.result r.outside)) logged
+    ∙ ap (λ (n : ℕ). out ++ (said (length r.frames.items) ++ messages_said (length r.logged.items) n r.outside)) once)
     c.append_messages.ensures
