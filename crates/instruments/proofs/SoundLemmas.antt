@@ -1,4 +1,4 @@
-use Rattle.std.proofs.Common.{◌≡◌, refl, sym, ap, ◌∙◌, ℕ, pos, nat_abs, int_lt, ◌^◌, Bool, true, false, not, ◌&&◌, nat_lt, nat_le, List, [], ◌∷◌, map, length, codes, Option, Some, None, is_none, Result, Ok, Err, IfOk, IfErr, IsUtf8, arith}
+use Rattle.std.proofs.Common.{◌≡◌, refl, sym, ap, ◌∙◌, ℕ, pos, nat_abs, int_lt, ◌^◌, Bool, true, false, not, ◌&&◌, nat_lt, nat_le, List, [], ◌∷◌, map, length, codes, Option, Some, None, is_none, Result, IsUtf8, arith}
 use Rattle.std.specs.List.{list_any, list_all}
 use Rattle.std.proofs.lemmas.Bool.{true≢false, and_parts, or_parts, not-false}
 use Rattle.std.proofs.lemmas.Bool.Decides.{nat_tests}
@@ -13,7 +13,7 @@ use Rattle.instruments.specs.declared.instruments.Instrument.{Instrument}
 use Rattle.instruments.specs.Symbols.{is_symbol}
 use Rattle.instruments.specs.Rows.{is_instrument, is_least, is_request_life, is_tick, most_instruments}
 use Rattle.instruments.specs.Numbers.{is_no_number, number_at, number_in, stated_or}
-use Rattle.instruments.specs.Reading.{IsFaultOf, Reads, Refuses, has_bad_value, has_too_many, instruments, is_bad_instrument, is_missing, read_of, row_of, rows, rows_of, usual_delay}
+use Rattle.instruments.specs.Reading.{IsFaultOf, Refuses, has_bad_value, has_too_many, instruments, is_bad_instrument, is_missing, read_of, row_of, rows, rows_of, usual_delay}
 
 -- A document without the first faults has the rows of instruments.
 
@@ -116,18 +116,10 @@ rows-read file xs s e = ap rows_of e ∙ sym s.read
 
 -- the reading of a document is that of its text
 
-pub Reads-ok : (text : List ℕ) (document : Members) (d : Data) (r : Result (List Instrument) FileFault) → d ≡ table document → IsUtf8 text → parse_document text ≡ Some document → IfOk r (λ rows. read_of d ≡ Ok rows) → IfOk r (λ rows. Reads text (Ok rows))
-Reads-ok text document d (Ok xs) same utf8 parsed h = (document, utf8, parsed, ap read_of (sym same) ∙ h)
-Reads-ok text document d (Err fault) same utf8 parsed h = tt
-
-Reads-err : (text : List ℕ) (document : Members) (d : Data) (fault : FileFault) → d ≡ table document → IsUtf8 text → parse_document text ≡ Some document → Refuses (read_of d) fault → IsFaultOf text fault
+pub Reads-err : (text : List ℕ) (document : Members) (d : Data) (fault : FileFault) → d ≡ table document → IsUtf8 text → parse_document text ≡ Some document → Refuses (read_of d) fault → IsFaultOf text fault
 Reads-err text document d NotToml same utf8 parsed h = absurd h
 Reads-err text document d NoMemory same utf8 parsed h = tt
 Reads-err text document d Missing same utf8 parsed h = (document, utf8, parsed, ap read_of (sym same) ∙ h)
 Reads-err text document d Twice same utf8 parsed h = (document, utf8, parsed, ap read_of (sym same) ∙ h)
 Reads-err text document d TooMany same utf8 parsed h = (document, utf8, parsed, ap read_of (sym same) ∙ h)
 Reads-err text document d BadValue same utf8 parsed h = (document, utf8, parsed, ap read_of (sym same) ∙ h)
-
-pub Reads-refused : (text : List ℕ) (document : Members) (d : Data) (r : Result (List Instrument) FileFault) → d ≡ table document → IsUtf8 text → parse_document text ≡ Some document → IfErr r (Refuses (read_of d)) → IfErr r (IsFaultOf text)
-Reads-refused text document d (Ok xs) same utf8 parsed h = tt
-Reads-refused text document d (Err fault) same utf8 parsed h = Reads-err text document d fault same utf8 parsed h

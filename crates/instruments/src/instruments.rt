@@ -1,7 +1,6 @@
 //! The instrument file as it is read.
 
-ghost use Rattle.std.specs.Prelude.{◌≡◌, ◌<◌, true, length, slice_get, Ok, Some, position, bytes_eq, IfOk, IfErr};
-ghost use Rattle.std.specs.List.{position_or_len};
+ghost use Rattle.std.specs.Prelude.{◌≡◌, ◌<◌, true, length, slice_get, Ok, Some, position, bytes_eq, IfOk, IfErr, IfSome};
 ghost use Rattle.instruments.specs.Reading.{IsFaultOf, Reads};
 ghost use Rattle.instruments.specs.Listing.{delay_of, is_off_tick, least_of, request_life_of, symbol_of, tick_of};
 ghost use Rattle.instruments.specs.Rows.{is_delay, is_instrument, is_instrument_file};
@@ -51,16 +50,12 @@ impl Model for Instruments {
     ghost invariant = { λ a. is_instrument_file a.rows.items ≡ true };
 }
 
-/// The first place of a symbol, or the number of rows where it is absent.
-fn place_of(rows: &[Instrument], symbol: &[u8]) -> usize
-    ensures { result ≡ position_or_len (λ row. bytes_eq symbol.now row.symbol) rows.now }
+/// The first place of a symbol.
+fn place_of(rows: &[Instrument], symbol: &[u8]) -> Option<usize>
+    ensures place { result ≡ position (λ row. bytes_eq symbol.now row.symbol) rows.now }
+    ensures within { IfSome result (λ place. place < length rows.now) }
 {
-    for (place, row) in rows.iter().enumerate() {
-        if row.symbol.is(symbol) {
-            return place;
-        }
-    }
-    rows.len()
+    rows.iter().position(|row| row.symbol.is(symbol))
 }
 
 impl Instruments {
@@ -108,11 +103,9 @@ impl Instruments {
     pub fn find(&self, symbol: &[u8]) -> Option<u32>
         ensures { result ≡ position (λ row. bytes_eq symbol.now row.symbol) self.now }
     {
-        let place = place_of(&self.rows, symbol);
-        if place < self.rows.len() {
-            Some(place as u32)
-        } else {
-            None
+        match place_of(&self.rows, symbol) {
+            Some(place) => Some(place as u32),
+            None => None,
         }
     }
 

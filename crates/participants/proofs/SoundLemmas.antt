@@ -1,4 +1,4 @@
-use Rattle.std.proofs.Common.{◌≡◌, refl, sym, ap, ◌∙◌, ℕ, Bool, true, false, not, ◌||◌, nat_lt, nat_le, List, [], ◌∷◌, map, length, codes, Some, is_none, bytes_eq, Result, Ok, Err, IfOk, IfErr, IsUtf8, arith}
+use Rattle.std.proofs.Common.{◌≡◌, refl, sym, ap, ◌∙◌, ℕ, Bool, true, false, not, ◌||◌, nat_lt, nat_le, List, [], ◌∷◌, map, length, codes, Some, is_none, bytes_eq, Result, IsUtf8, arith}
 use Rattle.std.specs.List.{list_any, list_all}
 use Rattle.std.proofs.lemmas.Bool.{true≢false, or_parts}
 use Rattle.std.proofs.lemmas.Bool.Decides.{nat_tests}
@@ -11,7 +11,7 @@ use Rattle.participants.specs.declared.fault.FileFault.TheVariants.{NotToml, Mis
 use Rattle.participants.specs.ParticipantFile.{ParticipantFile}
 use Rattle.participants.specs.Names.{is_name}
 use Rattle.participants.specs.Rows.{most_participants}
-use Rattle.participants.specs.Reading.{IsFaultOf, Reads, Refuses, has_bad_value, has_too_many, is_apart, is_bad_pair, is_bad_participant, is_missing, named, named_pairs, names, participants, read_of, related_pairs, rows_of, venue_name}
+use Rattle.participants.specs.Reading.{IsFaultOf, Refuses, has_bad_value, has_too_many, is_apart, is_bad_pair, is_bad_participant, is_missing, named, named_pairs, names, participants, read_of, related_pairs, rows_of, venue_name}
 use Rattle.participants.proofs.RowLemmas.{both}
 
 -- A document without the first faults has names where they are required.
@@ -109,11 +109,7 @@ rows-read file venue ns ps s v n p = ap (λ x. rows_of x ns ps) v ∙ (ap (λ x.
 
 -- the reading of a document is that of its text
 
-pub Reads-ok : (text : List ℕ) (document : Members) (d : Data) (r : Result ParticipantFile FileFault) → d ≡ table document → IsUtf8 text → parse_document text ≡ Some document → IfOk r (λ rows. read_of d ≡ Ok rows) → IfOk r (λ rows. Reads text (Ok rows))
-Reads-ok text document d (Ok rows) same utf8 parsed h = (document, utf8, parsed, ap read_of (sym same) ∙ h)
-Reads-ok text document d (Err fault) same utf8 parsed h = tt
-
-Reads-err : (text : List ℕ) (document : Members) (d : Data) (fault : FileFault) → d ≡ table document → IsUtf8 text → parse_document text ≡ Some document → Refuses (read_of d) fault → IsFaultOf text fault
+pub Reads-err : (text : List ℕ) (document : Members) (d : Data) (fault : FileFault) → d ≡ table document → IsUtf8 text → parse_document text ≡ Some document → Refuses (read_of d) fault → IsFaultOf text fault
 Reads-err text document d NotToml same utf8 parsed h = absurd h
 Reads-err text document d NoMemory same utf8 parsed h = tt
 Reads-err text document d Missing same utf8 parsed h = (document, utf8, parsed, ap read_of (sym same) ∙ h)
@@ -121,7 +117,3 @@ Reads-err text document d Twice same utf8 parsed h = (document, utf8, parsed, ap
 Reads-err text document d UnknownName same utf8 parsed h = (document, utf8, parsed, ap read_of (sym same) ∙ h)
 Reads-err text document d TooMany same utf8 parsed h = (document, utf8, parsed, ap read_of (sym same) ∙ h)
 Reads-err text document d BadValue same utf8 parsed h = (document, utf8, parsed, ap read_of (sym same) ∙ h)
-
-pub Reads-refused : (text : List ℕ) (document : Members) (d : Data) (r : Result ParticipantFile FileFault) → d ≡ table document → IsUtf8 text → parse_document text ≡ Some document → IfErr r (Refuses (read_of d)) → IfErr r (IsFaultOf text)
-Reads-refused text document d (Ok rows) same utf8 parsed h = tt
-Reads-refused text document d (Err fault) same utf8 parsed h = Reads-err text document d fault same utf8 parsed h

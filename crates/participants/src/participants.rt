@@ -1,7 +1,7 @@
 //! The participant file as it is read.
 
-ghost use Rattle.std.specs.Prelude.{◌≡◌, ◌<◌, ◌≤◌, true, length, bytes_eq, Ok, IfOk, IfErr};
-ghost use Rattle.std.specs.List.{list_any, position_or_len};
+ghost use Rattle.std.specs.Prelude.{◌≡◌, ◌<◌, true, length, position, bytes_eq, Ok, IfOk, IfErr, IfSome};
+ghost use Rattle.std.specs.List.{list_any};
 ghost use Rattle.participants.specs.Names.{is_name};
 ghost use Rattle.participants.specs.ParticipantFile.{ParticipantFile};
 ghost use Rattle.participants.specs.Rows.{is_participant_file};
@@ -51,17 +51,12 @@ impl Model for Participants {
     ghost invariant = { λ p. (is_participant_file (record { venue = p.venue; names = p.names.items; pairs = p.pairs.items }) ≡ true) × (p.table.items ≡ related_table p.pairs.items) };
 }
 
-/// The first place of a name, or the number of names where it is absent.
-pub(crate) fn place_of(names: &[Name], name: &[u8]) -> usize
-    ensures place { result ≡ position_or_len (bytes_eq name.now) names.now }
-    ensures within { result ≤ length names.now }
+/// The first place of a name.
+pub(crate) fn place_of(names: &[Name], name: &[u8]) -> Option<usize>
+    ensures place { result ≡ position (bytes_eq name.now) names.now }
+    ensures within { IfSome result (λ place. place < length names.now) }
 {
-    for (place, other) in names.iter().enumerate() {
-        if other.is(name) {
-            return place;
-        }
-    }
-    names.len()
+    names.iter().position(|other| other.is(name))
 }
 
 impl Participants {
@@ -134,11 +129,9 @@ impl Participants {
     pub fn find(&self, name: &[u8]) -> Option<Who>
         ensures { result ≡ find_participant self.now name.now }
     {
-        let place = place_of(&self.names, name);
-        if place < self.names.len() {
-            Some(Who::of(place as u32))
-        } else {
-            None
+        match place_of(&self.names, name) {
+            Some(place) => Some(Who::of(place as u32)),
+            None => None,
         }
     }
 

@@ -182,7 +182,7 @@ fn place_in(names: &[Name], name: &Name) -> usize
     ensures place { result ≡ position_or_len (bytes_eq name.now) names.now }
     ensures within { result ≤ length names.now }
 {
-    place_of(names, name.as_slice())
+    place_of(names, name.as_slice()).unwrap_or(names.len())
 }
 
 fn places_of(
