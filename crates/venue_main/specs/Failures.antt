@@ -13,12 +13,12 @@ use Rattle.venue_main.specs.declared.failure.Failure.TheVariants.{Stopped, Serve
 use Rattle.once_session.specs.declared.fault.OnceFault.TheVariants.{Memory, Output}
 use Rattle.gateway.specs.declared.threads.RunFault.{RunFault}
 use Rattle.gateway.specs.declared.threads.RunFault.TheVariants as run
-use Rattle.sqlite.specs.declared.error.Error.{Error}
-use Rattle.sqlite.specs.declared.error.Error.TheVariants.{SqliteFailure}
-use Rattle.sqlite.specs.declared.error.ErrorCode.{ErrorCode}
-use Rattle.sqlite.specs.declared.error.ErrorCode.TheVariants as code
+use Rattle.program_shell.specs.TrailEnd.{end_of_fault}
+use Rattle.program_shell.specs.declared.trail_end.TrailEnd.{TrailEnd}
+use Rattle.program_shell.specs.declared.trail_end.TrailEnd.TheVariants as end
+use Rattle.program_shell.specs.declared.words.WordsFault.{WordsFault}
+use Rattle.program_shell.specs.declared.words.WordsFault.TheVariants as words
 use Rattle.venue_rules.specs.declared.trail.TrailFault.{TrailFault}
-use Rattle.venue_rules.specs.declared.trail.TrailFault.TheVariants as trail
 use Rattle.venue_main.specs.declared.serve.ServeFault.{ServeFault}
 use Rattle.venue_main.specs.declared.serve.ServeFault.TheVariants as serve
 
@@ -69,24 +69,16 @@ run_fault run.NoMemory = serve.Memory
 run_fault run.NoThread = serve.Thread
 run_fault run.TrailRefused = serve.Trail
 
--- the end of the program where a trail has this fault
+-- the end of the program where a trail ends it
+abbrev pub end_failure : TrailEnd → Failure
+end_failure (end.Refused number) = TrailRefused number
+end_failure end.Memory = Stopped Memory
+end_failure end.Stopped = Served serve.Trail
+
 abbrev pub trail_failure : TrailFault → Failure
-trail_failure trail.Refused = TrailRefused 1
-trail_failure trail.OtherFiles = TrailRefused 2
-trail_failure (trail.BadRow n) = TrailRefused 3
-trail_failure trail.OtherVersion = TrailRefused 4
-trail_failure (trail.BadDelay x) = TrailRefused 5
-trail_failure trail.NoMemory = Stopped Memory
+trail_failure fault = end_failure (end_of_fault fault)
 
--- and where its file is not opened: another process has it, or the disk failed; else it is no database
-abbrev pub code_failure : ErrorCode → Failure
-code_failure code.OutOfMemory = Stopped Memory
-code_failure code.DatabaseBusy = Served serve.Trail
-code_failure code.SystemIoFailure = Served serve.Trail
-code_failure code.DiskFull = Served serve.Trail
-code_failure code.Closed = Served serve.Trail
-code_failure _ = TrailRefused 1
-
-abbrev pub open_failure : Error → Failure
-open_failure (SqliteFailure c) = code_failure c
-open_failure _ = TrailRefused 1
+-- and where its words are not there
+abbrev pub words_failure : WordsFault → Failure
+words_failure words.Memory = Stopped Memory
+words_failure words.Refused = CommandLine

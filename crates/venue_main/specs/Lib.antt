@@ -10,5 +10,5 @@ pub mod Recorded
 pub mod Explaining
 -- what words on the command line spell
 pub mod CommandLine
--- the first bytes of a trail's file
-pub mod TrailFile
+-- the line below a refusal
+pub mod Reasons

@@ -10,9 +10,9 @@ use crate::operation::{KeptPaths, Operation};
 use crate::service::Service;
 use clap::error::ErrorKind;
 use clap::{Arg, ArgAction, ArgMatches, Command, Error};
+use program_shell::words_given;
 use sef_moment::{Moment, read_utc};
 use std::alloc::{AllocError, Global};
-use std::{env, io};
 
 /// The request of the command line.
 #[derive(Drop)]
@@ -55,20 +55,6 @@ pub fn task_given(rt: &HostRuntime) -> Result<Task, Failure> {
             drop(error);
             answer
         }
-    }
-}
-
-/// The process's arguments. One that is not UTF-8 is refused.
-fn words_given(rt: &HostRuntime) -> Result<Vec<String>, Failure> {
-    match env::args(rt) {
-        Ok(words) => match words.collect(rt.alloc()) {
-            Ok(words) => Ok(words),
-            Err(_) => Err(Failure::Stopped(OnceFault::Memory)),
-        },
-        Err(error) => match error.kind() {
-            io::ErrorKind::OutOfMemory => Err(Failure::Stopped(OnceFault::Memory)),
-            _ => Err(Failure::CommandLine),
-        },
     }
 }
 

@@ -1,14 +1,14 @@
 //! The program's exit statuses other than 0.
 
 ghost use Rattle.std.specs.Prelude.{◌≡◌};
-ghost use Rattle.venue_main.specs.Failures.{check_failure, code_failure, files_failure, instruments_failure, open_failure, participants_failure, status_of, trail_failure};
+ghost use Rattle.venue_main.specs.Failures.{check_failure, end_failure, files_failure, instruments_failure, participants_failure, status_of, trail_failure, words_failure};
 ghost use Rattle.venue_main.specs.declared.failure.Failure.TheVariants.{Served as ServesNot, Stopped as Stops};
 
 use crate::check::CheckFault;
 use crate::market::FilesFault;
 use crate::once::OnceFault;
 use crate::serve::ServeFault;
-use sqlite::{Error as StoreError, ErrorCode};
+use program_shell::{TrailEnd, WordsFault};
 use thiserror::Error;
 use venue_rules::TrailFault;
 
@@ -137,43 +137,33 @@ impl From<CheckFault> for Failure {
     }
 }
 
+impl From<TrailEnd> for Failure {
+    ghost from_gives = { λ end failure. failure ≡ end_failure end };
+
+    fn from(end: TrailEnd) -> Failure {
+        match end {
+            TrailEnd::Refused(number) => Failure::Trail(number),
+            TrailEnd::Memory => Failure::Stopped(OnceFault::Memory),
+            TrailEnd::Stopped => Failure::Served(ServeFault::Trail),
+        }
+    }
+}
+
 impl From<TrailFault> for Failure {
     ghost from_gives = { λ fault failure. failure ≡ trail_failure fault };
 
     fn from(fault: TrailFault) -> Failure {
+        Failure::from(TrailEnd::from(fault))
+    }
+}
+
+impl From<WordsFault> for Failure {
+    ghost from_gives = { λ fault failure. failure ≡ words_failure fault };
+
+    fn from(fault: WordsFault) -> Failure {
         match fault {
-            TrailFault::Refused => Failure::Trail(1),
-            TrailFault::OtherFiles => Failure::Trail(2),
-            TrailFault::BadRow(_) => Failure::Trail(3),
-            TrailFault::OtherVersion => Failure::Trail(4),
-            TrailFault::BadDelay(_) => Failure::Trail(5),
-            TrailFault::NoMemory => Failure::Stopped(OnceFault::Memory),
-        }
-    }
-}
-
-impl From<StoreError> for Failure {
-    ghost from_gives = { λ error failure. failure ≡ open_failure error };
-
-    fn from(error: StoreError) -> Failure {
-        match error {
-            StoreError::SqliteFailure(code) => Failure::from(code),
-            _ => Failure::Trail(1),
-        }
-    }
-}
-
-impl From<ErrorCode> for Failure {
-    ghost from_gives = { λ code failure. failure ≡ code_failure code };
-
-    fn from(code: ErrorCode) -> Failure {
-        match code {
-            ErrorCode::OutOfMemory => Failure::Stopped(OnceFault::Memory),
-            ErrorCode::DatabaseBusy => Failure::Served(ServeFault::Trail),
-            ErrorCode::SystemIoFailure => Failure::Served(ServeFault::Trail),
-            ErrorCode::DiskFull => Failure::Served(ServeFault::Trail),
-            ErrorCode::Closed => Failure::Served(ServeFault::Trail),
-            _ => Failure::Trail(1),
+            WordsFault::Memory => Failure::Stopped(OnceFault::Memory),
+            WordsFault::Refused => Failure::CommandLine,
         }
     }
 }

@@ -14,6 +14,7 @@ mod metrics_file;
 mod once;
 mod operation;
 mod recording;
+mod refused;
 mod reporting;
 mod serve;
 mod serve_request;
@@ -28,13 +29,14 @@ pub use check::{CheckFault, check};
 use command_line::{Task, task_given};
 use explaining::explain_log;
 pub use failure::Failure;
-use files::{Texts, texts_at};
+use files::{Paths, Texts, texts_at};
 use heads_file::HeadsOut;
 pub use market::{FilesFault, Market};
 pub use metrics_file::{MetricsFile, MetricsSink};
 pub use once::{OnceFault, once};
 use operation::Operation;
 pub use recording::serve_recorded;
+use refused::Refused;
 pub use reporting::Operator;
 use sef_moment::Moment;
 pub use serve::{ServeFault, emit_closed, serve};
@@ -190,25 +192,46 @@ fn ended_with(closed: Result<(), Failure>, has_heads: bool) -> Result<(), Failur
     }
 }
 
+/// What was done over these files, with a line on a file that is refused.
+fn over(alloc: Global, texts: &Texts, done: Result<(), Failure>) -> Result<(), Refused> {
+    match done {
+        Ok(()) => Ok(()),
+        Err(failure) => Err(Refused::over(alloc, texts, failure)),
+    }
+}
+
+/// How a venue ended that was served.
+fn ended_as(served: Result<(), Failure>) -> Result<(), Refused> {
+    match served {
+        Ok(()) => Ok(()),
+        Err(failure) => Err(Refused::from(failure)),
+    }
+}
+
+fn answer_at(rt: &HostRuntime, paths: &Paths, at: Moment) -> Result<(), Refused> {
+    let texts = texts_at(rt, paths)?;
+    let answered = answer_texts(rt.alloc(), &texts, at, &mut rt.stdin(), &mut rt.stdout());
+    over(rt.alloc(), &texts, answered)
+}
+
+fn check_at(rt: &HostRuntime, paths: &Paths) -> Result<(), Refused> {
+    let texts = texts_at(rt, paths)?;
+    let checked = check_texts(rt.alloc(), &texts, &mut rt.stdout());
+    over(rt.alloc(), &texts, checked)
+}
+
+fn explain_at(rt: &HostRuntime, paths: &Paths) -> Result<(), Refused> {
+    let texts = texts_at(rt, paths)?;
+    let explained = explain_texts(rt.alloc(), &texts, rt.stdin(), &mut rt.stdout());
+    over(rt.alloc(), &texts, explained)
+}
+
 /// Runs the command. A venue to serve is handed back, since `main` alone may start threads.
-fn run(rt: &HostRuntime) -> Result<Option<ServeRequest>, Failure> {
+fn run(rt: &HostRuntime) -> Result<Option<ServeRequest>, Refused> {
     match task_given(rt)? {
-        Task::Once { paths, at } => answer_texts(
-            rt.alloc(),
-            &texts_at(rt, &paths)?,
-            at,
-            &mut rt.stdin(),
-            &mut rt.stdout(),
-        )?,
-        Task::Check { paths } => {
-            check_texts(rt.alloc(), &texts_at(rt, &paths)?, &mut rt.stdout())?
-        }
-        Task::Explain { paths } => explain_texts(
-            rt.alloc(),
-            &texts_at(rt, &paths)?,
-            rt.stdin(),
-            &mut rt.stdout(),
-        )?,
+        Task::Once { paths, at } => answer_at(rt, &paths, at)?,
+        Task::Check { paths } => check_at(rt, &paths)?,
+        Task::Explain { paths } => explain_at(rt, &paths)?,
         Task::Serve {
             paths,
             service,
@@ -224,6 +247,15 @@ fn run(rt: &HostRuntime) -> Result<Option<ServeRequest>, Failure> {
     Ok(None)
 }
 
+/// Reports the failure on a line of its own, and below it the reason, if one is known.
+fn report_refused(rt: &HostRuntime, refused: &Refused) {
+    // Where standard error fails too there is nobody left to report to.
+    let _ = eprintln!(rt; "venue_main: {}", refused.failure);
+    if let Some(reason) = &refused.reason {
+        let _ = eprintln!(rt; "  {reason}");
+    }
+}
+
 fn main(rt: HostRuntime) -> ExitCode {
     let ended = match run(&rt) {
         Ok(
@@ -235,39 +267,47 @@ fn main(rt: HostRuntime) -> ExitCode {
                     operation,
                 },
             ),
-        ) => match operator_of(&rt, rt.alloc(), operation, rt.stdin(), rt.stderr()) {
-            Ok(operator) => match kept {
-                Some(StoredTrail { conn, files, heads }) => match serve_trail(
-                    &rt,
-                    rt.alloc(),
-                    conn,
-                    files,
-                    heads,
-                    market,
-                    service,
-                    operator,
-                    &mut rt.stdout(),
-                ) {
-                    Ok((conn, has_heads)) => ended_with(close_trail(conn), has_heads),
-                    Err(failure) => Err(failure),
+        ) => ended_as(
+            match operator_of(&rt, rt.alloc(), operation, rt.stdin(), rt.stderr()) {
+                Ok(operator) => match kept {
+                    Some(StoredTrail { conn, files, heads }) => match serve_trail(
+                        &rt,
+                        rt.alloc(),
+                        conn,
+                        files,
+                        heads,
+                        market,
+                        service,
+                        operator,
+                        &mut rt.stdout(),
+                    ) {
+                        Ok((conn, has_heads)) => ended_with(close_trail(conn), has_heads),
+                        Err(failure) => Err(failure),
+                    },
+                    None => serve_market(
+                        &rt,
+                        rt.alloc(),
+                        market,
+                        service,
+                        operator,
+                        &mut rt.stdout(),
+                    ),
                 },
-                None => serve_market(&rt, rt.alloc(), market, service, operator, &mut rt.stdout()),
+                Err(fault) => {
+                    drop(market);
+                    drop(kept);
+                    Err(Failure::Served(fault))
+                }
             },
-            Err(fault) => {
-                drop(market);
-                drop(kept);
-                Err(Failure::Served(fault))
-            }
-        },
+        ),
         Ok(None) => Ok(()),
-        Err(failure) => Err(failure),
+        Err(refused) => Err(refused),
     };
     match ended {
         Ok(()) => ExitCode::SUCCESS,
-        Err(failure) => {
-            // Where standard error fails too there is nobody left to report to.
-            let _ = eprintln!(rt; "venue_main: {failure}");
-            ExitCode::from(failure.status())
+        Err(refused) => {
+            report_refused(&rt, &refused);
+            ExitCode::from(refused.failure.status())
         }
     }
 }

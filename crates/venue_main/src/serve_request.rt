@@ -8,6 +8,7 @@ use crate::files::Texts;
 use crate::heads_file::{HeadsOut, open_heads};
 use crate::market::Market;
 use crate::operation::{KeptPaths, Operation};
+use crate::refused::Refused;
 use crate::service::Service;
 use crate::trail_file::open_trail;
 use audit_trail::{FileText, Files};
@@ -39,7 +40,7 @@ pub fn asked_for(
     service: Service,
     paths: KeptPaths,
     operation: Operation,
-) -> Result<ServeRequest, Failure>
+) -> Result<ServeRequest, Refused>
     ensures read { IfOk result (λ asked. AreRead texts.participants.items texts.instruments.items asked.market.participants asked.market.instruments) }
     ensures files { IfOk result (λ asked. IfSome asked.kept (λ kept. kept.files ≡ record { participants = texts.participants.items; instruments = texts.instruments.items })) }
     ensures stored { IfOk result (λ asked. is_some asked.kept ≡ is_some paths.trail) }
@@ -47,7 +48,10 @@ pub fn asked_for(
     ensures service { IfOk result (λ asked. asked.service ≡ service) }
     ensures operation { IfOk result (λ asked. asked.operation ≡ operation) }
 {
-    let market = Market::read(rt.alloc(), &texts.participants, &texts.instruments)?;
+    let market = match Market::read(rt.alloc(), &texts.participants, &texts.instruments) {
+        Ok(market) => market,
+        Err(fault) => return Err(Refused::over(rt.alloc(), &texts, Failure::from(fault))),
+    };
     match kept_for(rt, texts, paths) {
         Ok(kept) => Ok(ServeRequest {
             market,
@@ -57,7 +61,7 @@ pub fn asked_for(
         }),
         Err(failure) => {
             drop(market);
-            Err(failure)
+            Err(Refused::from(failure))
         }
     }
 }

@@ -1,21 +1,18 @@
 //! The file of a trail.
 
-ghost use Rattle.std.specs.Prelude.{◌≡◌, ◌⊎◌, IfErr, IfOk, IfSome, IsTrue, take};
+ghost use Rattle.std.specs.Prelude.{◌≡◌, ◌⊎◌, IfErr};
 ghost use Rattle.once_session.specs.declared.fault.OnceFault.TheVariants.{Memory};
-ghost use Rattle.venue_main.specs.TrailFile.{MayBegin};
 ghost use Rattle.venue_main.specs.declared.failure.Failure.TheVariants.{Served, Stopped};
 ghost use Rattle.venue_main.specs.declared.serve.ServeFault.TheVariants.{Trail};
 
 use crate::failure::Failure;
 use crate::once::OnceFault;
 use crate::serve::ServeFault;
+use program_shell::{TrailEnd, may_be_database};
 use sqlite::{Connection, Error as StoreError, ErrorCode, File, FileStore};
 use std::alloc::Global;
 use std::fs::{self, File as SystemFile, OpenOptions};
 use std::io::{self, ErrorKind, Read, Write};
-
-/// The first bytes of an SQLite database, with the byte 0 at the end.
-const SQLITE_MAGIC: &[u8] = b"SQLite format 3\0";
 
 /// The bytes of the probe at a time, and how often: together more than the log's pages of a row.
 const PROBE_BLOCK: usize = 4_096;
@@ -30,7 +27,7 @@ pub fn open_trail(rt: &HostRuntime, path: &str) -> Result<Connection<FileStore<F
     refuse_unwritable(rt, path)?;
     match Connection::open(rt, path) {
         Ok(conn) => Ok(conn),
-        Err(error) => Err(Failure::from(error)),
+        Err(error) => Err(Failure::from(TrailEnd::from(error))),
     }
 }
 
@@ -65,26 +62,6 @@ fn refuse_other_bytes<R: Read + Drop>(alloc: Global, file: R) -> Result<(), Fail
         Ok(true) => Ok(()),
         Ok(false) => Err(Failure::Trail(1)),
         Err(error) => Err(failure_of(error.kind())),
-    }
-}
-
-/// Whether bytes may be those of a database: none; those of one that was not finished, which begins with a byte 0 and
-/// is left to the store; or as an SQLite database begins.
-pub fn may_be_database<R: Read + Drop>(alloc: Global, reader: R) -> io::Result<bool>
-    ensures { IfOk result (λ may. IfSome (R.remaining reader) (λ bytes. IsTrue may → MayBegin (take 16 bytes))) }
-{
-    let mut first = Vec::new(alloc);
-    reader.take(16).read_to_end(&mut first)?;
-    Ok(is_sqlite_magic(first.as_slice()))
-}
-
-fn is_sqlite_magic(first: &[u8]) -> bool
-    ensures { IsTrue result → MayBegin first.now }
-{
-    match first.first() {
-        None => true,
-        Some(0) => true,
-        Some(_) => first == SQLITE_MAGIC,
     }
 }
 

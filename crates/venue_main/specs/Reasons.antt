@@ -1,0 +1,13 @@
+-- The line below a refusal.
+use Rattle.std.specs.Prelude.{ℕ, List}
+use Rattle.file_diagnosis.specs.Instruments.{instruments_cause}
+use Rattle.file_diagnosis.specs.Line.{IsLineOn}
+use Rattle.file_diagnosis.specs.Participants.{participants_cause}
+use Rattle.venue_main.specs.declared.failure.Failure.{Failure}
+use Rattle.venue_main.specs.declared.failure.Failure.TheVariants.{Participants, Instruments}
+
+-- a line is on the file that is refused; another failure has none
+abbrev pub IsReason : List ℕ → List ℕ → Failure → List ℕ → Type 0
+IsReason participants instruments (Participants n) line = IsLineOn participants_cause participants line
+IsReason participants instruments (Instruments n) line = IsLineOn instruments_cause instruments line
+IsReason participants instruments _ line = ⊥
