@@ -11,7 +11,7 @@ use Rattle.venue_worker.specs.Work.{Work}
 use Rattle.venue_engine.specs.Queued.{IsCut}
 use Rattle.venue_worker.specs.Calls.{IsDelivery, Delivers, DeliversUpTo, Cuts, IsSameElse, with_session, with_sessions}
 use Rattle.venue_worker.specs.Turns.{IsServed, AreServed}
-use Rattle.venue_worker.specs.Shutdown.{AreCutAfter, AreDrained, AreGiven, AreGivenNothing, AreLookedAt, AreRounds, AreServedUpTo, CutsWhere, Gives, HasShutDown, HasWaited, IsDrained, IsOneGiven, IsRound, IsSeenOff, SeesOff, are_shut_down, cut_token, is_cut_after, is_idle}
+use Rattle.venue_worker.specs.Shutdown.{AreCutAfter, AreDrained, AreGiven, AreGivenNothing, AreLookedAt, AreRounds, AreServedUpTo, CutsWhere, Gives, HasShutDown, HasWaited, IsDrained, IsOneGiven, IsRound, IsSeenOff, SeesOff, are_shut_down, cut_token, is_cut_after, is_idle, is_over}
 use Rattle.venue_worker.proofs.Lists.{at_set, at_below, below_at, get_set, other_set, some_at}
 use Rattle.venue_worker.proofs.Turning.{looks_grow, served_by}
 
@@ -328,13 +328,31 @@ round_more n may_cut so_far moved a b c r d = record {
   hands = λ k high. other_hands n b c d.sees k (λ e. omega (arith, high, e)) ∙ r.hands k (omega (arith, high));
 }
 
-pub round_done : (n : ℕ) (may_cut moved : Bool) (old new : Work) → n ≡ length old.hands → IsSameElse old new → AreServed old new → IsRoundTo n may_cut moved old new → IsRound may_cut moved old new
-round_done n may_cut moved old new all only served r = record {
+pub round_done : (n : ℕ) (may_cut moved : Bool) (old new : Work) → n ≡ length old.hands → IsSameElse old new → AreDrained old new → AreLookedAt old new → AreServed old new → IsRoundTo n may_cut moved old new → IsRound may_cut moved old new
+round_done n may_cut moved old new all only seen_off looked served r = record {
   only = only;
+  seen_off = seen_off;
+  looked = looked;
   served = served;
   cuts = subst (λ (z : ℕ). AreCutAfter z may_cut old new) all r.cuts;
   gives = subst (λ (z : ℕ). AreGiven z moved old new) all r.gives;
 }
+
+-- the last of these moments, or the first one where there is none
+abbrev last_of : ℕ → List ℕ → ℕ
+last_of first [] = first
+last_of first (moment ∷ moments) = last_of moment moments
+
+last_of_more : (first : ℕ) (moments : List ℕ) (moment : ℕ) → last_of first (moments ++ moment ∷ []) ≡ moment
+last_of_more first [] moment = refl
+last_of_more first (m ∷ moments) moment = last_of_more m moments moment
+
+some_moment : (m : ℕ) (moments : List ℕ) → m ∷ moments ≢ []
+some_moment m moments e = cc
+
+-- after rounds at these moments it is not over
+abbrev AreOn : ℕ → ℕ → List ℕ → Work → Type 0
+AreOn since first moments w = moments ≢ [] → is_over (last_of first moments - since) w ≡ false
 
 -- the rounds so far, with the moment of the last progress
 pub record HasRounded (n since : ℕ) (answered answered' : List ℕ) (old new : Work) : Type 0 where
@@ -343,20 +361,29 @@ pub record HasRounded (n since : ℕ) (answered answered' : List ℕ) (old new :
   pub clock : answered' ≡ answered ++ first ∷ moments
   pub count : length moments ≡ n
   pub rounded : AreRounds first moments since old new
+  pub on : AreOn since first moments new
 
 pub rounds_begin : (since : ℕ) (answered answered' : List ℕ) (w : Work) → answered' ≡ answered ++ since ∷ [] → HasRounded 0 since answered answered' w w
-rounds_begin since answered answered' w is = record { first = since; moments = []; clock = is; count = refl; rounded = (refl, refl) }
+rounds_begin since answered answered' w is = record { first = since; moments = []; clock = is; count = refl; rounded = (refl, refl); on = λ some. absurd (some refl) }
 
-rounds_more : (first : ℕ) (moments : List ℕ) (since moment : ℕ) (moved : Bool) (old mid new : Work) → AreRounds first moments since old mid → IsRound (nat_le 500 (moment - since)) moved mid new
+rounds_more : (first : ℕ) (moments : List ℕ) (since moment : ℕ) (moved : Bool) (old mid new : Work) → AreRounds first moments since old mid → AreOn since first moments mid → IsRound (nat_le 500 (moment - since)) moved mid new
     → AreRounds first (moments ++ moment ∷ []) (if moved then moment else since) old new
-rounds_more first [] since moment moved old mid new are round = (
+rounds_more first [] since moment moved old mid new are on round = (
   moved,
   new,
   subst (λ (z : ℕ). IsRound (nat_le 500 (moment - z)) moved old new) are.0 (subst (λ (w : Work). IsRound (nat_le 500 (moment - since)) moved w new) are.1 round),
+  (λ some. absurd (some refl)),
   (ap (λ (z : ℕ). if moved then moment else z) are.0, refl),
 )
-rounds_more first (m ∷ moments) since moment moved old mid new are round =
-    (are.0, are.1, are.2, rounds_more (if are.0 then m else first) moments since moment moved are.1 mid new are.3 round)
+rounds_more first (m ∷ []) since moment moved old mid new are on round = (
+  are.0,
+  are.1,
+  are.2,
+  (λ _. subst (λ (w : Work). is_over (m - (if are.0 then m else first)) w ≡ false) are.4.1 (subst (λ (z : ℕ). is_over (m - z) mid ≡ false) are.4.0 (on (some_moment m [])))),
+  rounds_more (if are.0 then m else first) [] since moment moved are.1 mid new are.4 (λ some. absurd (some refl)) round,
+)
+rounds_more first (m ∷ m' ∷ moments) since moment moved old mid new are on round =
+    (are.0, are.1, are.2, (λ _. are.3 (some_moment m' moments)), rounds_more (if are.0 then m else first) (m' ∷ moments) since moment moved are.1 mid new are.4 (λ _. on (some_moment m (m' ∷ moments))) round)
 
 -- a round more, at the clock's next answer
 abbrev IsAnswered : ℕ → List ℕ → List ℕ → Type 0
@@ -371,30 +398,31 @@ pub record HasNext (since since' moment idle : ℕ) (moved : Bool) (mid answered
   pub round : IsRound (nat_le 500 idle) moved w new
   pub since_is : since' ≡ (if moved then moment else since)
 
-next_round : (first : ℕ) (moments : List ℕ) (since since' moment idle : ℕ) (moved : Bool) (mid answered' : List ℕ) (old w new : Work) → AreRounds first moments since old w → HasNext since since' moment idle moved mid answered' w new
+next_round : (first : ℕ) (moments : List ℕ) (since since' moment idle : ℕ) (moved : Bool) (mid answered' : List ℕ) (old w new : Work) → AreRounds first moments since old w → AreOn since first moments w → HasNext since since' moment idle moved mid answered' w new
     → AreRounds first (moments ++ moment ∷ []) since' old new
-next_round first moments since since' moment idle moved mid answered' old w new are next =
+next_round first moments since since' moment idle moved mid answered' old w new are on next =
     subst (λ (z : ℕ). AreRounds first (moments ++ moment ∷ []) z old new) (sym next.since_is)
-    (rounds_more first moments since moment moved old w new are (subst (λ (z : ℕ). IsRound (nat_le 500 z) moved w new) next.idle_is next.round))
+    (rounds_more first moments since moment moved old w new are on (subst (λ (z : ℕ). IsRound (nat_le 500 z) moved w new) next.idle_is next.round))
 
-pub rounds_next : (n since since' moment idle : ℕ) (moved : Bool) (answered mid answered' : List ℕ) (old w new : Work) → HasRounded n since answered mid old w → HasNext since since' moment idle moved mid answered' w new → HasRounded (n + 1) since' answered answered' old new
-rounds_next n since since' moment idle moved answered mid answered' old w new h next = record {
+pub rounds_next : (n since since' moment idle : ℕ) (moved : Bool) (answered mid answered' : List ℕ) (old w new : Work) → HasRounded n since answered mid old w → HasNext since since' moment idle moved mid answered' w new → is_over (moment - since') new ≡ false → HasRounded (n + 1) since' answered answered' old new
+rounds_next n since since' moment idle moved answered mid answered' old w new h next on = record {
   first = h.first;
   moments = h.moments ++ moment ∷ [];
   clock = clock_more h.first moment h.moments answered mid answered' h.clock next.clock;
   count = length-append h.moments (moment ∷ []) ∙ ap (λ (k : ℕ). k + 1) h.count;
-  rounded = next_round h.first h.moments since since' moment idle moved mid answered' old w new h.rounded next;
+  rounded = next_round h.first h.moments since since' moment idle moved mid answered' old w new h.rounded h.on next;
+  on = λ _. subst (λ (z : ℕ). is_over (z - since') new ≡ false) (sym (last_of_more h.first h.moments moment)) on;
 }
 
 -- the rounds end early
 pub rounds_end : (n rounds since since' moment idle quiet : ℕ) (moved : Bool) (answered mid answered' : List ℕ) (old w new : Work) → HasRounded n since answered mid old w → HasNext since since' moment idle moved mid answered' w new
-    → quiet ≡ moment - since' → (nat_le 30000 quiet || are_shut_down new.ledger.queues) ≡ true → HasShutDown rounds answered answered' old new
+    → quiet ≡ moment - since' → is_over quiet new ≡ true → HasShutDown rounds answered answered' old new
 rounds_end n rounds since since' moment idle quiet moved answered mid answered' old w new h next quiet_is over = record {
   first = h.first;
   moments = h.moments ++ moment ∷ [];
   clock = clock_more h.first moment h.moments answered mid answered' h.clock next.clock;
   since = since';
-  rounded = next_round h.first h.moments since since' moment idle moved mid answered' old w new h.rounded next;
+  rounded = next_round h.first h.moments since since' moment idle moved mid answered' old w new h.rounded h.on next;
   count = inr (why (nat_le 30000 quiet) refl over);
 }
   where

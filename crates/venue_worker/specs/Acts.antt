@@ -1,10 +1,12 @@
 -- The acts of a run, turn by turn: each call of a turn, and the effect of a refusal.
-use Rattle.std.specs.Prelude.{◌≡◌, ℕ, Bool, true, false, List, [], ◌∷◌, ◌++◌, max, Ok, Err}
+use Rattle.std.specs.Prelude.{◌≡◌, ◌≢◌, ◌⊎◌, ℕ, ◌<◌, ◌%◌, ⊤, Bool, true, false, List, [], ◌∷◌, ◌++◌, length, max, slice_get, Some, Ok, Err}
 use Rattle.std.specs.declared.result.Result.{Result}
+use Rattle.intake_seats.specs.Given.{TakeEnd}
 use Rattle.venue_rules.specs.declared.trail.EventFault.{EventFault}
 use Rattle.venue_rules.specs.declared.trail.EventFault.TheVariants.{Behind, TrailRefused, Down, Due, NoMemory}
 use Rattle.venue_worker.specs.Work.{Work}
 use Rattle.venue_worker.specs.Calls.{Cuts, Delivers, Takes, Ticks}
+use Rattle.venue_worker.specs.Shutdown.{AreGivenNothing, IsOneGiven}
 use Rattle.venue_worker.specs.Turns.{with_had_refusal}
 
 -- a tick at a moment; a look at a participant's seat, at a moment; a delivery to a participant
@@ -41,11 +43,60 @@ HasActed P old new = (acts : List Act) × AreActs P acts old new
 abbrev pub HasTurnActed : ℕ → Work → Work → Type 0
 HasTurnActed moment old new = HasActed (λ t. t ≡ max old.ledger.last moment) (with_had_refusal old false) new
 
+-- what a turn found: a refusal, an input, or a message to hand over
+abbrev pub HasFound : Work → Work → Type 0
+HasFound old new = (new.had_refusal ≡ true) ⊎ ((old.ledger.count < new.ledger.count) ⊎ IsOneGiven (length old.hands) old new)
+
+-- a turn that found nothing of these
+pub record HasFoundNothing (old new : Work) : Type 0 where
+  pub quiet : new.had_refusal ≡ false
+  pub count : new.ledger.count ≡ old.ledger.count
+  pub hands : AreGivenNothing old new
+
+-- A look at the seat of a session's end token, which was not taken before: it was not there, or it was taken.
+abbrev pub IsPolled : TakeEnd Unit → TakeEnd Unit → Type 0
+IsPolled e e' = (e.taken ≡ []) × (e.looks < e'.looks) × (((e'.taken ≡ []) × (e'.last % 4 ≢ 2)) ⊎ ((length e'.taken ≡ 1) × (e'.last % 4 ≡ 2)))
+
+-- each seat of an end token was looked at, where its token was not taken before, or is as it was
+abbrev pub ArePolled : List (TakeEnd Unit) → List (TakeEnd Unit) → Type 0
+ArePolled ends ends' = (length ends' ≡ length ends) × ((k : ℕ) (e e' : TakeEnd Unit) → slice_get ends k ≡ Some e → slice_get ends' k ≡ Some e' → (e' ≡ e) ⊎ IsPolled e e')
+
+-- a session had not ended: its seat was looked at, and its end token was not there
+pub record IsAwaited (ends ends' : List (TakeEnd Unit)) : Type 0 where
+  pub k : ℕ
+  pub had : TakeEnd Unit
+  pub has : TakeEnd Unit
+  pub was : slice_get ends k ≡ Some had
+  pub is : slice_get ends' k ≡ Some has
+  pub looked : had.looks < has.looks
+  pub untaken : has.taken ≡ []
+  pub absent : has.last % 4 ≢ 2
+
+-- one turn, before which the end tokens were looked for
+pub record IsTurn (moment : ℕ) (ends ends' : List (TakeEnd Unit)) (old new : Work) : Type 0 where
+  pub acts : HasTurnActed moment old new
+  pub polled : ArePolled ends ends'
+
+-- a turn that another follows: its trail refused nothing, and it found something, or a session had not ended
+abbrev pub IsFollowed : List (TakeEnd Unit) → List (TakeEnd Unit) → Work → Work → Type 0
+IsFollowed ends ends' old new = (new.ledger.refused ≡ old.ledger.refused) × (HasFound old new ⊎ IsAwaited ends ends')
+
+-- the last turn of a run is such a one; another, with turns behind it, is followed
+abbrev pub EndsOrGoesOn : (Work → Work → Type 0) → List ℕ → List (TakeEnd Unit) → List (TakeEnd Unit) → Work → Work → Type 0
+EndsOrGoesOn Last [] ends ends' old new = Last old new
+EndsOrGoesOn Last (moment ∷ moments) ends ends' old new = IsFollowed ends ends' old new
+
 -- one turn at each of these moments, in order, and nothing else
-abbrev pub AreTurns : List ℕ → Work → Work → Type 0
-AreTurns [] old new = new ≡ old
-AreTurns (moment ∷ moments) old new = (mid : Work) × HasTurnActed moment old mid × AreTurns moments mid new
+abbrev pub AreTurns : (Work → Work → Type 0) → List ℕ → List (TakeEnd Unit) → List (TakeEnd Unit) → Work → Work → Type 0
+AreTurns Last [] ends ends' old new = (ends' ≡ ends) × (new ≡ old)
+AreTurns Last (moment ∷ moments) ends ends' old new =
+    (looked : List (TakeEnd Unit)) × (mid : Work) × IsTurn moment ends looked old mid × EndsOrGoesOn Last moments ends looked old mid × AreTurns Last moments looked ends' mid new
+
+-- the last turn of a run: the trail refused, or it was the last that was given, or it found nothing
+abbrev pub IsLast : Result Unit EventFault → ℕ → List ℕ → Work → Work → Type 0
+IsLast (Ok u) turns moments old new = (length moments ≡ turns) ⊎ HasFoundNothing old new
+IsLast (Err f) turns moments old new = ⊤
 
 -- one turn at each moment that the clock answered
-abbrev pub HasActedAt : List ℕ → List ℕ → Work → Work → Type 0
-HasActedAt answered answered' old new = (moments : List ℕ) × (answered' ≡ answered ++ moments) × AreTurns moments old new
+abbrev pub HasActedAt : ℕ → Result Unit EventFault → List ℕ → List ℕ → List (TakeEnd Unit) → List (TakeEnd Unit) → Work → Work → Type 0
+HasActedAt turns result answered answered' ends ends' old new = (moments : List ℕ) × (answered' ≡ answered ++ moments) × AreTurns (IsLast result turns moments) moments ends ends' old new

@@ -104,19 +104,26 @@ abbrev pub AreGiven : ℕ → Bool → Work → Work → Type 0
 AreGiven n true old new = IsOneGiven n old new
 AreGiven n false old new = AreGivenNothing old new
 
--- A round: each reply seat was served, who was cut, and whether a message was handed over.
+-- A round: each participant was drained and its reply seat served, who was cut, and whether a message was handed over.
 pub record IsRound (may_cut moved : Bool) (old new : Work) : Type 0 where
   pub only : IsSameElse old new
+  pub seen_off : AreDrained old new
+  pub looked : AreLookedAt old new
   pub served : AreServed old new
   pub cuts : AreCutAfter (length old.hands) may_cut old new
   pub gives : AreGiven (length old.hands) moved old new
 
+-- whether a shutdown is over, after this time without progress
+abbrev pub is_over : ℕ → Work → Bool
+is_over quiet w = nat_le 30000 quiet || are_shut_down w.ledger.queues
+
 -- Rounds at these moments, from the moment of the last progress on to a later one, which is that of the last round that
--- handed a message over. A round may cut where half a second passed without progress.
+-- handed a message over. A round may cut where half a second passed without progress; another follows only where it is
+-- not over.
 abbrev pub AreRounds : ℕ → List ℕ → ℕ → Work → Work → Type 0
 AreRounds since [] since' old new = (since' ≡ since) × (new ≡ old)
 AreRounds since (moment ∷ moments) since' old new =
-    (moved : Bool) × (between : Work) × IsRound (nat_le 500 (moment - since)) moved old between × AreRounds (if moved then moment else since) moments since' between new
+    (moved : Bool) × (between : Work) × IsRound (nat_le 500 (moment - since)) moved old between × (moments ≢ [] → is_over (moment - (if moved then moment else since)) between ≡ false) × AreRounds (if moved then moment else since) moments since' between new
 
 -- half a minute passed without progress until the last of these moments
 abbrev pub HasWaited : ℕ → List ℕ → Type 0

@@ -1,7 +1,8 @@
 //! The end tokens that sessions hand as they end.
 
-ghost use Rattle.std.specs.Prelude.{◌≡◌, ℕ, ◌+◌, ◌≤◌, true, None, length, if◌then◌else◌};
+ghost use Rattle.std.specs.Prelude.{◌≡◌, ◌≢◌, ℕ, ◌+◌, ◌%◌, ◌<◌, ◌≤◌, true, false, None, length, if◌then◌else◌};
 ghost use Rattle.intake_seats.specs.Ends.{AreTakes, IsSameTaker};
+ghost use Rattle.venue_worker.specs.Acts.{ArePolled, IsAwaited};
 ghost use Rattle.venue_worker.specs.Phases.{AreTokensTaken};
 
 use intake_seats::{Board, TakeSeat};
@@ -12,6 +13,9 @@ fn take_end_token(take: &mut TakeSeat<()>, board: &Board<()>) -> bool
     requires free { take.old.in_hand ≡ None }
     ensures end { IsSameTaker take.old take.new × (take.new.in_hand ≡ None) }
     ensures taken { length take.new.taken ≡ length take.old.taken + (if result then 1 else 0) }
+    ensures looked { take.old.looks < take.new.looks }
+    ensures there { result ≡ true → take.new.last % 4 ≡ 2 }
+    ensures absent { result ≡ false → take.new.last % 4 ≢ 2 }
 {
     if take.take(board).is_none() {
         return false;
@@ -33,6 +37,8 @@ pub(crate) fn take_end_tokens(
     ensures count { length takes.new.items ≡ length takes.old.items }
     ensures within { result ≤ length takes.new.items }
     ensures tokens_taken { AreTokensTaken result takes.new.items }
+    ensures polled { ArePolled takes.old.items takes.new.items }
+    ensures awaited { result < length takes.new.items → IsAwaited takes.old.items takes.new.items }
 {
     let count = takes.len();
     for k in ended..count {

@@ -4,7 +4,7 @@ ghost use Rattle.std.specs.Prelude.{◌≡◌, ◌<◌, ◌-◌, ◌||◌, ◌&&
 ghost use Rattle.outbound_queue.specs.declared.queue.Queue.{Queue};
 ghost use Rattle.venue_worker.specs.Calls.{IsSameElse};
 ghost use Rattle.venue_worker.specs.Turns.{AreServed};
-ghost use Rattle.venue_worker.specs.Shutdown.{AreDrained, AreLookedAt, CutsWhere, HasShutDown, IsDrained, IsRound, are_shut_down, is_idle, is_shut_down};
+ghost use Rattle.venue_worker.specs.Shutdown.{AreDrained, AreLookedAt, CutsWhere, HasShutDown, IsDrained, IsRound, are_shut_down, is_idle, is_over, is_shut_down};
 
 use crate::clock::{Clock, notify};
 use crate::worker::Worker;
@@ -45,7 +45,7 @@ impl<'a, K: Keep + Drop> Worker<'a, K> {
 
     // Whether the rounds end, after this time without progress: also once each participant was given its sentinel.
     fn is_over(&self, quiet: u64) -> bool
-        ensures { result ≡ (nat_le 30000 quiet || are_shut_down self.now.ledger.queues) }
+        ensures { result ≡ is_over quiet self.now }
     {
         MAX_DRAIN_MS <= quiet || are_shut_down(self.engine.queues())
     }

@@ -1,6 +1,6 @@
-use Rattle.std.proofs.Common.{◌<◌, length, arith, ◌∙◌, length-set}
-use Rattle.venue_worker.proofs.Lists.{at_read}
-use Rattle.venue_worker.proofs.Running.{tokens_set, one_token_taken, one_token_untaken}
+use Rattle.std.proofs.Common.{◌<◌, length, arith, refl, ◌∙◌, length-set}
+use Rattle.venue_worker.proofs.Lists.{at_read, still_old}
+use Rattle.venue_worker.proofs.Running.{tokens_set, one_token_taken, one_token_untaken, none_polled, one_polled, polled_by, one_awaited}
 use Rattle.venue_worker.proofs.end_tokens.take_end_tokens.Goals as goal
 
 pub loop-k-preserved : goal.loop-k-preserved
@@ -15,6 +15,8 @@ loop-k-preserved c =
       own = tokens_set c.args.board.now xs k c.index_mut.result.now c.take_end_token.new.take here e.end.0 e.end.1 v.own;
       count = length-set xs k c.take_end_token.new.take ∙ v.count;
       tokens_taken = one_token_taken xs k c.index_mut.result.now c.take_end_token.new.take here c.if-not-take_end_token.ensures.taken v.tokens_taken;
+      polled = one_polled c.args.takes.now.items xs k c.index_mut.result.now c.take_end_token.new.take (v.still k (omega arith)) here (polled_by c.take_end_token.result c.index_mut.result.now c.take_end_token.new.take ((v.tokens_taken k c.index_mut.result.now here).1 (omega arith)) e.looked e.taken e.there e.absent) v.polled;
+      still = still_old c.args.takes.now.items xs k c.take_end_token.new.take v.still;
     }
 
 pub returns-then-not-take_end_token : goal.returns-then-not-take_end_token
@@ -32,4 +34,12 @@ returns-then-not-take_end_token c =
       count = long ∙ v.count;
       within = omega (arith, long, low);
       tokens_taken = one_token_untaken xs k c.index_mut.result.now c.take_end_token.new.take here (omega (arith, same)) v.tokens_taken;
+      polled = one_polled c.args.takes.now.items xs k c.index_mut.result.now c.take_end_token.new.take (v.still k (omega arith)) here (polled_by c.take_end_token.result c.index_mut.result.now c.take_end_token.new.take ((v.tokens_taken k c.index_mut.result.now here).1 (omega arith)) e.looked e.taken e.there e.absent) v.polled;
+      awaited = λ few. one_awaited c.args.takes.now.items xs k c.index_mut.result.now c.take_end_token.new.take (v.still k (omega arith)) here e.looked (omega (arith, same)) (c.if-not-take_end_token.ensures.absent refl) v.tokens_taken;
     }
+
+pub loop-k-init : goal.loop-k-init
+loop-k-init c = record { own = c.requires.own; count = refl; tokens_taken = c.requires.tokens_taken; polled = none_polled c.args.takes.now.items; still = λ j high. refl }
+
+pub returns-clause-awaited : goal.returns-clause-awaited
+returns-clause-awaited c few = absurd (omega (arith, few, c.len-count.ensures, c.loop-k-test.false, c.args.takes.now.ok.0, c.loop-k.invariant.count))

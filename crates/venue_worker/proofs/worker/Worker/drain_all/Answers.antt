@@ -28,4 +28,4 @@ returns-clause-round g c =
     let far = c.loop-j-test.false in
     let count = c.len-count.ensures in
     let i = c.loop-j.invariant in
-    round_done c.loop-j.j c.args.may_cut c.loop-j.moved old c.loop-j.self (omega (arith, all, ok, far, count)) i.only (served_all c.loop-j.j old c.loop-j.self (omega (arith, all, ok, far, count)) i.served) i.round
+    round_done c.loop-j.j c.args.may_cut c.loop-j.moved old c.loop-j.self (omega (arith, all, ok, far, count)) i.only i.seen_off i.looked (served_all c.loop-j.j old c.loop-j.self (omega (arith, all, ok, far, count)) i.served) i.round

@@ -1,4 +1,5 @@
-use Rattle.std.proofs.Common.{◌∙◌, arith, refl, sym}
+use Rattle.std.proofs.Common.{◌≡◌, ◌∙◌, ℕ, false, arith, refl, subst, sym}
+use Rattle.venue_worker.specs.Shutdown.{is_over}
 use Rattle.venue_worker.proofs.Dismissing.{all_seen, all_seen_then, looked_none, looked_then, rounds_begin, rounds_done, rounds_end, rounds_next, same_then, served_then}
 use Rattle.venue_worker.proofs.worker.Worker.shut_down.Goals as goal
 
@@ -24,7 +25,8 @@ loop-preserved g c =
       served = λ _. served_then old mid new i.only i.looked all.round.served;
       looked = looked_then old mid new i.only i.looked all.looked;
       rounded = rounds_next c.loop.counter c.loop.since c.last_progress-since.result c.now-moment.result c.time_between-idle.result c.drain_all-moved.result (g.C.Clock.answered c.args.clock.now) (g.C.Clock.answered c.loop.clock) (g.C.Clock.answered c.drain_all-moved.new.clock)
-          old mid new i.rounded (record { clock = all.clock ∙ c.now-moment.ensures; idle_is = c.time_between-idle.ensures; round = all.round; since_is = c.last_progress-since.ensures });
+          old mid new i.rounded (record { clock = all.clock ∙ c.now-moment.ensures; idle_is = c.time_between-idle.ensures; round = all.round; since_is = c.last_progress-since.ensures })
+          (subst (λ (z : ℕ). is_over z new ≡ false) c.time_between-quiet.ensures (sym c.is_over.ensures ∙ c.if-is_over.false));
     }
 
 pub returns-clause-served : goal.returns-clause-served
