@@ -27,7 +27,8 @@ use Rattle.resting_orders.specs.declared.noted.EnteredOrder.{EnteredOrder}
 use Rattle.resting_orders.specs.declared.rested.RestedOrder.{RestedOrder}
 use Rattle.resting_orders.specs.Noting.{entered_from, entered_on, entered_order}
 use Rattle.resting_orders.specs.Resting.{book_of, books_of, books_shown, rested_at, rested_in, rested_of, rested_shown, rested_with}
-use Rattle.resting_orders.proofs.Members.{In, In-append_cases, In-filter, In-map, none_is_some, same_some}
+use Rattle.venue_rules.proofs.Members.{In, In-append_cases}
+use Rattle.trade_blotter.proofs.Lists.{In-filtered, In-map, none_is_some, same_some}
 
 -- A resting order entered.
 
@@ -55,7 +56,7 @@ In-ranked side (r ∷ rs) x i = by (In-ranked side rs x) (In-rank side r (ranked
 entered : (facts : List Fact) (x : ℕ) (side : Side) (r : Resting) → In r (resting facts x side) → In r.entry (entries facts)
 entered facts x side r i =
     let all = map (with_left (left facts)) (entries facts) in
-    let there = In-map (with_left (left facts)) (entries facts) r (In-filter (rests x side) all r (In-ranked side (filter (rests x side) all) r i)) in
+    let there = In-map (with_left (left facts)) (entries facts) r (In-filtered (rests x side) all r (In-ranked side (filter (rests x side) all) r i)) in
     subst (λ (e : Entry). In e (entries facts)) (ap (λ (q : Resting). q.entry) there.2) there.1
 
 -- The orders that are kept are those that entered, each with its row.

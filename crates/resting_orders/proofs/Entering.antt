@@ -49,7 +49,7 @@ use Rattle.resting_orders.specs.declared.noted.EnteredAt.{EnteredAt}
 use Rattle.resting_orders.specs.Holding.{entry_moment, moment_from}
 use Rattle.resting_orders.specs.Laws.{OrdersAgree}
 use Rattle.resting_orders.specs.Noting.{entered_by, entered_order}
-use Rattle.resting_orders.proofs.Members.{found_passes}
+use Rattle.venue_rules.proofs.Members.{In-find}
 
 abbrev here : ℕ → ℕ → EnteredAt
 here row t = record { row = row; moment = t }
@@ -191,7 +191,7 @@ and_right false b e = absurd (true≢false (sym e))
 named_own : (h : History) (who : ℕ) (id : List ℕ) (r : Resting) → named h who id ≡ IsResting r → who ≡ r.entry.order.who
 named_own h who id r e =
     let p : Resting → Bool = λ x. rests x.entry.order.instrument x.entry.order.side x && (x.entry.order.who == who && bytes_eq x.entry.order.id id) in
-    let passes = (found_passes p (map (with_left (left h.facts)) (entries h.facts)) r (named_rests (find_order h.facts who id) (find_held h.facts who id) r e)).1 in
+    let passes = (In-find p (map (with_left (left h.facts)) (entries h.facts)) r (named_rests (find_order h.facts who id) (find_held h.facts who id) r e)).1 in
     sym (eqb-true r.entry.order.who who (and_left (r.entry.order.who == who) (bytes_eq r.entry.order.id id) (and_right (rests r.entry.order.instrument r.entry.order.side r) (r.entry.order.who == who && bytes_eq r.entry.order.id id) passes)))
 
 replaced_quiet : (row : ℕ) (m : Market) (h : History) (s : Sender) (d : ReplaceMessage) (r : Resting) (t : ℕ) → s.who ≡ r.entry.order.who → AreReported row t (replaced m h s d r t)

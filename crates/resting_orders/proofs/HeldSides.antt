@@ -54,7 +54,8 @@ use Rattle.resting_orders.specs.declared.holding.HeldChange.TheVariants.{Same, H
 use Rattle.resting_orders.specs.Holding.{change_at, change_by_app, change_by_cancel, change_by_cross, change_by_due, changed, first_due, first_ends, first_enters, is_other, second_held, sooner, sooner_due}
 use Rattle.resting_orders.specs.Laws.{SidesAgree}
 use Rattle.resting_orders.proofs.Entering.{NoneHolds, and_left, and_right, first_turns}
-use Rattle.resting_orders.proofs.Members.{found_passes, none_is_some}
+use Rattle.venue_rules.proofs.Members.{In-find}
+use Rattle.trade_blotter.proofs.Lists.{none_is_some}
 
 -- Laws of held sides, of the crate below.
 
@@ -203,7 +204,7 @@ cancel_change found m h s d (IsHeld k) is = first_turns (λ (a : Answer). IsChan
     there = named_held (find_order h.facts s.who d.original_id) (find_held h.facts s.who d.original_id) k is
 
     name : (s.who ≡ k.order.who) × (d.original_id ≡ k.order.id)
-    name = same_name s.who d.original_id k.order.who k.order.id (found_passes (λ (x : HeldSide). is_name s.who d.original_id x.order.who x.order.id) (held h.facts) k there).1
+    name = same_name s.who d.original_id k.order.who k.order.id (In-find (λ (x : HeldSide). is_name s.who d.original_id x.order.who x.order.id) (held h.facts) k there).1
 
     used : is_order_id_used h.facts s.who d.original_id ≡ true
     used = (λ j. is_order_id_used h.facts (name.0 j) (name.1 j)) ∙ used_where h.facts k (λ p all. found p h.facts s.who d.original_id k all there)

@@ -34,7 +34,9 @@ use Rattle.resting_orders.specs.declared.quoting.OwnQuote.{OwnQuote}
 use Rattle.resting_orders.specs.Laws.{AreOwn, IsOwn, QuotesAgree}
 use Rattle.resting_orders.specs.Quoting.{first_withdraws, live_at, live_own, own_quote, quoted_as, quoted_at, quoted_by, quoted_from, quoted_in, quoted_on, still_live, still_live_at, withdrawal}
 use Rattle.resting_orders.proofs.Entering.{NoneHolds, and_left, and_right, first_turns}
-use Rattle.resting_orders.proofs.Members.{In, Contains-from_In, In-append_cases, In-append_left, In-filter, In-filter_kept, In-from_Contains, filter_passes, found_passes, none_is_some, same_some, some_found}
+use Rattle.venue_rules.proofs.Members.{Contains-from_In, In, In-append_cases, In-append_left, In-find, In-from_Contains}
+use Rattle.trade_blotter.proofs.Lists.{In-filtered, none_is_some, same_some}
+use Rattle.resting_orders.proofs.Members.{In-filter_kept, filter_passes, some_found}
 use Rattle.resting_orders.proofs.Requesting.{Lacks, Misses, cancel_lacks, cross_lacks, due_lacks, market_data_lacks, order_lacks, replace_lacks, withdrawal_lacks}
 
 -- What an answer adds: no quote, or one, which is kept.
@@ -83,7 +85,7 @@ quote_accepted_turns : (m : Market) (h : History) (s : Sender) (d : QuoteMessage
 quote_accepted_turns m h s d r found fresh = record {
   quote = quoted h s r d;
   room = r;
-  there = (found_passes (λ (x : Room). bytes_eq (printed 82 x.number) d.request_id) (rooms h.facts) r found).0;
+  there = (In-find (λ (x : Room). bytes_eq (printed 82 x.number) d.request_id) (rooms h.facts) r found).0;
   number = refl;
   only = refl;
   own = by (first_quote h.facts r.number) ∙ ap (λ (id : List ℕ). record (own_quote m r (quoted h s r d)) { request = id } ∷ []) (sym named);
@@ -91,7 +93,7 @@ quote_accepted_turns m h s d r found fresh = record {
 }
   where
     named : printed 82 r.number ≡ d.request_id
-    named = (bytes_eq-Decides (printed 82 r.number) d.request_id).0 (found_passes (λ (x : Room). bytes_eq (printed 82 x.number) d.request_id) (rooms h.facts) r found).1
+    named = (bytes_eq-Decides (printed 82 r.number) d.request_id).0 (In-find (λ (x : Room). bytes_eq (printed 82 x.number) d.request_id) (rooms h.facts) r found).1
 
     status : Reply
     status = quote_status s d (Some (symbol_of m.instruments r.instrument)) Accepted
@@ -262,11 +264,11 @@ one_live m h ks t q k kept there maker id end = by_end (nat_le t k.end) refl
     none = not_found (record { who = k.maker; number = 1; kind = type_of (QuoteCancel (record { quote_id = Some k.id; cancel_type = 5 })) }) (Some k.id)
 
     from_quotes : (x : RoomQuote) → In x named → In x (quotes h.facts)
-    from_quotes x i = In-filter (λ (y : RoomQuote). y.maker == k.maker && is_live h.facts t y) (quotes h.facts) x (In-filter (λ (y : RoomQuote). bytes_eq y.id k.id) live x i)
+    from_quotes x i = In-filtered (λ (y : RoomQuote). y.maker == k.maker && is_live h.facts t y) (quotes h.facts) x (In-filtered (λ (y : RoomQuote). bytes_eq y.id k.id) live x i)
 
     itself : (x : RoomQuote) → In x named → is_live h.facts t q ≡ true
     itself x i =
-        let passes = filter_passes (λ (y : RoomQuote). y.maker == k.maker && is_live h.facts t y) (quotes h.facts) x (In-filter (λ (y : RoomQuote). bytes_eq y.id k.id) live x i) in
+        let passes = filter_passes (λ (y : RoomQuote). y.maker == k.maker && is_live h.facts t y) (quotes h.facts) x (In-filtered (λ (y : RoomQuote). bytes_eq y.id k.id) live x i) in
         let own_maker : x.maker ≡ q.maker = eqb-true x.maker k.maker (and_left (x.maker == k.maker) (is_live h.facts t x) passes) ∙ maker in
         let own_id : x.id ≡ q.id = (bytes_eq-Decides x.id k.id).0 (filter_passes (λ (y : RoomQuote). bytes_eq y.id k.id) live x i) ∙ id in
         ap (is_live h.facts t) (sym (kept.alone x q (from_quotes x i) there own_maker own_id)) ∙ and_right (x.maker == k.maker) (is_live h.facts t x) passes

@@ -282,16 +282,6 @@ fn append_book(
     append_all_rested(alloc, text, form, participants, sheet, orders)
 }
 
-/// A moment of a request for prices, on which the answer does not depend.
-pub(crate) fn some_moment() -> Moment
-    ensures { result ≡ 0 }
-{
-    match Moment::of_ms(0) {
-        Some(moment) => moment,
-        None => unreachable!(),
-    }
-}
-
 /// The moment of the last row, if there is one.
 pub(crate) fn last_moment(rows: &[TrailRow]) -> Option<Moment>
     ensures { result ≡ last_moment rows.now }
@@ -342,7 +332,7 @@ fn book_after(
         &mut day.venue,
         &day.kept.orders,
         sheet.symbol,
-        some_moment(),
+        Moment::EPOCH,
         &mut orders,
     )?;
     let mut text = Vec::new(alloc);

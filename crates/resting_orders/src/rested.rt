@@ -114,7 +114,7 @@ fn push_replies(
 }
 
 /// Adds every order of an instrument that rests on a venue, with its owner: bids, then offers, each in price-time
-/// priority. Nothing where no instrument has the symbol.
+/// priority. Nothing where no instrument has the symbol. The moment of the request changes nothing.
 pub(crate) fn push_book(
     alloc: Global,
     venue: &mut Venue,

@@ -14,7 +14,7 @@ ghost use Rattle.resting_orders.specs.Resting.{books_shown};
 ghost use Rattle.resting_orders.specs.Rests.{EmitsRests, IsRests, end_of, is_order_of, is_quote_of, is_request_of, is_side_of, owned_text, participant_text, participants_text, rests_text, wanted_text};
 
 use crate::asking::{Request, still_open};
-use crate::book::{last_moment, some_moment, write_text};
+use crate::book::{last_moment, write_text};
 use crate::fault::BookFault;
 use crate::form::Form;
 use crate::laws::kept_quotes_agree;
@@ -30,6 +30,7 @@ use crate::rests_text::{
 use instruments::Instruments;
 use participants::{Participants, Who};
 use row_replay::rows_have_their_inputs;
+use sef_moment::Moment;
 use std::alloc::{AllocError, Global};
 use std::io::Write;
 use trade_blotter::name_at;
@@ -209,7 +210,7 @@ fn push_books(
 {
     for place in 0..venue.instruments().len() {
         let symbol = symbol_of(venue.instruments(), place as u32);
-        push_book(alloc, venue, orders, symbol, some_moment(), rested)?;
+        push_book(alloc, venue, orders, symbol, Moment::EPOCH, rested)?;
     }
     Ok(())
 }

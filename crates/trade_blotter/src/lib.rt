@@ -8,5 +8,6 @@ mod printing;
 mod table;
 
 pub use laws::each_room_trade_is_emitted_with_its_room;
-pub use line::{append, append_deal, append_number, append_price, name_at};
+pub use line::{append, append_deal, append_number, append_price, name_at, room_of};
 pub use printing::{PrintFault, print_table, print_trades};
+pub use table::{push_number, row_bytes, trade_fields};

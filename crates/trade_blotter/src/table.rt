@@ -21,7 +21,7 @@ use venue_core::Venue;
 use venue_rules::{RoomFact, ShownOrder, TradeFact};
 
 /// Adds a field: one character and a number.
-fn push_number(
+pub fn push_number(
     alloc: Global,
     row: &mut ByteRecord,
     prefix: &[u8],
@@ -155,14 +155,15 @@ fn push_place(
 }
 
 /// The fields of a trade; `room` is what is read back of its room.
-fn trade_fields(
+pub fn trade_fields(
     alloc: Global,
     participants: &Participants,
     instruments: &Instruments,
     trade: &TradeFact,
     room: Option<&RoomFact>,
 ) -> Result<ByteRecord, AllocError>
-    ensures { IfOk result (λ row. fields_of row ≡ trade_fields (record { participants = participants.now; instruments = instruments.now }) trade.now (option_copied room.entry)) }
+    ensures partial { IfOk result (λ row. partial_of row ≡ []) }
+    ensures fields { IfOk result (λ row. fields_of row ≡ trade_fields (record { participants = participants.now; instruments = instruments.now }) trade.now (option_copied room.entry)) }
 {
     let mut row = ByteRecord::new(alloc);
     push_deal(alloc, &mut row, participants, instruments, trade)?;
@@ -193,7 +194,7 @@ fn field_names(alloc: Global) -> Result<ByteRecord, AllocError>
 }
 
 /// The bytes of a row.
-fn row_bytes(alloc: Global, row: &ByteRecord) -> Result<Vec<u8>, AllocError>
+pub fn row_bytes(alloc: Global, row: &ByteRecord) -> Result<Vec<u8>, AllocError>
     ensures { IfOk result (λ bytes. bytes.items ≡ row_text setup (fields_of row.now)) }
 {
     let mut writer = WriterBuilder::new()

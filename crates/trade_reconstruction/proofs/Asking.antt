@@ -28,7 +28,9 @@ use Rattle.trade_reconstruction.proofs.Threes.{recipients_are, three_found}
 use Rattle.trade_reconstruction.specs.Lines.{evidence, is_asked, is_asked_said, is_sought, last_lines, lines_in, request_line, room_found_said, room_of as lines_of_room, three_if, three_line, three_text, trade_row, recipients_of, words_lines}
 use Rattle.venue_core.specs.Replay.{AreEmitted}
 use Rattle.trade_reconstruction.specs.Emitted.{trade_numbered, words_emitted}
-use Rattle.trade_reconstruction.proofs.Members.{Contains-from_In, In, In-append_cases, In-append_left, In-filter_map, In-from_Contains, In-map, Places, Places-above, Places-from, Places-unmap, found_first, found_past, found_picked, kept_all, kept_none, none_is_some, picked_from, picked_passes, same_some}
+use Rattle.venue_rules.proofs.Members.{Contains-from_In, In, In-append_cases, In-append_left, In-filter_map, In-from_Contains, Places, Places-above, filter-all, filter-none, picked_from}
+use Rattle.trade_blotter.proofs.Lists.{In-map, none_is_some, same_some}
+use Rattle.trade_reconstruction.proofs.Members.{Places-from, Places-unmap, found_first, found_past, found_picked, picked_passes}
 use Rattle.trade_reconstruction.proofs.Says.{HeardAsked, asking_in, asking_of_said}
 use Rattle.trade_reconstruction.proofs.Replies.{emitted_asked}
 use Rattle.trade_reconstruction.proofs.Days.{added, added_are, asked_at, day_asked, is_added, it, map_itself, map_map}
@@ -135,8 +137,8 @@ all_asked m k (q ∷ qs) places p (inl same) =
     let rest = flat_map (asked_at m) qs in
     ap (λ (x : Opened). heard_by (filter test (asked_at m x ++ rest))) same
     ∙ (ap heard_by (filter-append test (asked_at m p) rest)
-    ∙ (ap (λ l. heard_by (l ++ filter test rest)) (kept_all test (asked_at m p) (λ y j. eq-eqb y.room (number_of p) (of_room m p y j)))
-    ∙ (ap (λ l. heard_by (asked_at m p ++ l)) (kept_none test rest (λ y j. let one = in_one m qs y j in not_of m (number_of p) one.0 (λ e. apart (number_of one.0) (number_of p) (ap number_of (sym same) ∙ places.0) (Places-above number_of (k + 1) qs places.1 one.0 one.1) e) y one.2))
+    ∙ (ap (λ l. heard_by (l ++ filter test rest)) (filter-all test (asked_at m p) (λ y j. eq-eqb y.room (number_of p) (of_room m p y j)))
+    ∙ (ap (λ l. heard_by (asked_at m p ++ l)) (filter-none test rest (λ y j. let one = in_one m qs y j in not_of m (number_of p) one.0 (λ e. apart (number_of one.0) (number_of p) (ap number_of (sym same) ∙ places.0) (Places-above number_of (k + 1) qs places.1 one.0 one.1) e) y one.2))
     ∙ (ap heard_by (append-nil (asked_at m p)) ∙ (map_map emitted (λ (y : HeardAsked). y.to) p.2.recipients ∙ map_itself p.2.recipients)))))
   where
     apart : (a b : ℕ) → b ≡ k + 1 → k + 1 < a → a ≡ b → ⊥
@@ -144,7 +146,7 @@ all_asked m k (q ∷ qs) places p (inl same) =
 all_asked m k (q ∷ qs) places p (inr i) =
     let test : HeardAsked → Bool = λ y. y.room == number_of p in
     ap heard_by (filter-append test (asked_at m q) (flat_map (asked_at m) qs))
-    ∙ (ap (λ l. heard_by (l ++ filter test (flat_map (asked_at m) qs))) (kept_none test (asked_at m q) (not_of m (number_of p) q (λ same. apart (number_of q) (number_of p) places.0 (Places-above number_of (k + 1) qs places.1 p i) same)))
+    ∙ (ap (λ l. heard_by (l ++ filter test (flat_map (asked_at m) qs))) (filter-none test (asked_at m q) (not_of m (number_of p) q (λ same. apart (number_of q) (number_of p) places.0 (Places-above number_of (k + 1) qs places.1 p i) same)))
     ∙ all_asked m (k + 1) qs places.1 p i)
   where
     apart : (a b : ℕ) → a ≡ k + 1 → k + 1 < b → a ≡ b → ⊥

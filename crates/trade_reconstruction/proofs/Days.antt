@@ -19,7 +19,8 @@ use Rattle.trade_reconstruction.specs.declared.evidence_event.EvidenceEvent.{Evi
 use Rattle.venue_core.specs.Replay.{AreEmitted, Emits}
 use Rattle.trade_reconstruction.specs.Found.{original_emitted}
 use Rattle.trade_reconstruction.specs.Emitted.{came_of, words_at, words_from}
-use Rattle.trade_reconstruction.proofs.Members.{In, In-append_cases, In-map}
+use Rattle.venue_rules.proofs.Members.{In, In-append_cases}
+use Rattle.trade_blotter.proofs.Lists.{In-map}
 use Rattle.trade_reconstruction.proofs.Says.{HeardAsked, HeardEntry, HeardFill, HeardHit, HeardHold, asking_in, askings_say, entries_say, entry_in, fill_in, fills_say, hits_say, hold_in, holds_say, traded_in}
 use Rattle.trade_reconstruction.proofs.Replies.{asked_emitted, at_row, fills_emitted, here, hits_of, hits_emitted, input-Says, is_tick_input, pair_emitted, emitted_entry, emitted_hold}
 

@@ -28,7 +28,7 @@ use Rattle.trade_reconstruction.specs.Lines.{evidence}
 use Rattle.trade_reconstruction.specs.NoteLines.{fate_lines}
 use Rattle.trade_reconstruction.specs.Standing.{is_watched}
 use Rattle.trade_reconstruction.specs.Emitted.{AreEvidences, AreOf, BeginsJoined, BeginsTrades, EmitsTrade, EmitsTrades, HasNoTrade, IsEvidence, IsEvidenceIn, IsHeard, UnlessWriting, behind, evidence_behind, evidence_by, fates_for, joined, numbered_in, stood_for, trade_numbered, words_emitted}
-use Rattle.trade_reconstruction.proofs.Members.{none_is_some, same_some}
+use Rattle.trade_blotter.proofs.Lists.{none_is_some, same_some}
 
 -- rows of inputs record these inputs
 abbrev pub EmitTheirInputs : Type 0

@@ -21,7 +21,9 @@ use Rattle.venue_rules.specs.Market.{Market}
 use Rattle.venue_rules.specs.Orders.{accepted}
 use Rattle.venue_rules.specs.Run.{Input, after, answer_due_of, answer_input, run_from}
 use Rattle.venue_core.specs.Replay.{AreEmitted}
-use Rattle.trade_reconstruction.proofs.Members.{In, In-append_cases, In-append_left, In-filter, found_first, found_longer, found_past, none_is_some, picked_from, same_some}
+use Rattle.venue_rules.proofs.Members.{In, In-append_cases, In-append_left, picked_from}
+use Rattle.trade_blotter.proofs.Lists.{In-filtered, none_is_some, same_some}
+use Rattle.trade_reconstruction.proofs.Members.{found_first, found_longer, found_past}
 use Rattle.trade_reconstruction.proofs.Replies.{HoldsAnew, entered_once, input-Says}
 
 abbrev pub has_name : ℕ → List ℕ → HeldSide → Bool
@@ -114,10 +116,10 @@ earliest_In [] x e = absurd (none_is_some x e)
 earliest_In (h ∷ hs) x e = earlier_one h x hs (earliest hs) (earliest_In hs) e
 
 pub due_in_held : (facts : List Fact) (t : ℕ) (k : HeldSide) → due facts t ≡ Some k → In k (held facts)
-due_in_held facts t k e = In-filter (λ (h : HeldSide). nat_le h.due t) (held facts) k (earliest_In (filter (λ (h : HeldSide). nat_le h.due t) (held facts)) k e)
+due_in_held facts t k e = In-filtered (λ (h : HeldSide). nat_le h.due t) (held facts) k (earliest_In (filter (λ (h : HeldSide). nat_le h.due t) (held facts)) k e)
 
 due_held : (facts : List Fact) (t : ℕ) (k : HeldSide) → due facts t ≡ Some k → In k (held_sides facts)
-due_held facts t k e = In-filter (λ (h : HeldSide). not (list_any (releases h) facts)) (held_sides facts) k (In-filter (λ (h : HeldSide). nat_le h.due t) (held facts) k (earliest_In (filter (λ (h : HeldSide). nat_le h.due t) (held facts)) k e))
+due_held facts t k e = In-filtered (λ (h : HeldSide). not (list_any (releases h) facts)) (held_sides facts) k (In-filtered (λ (h : HeldSide). nat_le h.due t) (held facts) k (earliest_In (filter (λ (h : HeldSide). nat_le h.due t) (held facts)) k e))
 
 -- the order of a held side, at its due moment
 pub record IsOfHeld (facts : List Fact) (e : Entry) : Type 0 where

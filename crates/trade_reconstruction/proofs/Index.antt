@@ -5,7 +5,8 @@ use Rattle.std.proofs.lemmas.Bool.{true≢false}
 use Rattle.std.proofs.lemmas.List.Elements.{All-cons, All-head, All-nil, All-tail, filter-append}
 use Rattle.trade_reconstruction.specs.declared.evidence_event.EvidenceEvent.{EvidenceEvent}
 use Rattle.trade_reconstruction.specs.Indexed.{ArePlaced, IsBucket, at, in_bucket, is_keyed, one_or_none}
-use Rattle.trade_reconstruction.proofs.Members.{found_first, found_later, found_longer, none_is_some, same_some}
+use Rattle.trade_blotter.proofs.Lists.{none_is_some, same_some}
+use Rattle.trade_reconstruction.proofs.Members.{found_first, found_later, found_longer}
 
 -- What a filter keeps decides what is found, and what is picked of each element.
 

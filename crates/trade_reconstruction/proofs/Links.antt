@@ -68,7 +68,9 @@ use Rattle.trade_reconstruction.specs.EventKinds.{asked_in, trigger_in, entered_
 use Rattle.venue_core.specs.Replay.{AreEmitted}
 use Rattle.trade_reconstruction.specs.Lines.{enters_said, is_entry_said, is_sought, link_id, link_of, link_said}
 use Rattle.trade_reconstruction.specs.Emitted.{came_of, words_at, words_from, words_emitted}
-use Rattle.trade_reconstruction.proofs.Members.{In, In-append_cases, In-filter, In-map, found_first, found_longer, found_map, found_passes, found_past, found_picked, none_is_some, picked_from, picked_passes, same_some}
+use Rattle.venue_rules.proofs.Members.{In, In-append_cases, In-find, picked_from}
+use Rattle.trade_blotter.proofs.Lists.{In-filtered, In-map, none_is_some, same_some}
+use Rattle.trade_reconstruction.proofs.Members.{found_first, found_longer, found_map, found_past, found_picked, picked_passes}
 use Rattle.trade_reconstruction.proofs.Says.{IsDeaf, replies_say, shown_silent, what_words}
 use Rattle.trade_reconstruction.proofs.Replies.{HoldsAnew, NoneHolds, Picks, entered_once, entry_picked, input-Says, named_own, named_rests, no_held_facts, or_left, or_right, other_bytes}
 use Rattle.trade_reconstruction.proofs.Holds.{any_In, and_parts, and_true, due_in_held, unused_apart}
@@ -413,7 +415,7 @@ due_or_none m h (Some k) there = let p = there k refl in due_turns m h k p.0 p.1
 input_turns : (m : Market) (h : History) (words : List EvidenceEvent) (n : ℕ) (i : Input) → Known words h → ((k : HeldSide) → In k (held_sides h.facts) → k.order.link ≡ None) → Turns (came_of m words n i) h (answer_input m h i)
 input_turns m h words n (Message taken t) known bare = app_turns m h words n (record { who = taken.from; number = taken.item.number; kind = type_of taken.item.app }) taken.item.app t known
 input_turns m h words n (Tick t) known bare =
-    due_or_none m h (due h.facts t) (λ k e. let there = due_in_held h.facts t k e in (there, bare k (In-filter (λ (x : HeldSide). not (list_any (releases x) h.facts)) (held_sides h.facts) k there)))
+    due_or_none m h (due h.facts t) (λ k e. let there = due_in_held h.facts t k e in (there, bare k (In-filtered (λ (x : HeldSide). not (list_any (releases x) h.facts)) (held_sides h.facts) k there)))
 
 -- Identifiers over every day.
 
@@ -512,7 +514,7 @@ anew_unused before ks k (inr one) i = by (subst (In k) one.1 i)
 apart_after : (before new : List Fact) → Kept before → EntersAnew before new → AreBare (entries new) (held_sides new) → HoldsAnew before (held_sides new) → (k : HeldSide) → In k (held (before ++ new)) → (e : Entry) → In e (entries before ++ entries new)
     → entry_named k.order.who k.order.id e ≡ false
 apart_after before new kept enters are anew k there e i =
-    by (In-append_cases (held_sides before) (held_sides new) k (subst (In k) (filter_map-append held_in_fact before new) (In-filter (λ (x : HeldSide). not (list_any (releases x) (before ++ new))) (held_sides (before ++ new)) k there)))
+    by (In-append_cases (held_sides before) (held_sides new) k (subst (In k) (filter_map-append held_in_fact before new) (In-filtered (λ (x : HeldSide). not (list_any (releases x) (before ++ new))) (held_sides (before ++ new)) k there)))
     (In-append_cases (entries before) (entries new) e i)
   where
     stays : (list_any (releases k) before || list_any (releases k) new) ≡ false
@@ -589,7 +591,7 @@ order_test n w (said.RestedCount x) = refl
 known_from : (words : List EvidenceEvent) (h : History) → Kept h.facts → filter_map linking_in words ≡ map emitted_link (entries h.facts) → Known words h
 known_from words h kept listed who id r e =
     let p : Resting → Bool = λ x. rests x.entry.order.instrument x.entry.order.side x && (x.entry.order.who == who && bytes_eq x.entry.order.id id) in
-    let passes = found_passes p (map (with_left (left h.facts)) (entries h.facts)) r (named_rests (find_order h.facts who id) (find_held h.facts who id) r e) in
+    let passes = In-find p (map (with_left (left h.facts)) (entries h.facts)) r (named_rests (find_order h.facts who id) (find_held h.facts who id) r e) in
     let name = and_parts (r.entry.order.who == who) (bytes_eq r.entry.order.id id) (and_parts (rests r.entry.order.instrument r.entry.order.side r) (r.entry.order.who == who && bytes_eq r.entry.order.id id) passes.1).1 in
     let one = In-map (with_left (left h.facts)) (entries h.facts) r passes.0 in
     let there : In r.entry (entries h.facts) = subst (λ (x : Entry). In x (entries h.facts)) (ap (λ (x : Resting). x.entry) one.2) one.1 in

@@ -1,95 +1,13 @@
 -- Members of lists, what is found in them, and things numbered by their places.
-use Rattle.std.proofs.Common.{◌≡◌, refl, sym, ap, subst, ◌∙◌, ◌⊎◌, inl, inr, ℕ, zero, suc, ◌+◌, ◌<◌, ◌==◌, Bool, true, false, cond, List, [], ◌∷◌, ◌++◌, map, length, filter, filter_map, find, slice_get, slice_index_or, Contains, Option, Some, None, eq-eqb, ne_eqb, arith}
+use Rattle.std.proofs.Common.{◌≡◌, refl, ap, ◌∙◌, ◌⊎◌, inl, inr, ℕ, zero, suc, ◌+◌, ◌<◌, ◌==◌, Bool, true, false, cond, List, [], ◌∷◌, ◌++◌, map, length, filter_map, find, slice_get, Option, Some, None, eq-eqb, ne_eqb, arith}
 use Rattle.std.specs.List.{cons_option}
-
-pub none_is_some : {A : Type 0} (a : A) → None ≡ Some a → ⊥
-none_is_some a e = cc
-
-pub same_some : {A : Type 0} (a b : A) → Some a ≡ Some b → a ≡ b
-same_some a b e = cc
-
--- x is in the list
-abbrev pub In : {X : Type 0} → X → List X → Type 0
-In x [] = ⊥
-In x (y ∷ ys) = (y ≡ x) ⊎ In x ys
-
-in_at : {X : Type 0} (xs : List X) (x : X) (k : ℕ) → k < length xs → slice_index_or xs k x ≡ x → In x xs
-in_at [] x k lt e = absurd (omega (arith, lt))
-in_at (y ∷ ys) x zero lt e = inl e
-in_at (y ∷ ys) x (suc k) lt e = inr (in_at ys x k (omega (arith, lt)) e)
-
-pub In-from_Contains : {X : Type 0} (xs : List X) (x : X) → Contains xs x → In x xs
-In-from_Contains xs x c = in_at xs x c.0 c.1 c.2
-
-pub Contains-from_In : {X : Type 0} (xs : List X) (x : X) → In x xs → Contains xs x
-Contains-from_In [] x i = absurd i
-Contains-from_In (y ∷ ys) x (inl e) = (0, omega arith, e)
-Contains-from_In (y ∷ ys) x (inr i) = let c : Contains ys x = Contains-from_In ys x i in (suc c.0, omega (arith, c.1), c.2)
-
-pub In-append_left : {X : Type 0} (xs ys : List X) (x : X) → In x xs → In x (xs ++ ys)
-In-append_left [] ys x i = absurd i
-In-append_left (z ∷ zs) ys x (inl e) = inl e
-In-append_left (z ∷ zs) ys x (inr i) = inr (In-append_left zs ys x i)
-
-pub In-append_right : {X : Type 0} (xs ys : List X) (x : X) → In x ys → In x (xs ++ ys)
-In-append_right [] ys x i = i
-In-append_right (z ∷ zs) ys x i = inr (In-append_right zs ys x i)
-
-pub In-append_cases : {X : Type 0} (xs ys : List X) (x : X) → In x (xs ++ ys) → In x xs ⊎ In x ys
-In-append_cases [] ys x i = inr i
-In-append_cases (z ∷ zs) ys x (inl e) = inl (inl e)
-In-append_cases (z ∷ zs) ys x (inr i) = later (In-append_cases zs ys x i)
-  where
-    later : In x zs ⊎ In x ys → In x (z ∷ zs) ⊎ In x ys
-    later (inl k) = inl (inr k)
-    later (inr k) = inr k
-
-pub In-map : {X Y : Type 0} (f : X → Y) (xs : List X) (y : Y) → In y (map f xs) → (x : X) × In x xs × (f x ≡ y)
-In-map f [] y i = absurd i
-In-map f (x ∷ xs) y (inl e) = (x, inl refl, e)
-In-map f (x ∷ xs) y (inr i) = let k = In-map f xs y i in (k.0, inr k.1, k.2)
+use Rattle.venue_rules.proofs.Members.{In, Places, Places-above}
+use Rattle.trade_blotter.proofs.Lists.{none_is_some, same_some}
 
 pub map_In : {X Y : Type 0} (f : X → Y) (xs : List X) (x : X) → In x xs → In (f x) (map f xs)
 map_In f [] x i = absurd i
 map_In f (z ∷ zs) x (inl e) = inl (ap f e)
 map_In f (z ∷ zs) x (inr i) = inr (map_In f zs x i)
-
-filter_cons_In : {X : Type 0} (p : X → Bool) (y : X) (ys : List X) (x : X) (b : Bool) → (In x (filter p ys) → In x ys) → In x (cond b (y ∷ filter p ys) (filter p ys)) → In x (y ∷ ys)
-filter_cons_In p y ys x true rec (inl e) = inl e
-filter_cons_In p y ys x true rec (inr i) = inr (rec i)
-filter_cons_In p y ys x false rec i = inr (rec i)
-
-pub In-filter : {X : Type 0} (p : X → Bool) (xs : List X) (x : X) → In x (filter p xs) → In x xs
-In-filter p [] x i = absurd i
-In-filter p (y ∷ ys) x i = filter_cons_In p y ys x (p y) (In-filter p ys x) i
-
-pub kept_all : {X : Type 0} (p : X → Bool) (xs : List X) → ((x : X) → In x xs → p x ≡ true) → filter p xs ≡ xs
-kept_all p [] h = refl
-kept_all p (y ∷ ys) h = ap (λ (b : Bool). cond b (y ∷ filter p ys) (filter p ys)) (h y (inl refl)) ∙ ap (λ l. y ∷ l) (kept_all p ys (λ x i. h x (inr i)))
-
-pub kept_none : {X : Type 0} (p : X → Bool) (xs : List X) → ((x : X) → In x xs → p x ≡ false) → filter p xs ≡ []
-kept_none p [] h = refl
-kept_none p (y ∷ ys) h = ap (λ (b : Bool). cond b (y ∷ filter p ys) (filter p ys)) (h y (inl refl)) ∙ kept_none p ys (λ x i. h x (inr i))
-
--- what `filter_map` picks
-
-In-cons_option : {Y : Type 0} (o : Option Y) (ys : List Y) (y : Y) → In y ys → In y (cons_option o ys)
-In-cons_option None ys y i = i
-In-cons_option (Some w) ys y i = inr i
-
-pub In-filter_map : {X Y : Type 0} (h : X → Option Y) (xs : List X) (x : X) (y : Y) → In x xs → h x ≡ Some y → In y (filter_map h xs)
-In-filter_map h [] x y i e = absurd i
-In-filter_map h (z ∷ zs) x y (inl same) e = subst (λ o. In y (cons_option o (filter_map h zs))) (sym (ap h same ∙ e)) (inl refl)
-In-filter_map h (z ∷ zs) x y (inr i) e = In-cons_option (h z) (filter_map h zs) y (In-filter_map h zs x y i e)
-
-picked_cons : {X Y : Type 0} (h : X → Option Y) (z : X) (zs : List X) (y : Y) (o : Option Y) → h z ≡ o → (In y (filter_map h zs) → (x : X) × In x zs × (h x ≡ Some y)) → In y (cons_option o (filter_map h zs)) → (x : X) × In x (z ∷ zs) × (h x ≡ Some y)
-picked_cons h z zs y None e rec i = let k = rec i in (k.0, inr k.1, k.2)
-picked_cons h z zs y (Some w) e rec (inl same) = (z, inl refl, e ∙ ap Some same)
-picked_cons h z zs y (Some w) e rec (inr i) = let k = rec i in (k.0, inr k.1, k.2)
-
-pub picked_from : {X Y : Type 0} (h : X → Option Y) (xs : List X) (y : Y) → In y (filter_map h xs) → (x : X) × In x xs × (h x ≡ Some y)
-picked_from h [] y i = absurd i
-picked_from h (z ∷ zs) y i = picked_cons h z zs y (h z) refl (picked_from h zs y) i
 
 -- what `find` finds
 
@@ -111,14 +29,6 @@ pub found_map : {X Y : Type 0} (f : X → Y) (q : Y → Bool) (xs : List X) (x :
 found_map f q [] x h = absurd (none_is_some x h)
 found_map f q (z ∷ zs) x h =
     (elim (q (f z)) as (λ b. cond b (Some z) (find (λ y. q (f y)) zs) ≡ Some x → cond b (Some (f z)) (find q (map f zs)) ≡ Some (f x)) [ true ↦ λ k. ap (λ y. Some (f y)) (same_some z x k) | false ↦ found_map f q zs x ]) h
-
-found_cons : {X : Type 0} (p : X → Bool) (y x : X) (ys : List X) (b : Bool) → p y ≡ b → (find p ys ≡ Some x → In x ys × (p x ≡ true)) → cond b (Some y) (find p ys) ≡ Some x → In x (y ∷ ys) × (p x ≡ true)
-found_cons p y x ys true h rest e = (inl (same_some y x e), ap p (sym (same_some y x e)) ∙ h)
-found_cons p y x ys false h rest e = (inr (rest e).0, (rest e).1)
-
-pub found_passes : {X : Type 0} (p : X → Bool) (xs : List X) (x : X) → find p xs ≡ Some x → In x xs × (p x ≡ true)
-found_passes p [] x e = absurd (none_is_some x e)
-found_passes p (y ∷ ys) x e = found_cons p y x ys (p y) refl (found_passes p ys x) e
 
 -- what is picked passes the test
 abbrev pub picked_passes : {Y : Type 0} → (Y → Bool) → Option Y → Bool
@@ -177,15 +87,6 @@ slice_within (z ∷ zs) (suc k) x e = let h = slice_within zs k x e in omega (ar
 
 -- Things numbered by their places, from n + 1 on.
 
-abbrev pub Places : {X : Type 0} → (X → ℕ) → ℕ → List X → Type 0
-Places num n [] = Unit {0}
-Places num n (x ∷ xs) = (num x ≡ n + 1) × Places num (n + 1) xs
-
-pub Places-above : {X : Type 0} (num : X → ℕ) (n : ℕ) (xs : List X) → Places num n xs → (x : X) → In x xs → n < num x
-Places-above num n [] p x i = absurd i
-Places-above num n (y ∷ ys) p x (inl same) = let e : num x ≡ n + 1 = ap num (sym same) ∙ p.0 in omega (arith, e)
-Places-above num n (y ∷ ys) p x (inr i) = let lt : n + 1 < num x = Places-above num (n + 1) ys p.1 x i in omega (arith, lt)
-
 pub Places-found : {X : Type 0} (num : X → ℕ) (n : ℕ) (xs : List X) → Places num n xs → (x : X) → In x xs → find (λ y. num y == num x) xs ≡ Some x
 Places-found num n [] p x i = absurd i
 Places-found num n (y ∷ ys) p x (inl same) = found_first (λ z. num z == num x) y ys (eq-eqb (num y) (num x) (ap num same)) ∙ ap Some same
@@ -208,7 +109,3 @@ Places-from num n (x ∷ xs) h = (h 0 x refl ∙ here n, Places-from num (n + 1)
 
     next : (a k : ℕ) → a + suc k + 1 ≡ a + 1 + k + 1
     next a k = omega arith
-
-pub Places-same : {X : Type 0} (num : X → ℕ) (n : ℕ) (xs : List X) → Places num n xs → (x y : X) → In x xs → In y xs → num x ≡ num y → x ≡ y
-Places-same num n xs p x y i j e =
-    same_some x y (sym (Places-found num n xs p x i) ∙ (ap (λ k. find (λ z. num z == k) xs) e ∙ Places-found num n xs p y j))

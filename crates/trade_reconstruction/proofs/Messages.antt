@@ -3,7 +3,8 @@ use Rattle.std.proofs.Common.{◌≡◌, refl, sym, ap, ◌∙◌, ℕ, zero, su
 use Rattle.venue_rules.specs.declared.trail.TrailRow.{TrailRow}
 use Rattle.trade_reconstruction.specs.Laws.{AreDistinct, MessagesAreOfRows}
 use Rattle.trade_reconstruction.specs.Lines.{is_row, moment_in, row_at, sent_of, this_row}
-use Rattle.trade_reconstruction.proofs.Members.{found_first, found_later, none_is_some, same_some}
+use Rattle.trade_blotter.proofs.Lists.{none_is_some, same_some}
+use Rattle.trade_reconstruction.proofs.Members.{found_first, found_later}
 
 -- the row with a number is found
 row_found : (rs : List TrailRow) (k : ℕ) (row : TrailRow) → AreDistinct rs → slice_get rs k ≡ Some row → find (is_row row.n) rs ≡ Some row

@@ -36,7 +36,9 @@ use Rattle.trade_reconstruction.specs.Lines.{are_linked, both_lines, enters_said
 use Rattle.venue_core.specs.Replay.{AreEmitted}
 use Rattle.trade_reconstruction.specs.Standing.{prices_of, stood_words}
 use Rattle.trade_reconstruction.specs.Emitted.{stood_emitted, numbered_in, trade_numbered, words_emitted}
-use Rattle.trade_reconstruction.proofs.Members.{Contains-from_In, In, In-append_cases, In-append_left, In-append_right, In-filter_map, In-from_Contains, In-map, Places, Places-found, Places-from, Places-same, Places-unmap, found_first, found_later, found_map, found_picked, map_In, none_is_some, picked_from, picked_passes, same_some, slice_In, slice_map, slice_unmap}
+use Rattle.venue_rules.proofs.Members.{Contains-from_In, In, In-append_cases, In-append_left, In-append_right, In-filter_map, In-from_Contains, Places, Places-one, picked_from}
+use Rattle.trade_blotter.proofs.Lists.{In-map, none_is_some, same_some}
+use Rattle.trade_reconstruction.proofs.Members.{Places-found, Places-from, Places-unmap, found_first, found_later, found_map, found_picked, map_In, picked_passes, slice_In, slice_map, slice_unmap}
 use Rattle.trade_reconstruction.proofs.Says.{HeardEntry, HeardFill, HeardHit, HeardHold, entry_in, entry_of_said, fill_in, fill_of_said, hold_in, hold_of_said, trade_of_said, traded_in}
 use Rattle.trade_reconstruction.proofs.Replies.{AreOf, IsOf, fills_emitted, hit_emitted, hits_of, hits_emitted, input-Says, is_tick_input, moment_at, pair_emitted, price_at, emitted_hold}
 use Rattle.trade_reconstruction.proofs.Days.{IsAdded, added, added_are, day_entries, day_fills, day_hits, day_holds, entry_at, is_added, it, map_map, trade_at}
@@ -461,7 +463,7 @@ are_entries facts law places before x old new follows at =
       old_is = k.5;
       new_is = k.4;
       apart = λ same.
-          let one : r ≡ e = Places-same (λ (y : Entry). y.number) 0 (entries facts) places r e r_in e_in (k.5 ∙ (same ∙ sym k.4)) in
+          let one : r ≡ e = Places-one (λ (y : Entry). y.number) 0 (entries facts) places r e r_in e_in (k.5 ∙ (same ∙ sym k.4)) in
           not_opposite e.order.side (ap (λ (y : Entry). is_side y.order.side (opposite e.order.side)) (sym one) ∙ side);
     }
   where
@@ -534,8 +536,8 @@ book_trades_have_orders best numbers m rs is number t emitted numbered placed =
     let stood = stood_once m number no_history rs is emitted (number - 1) old new q.0 q.1 at from in
     let answered = (answer_input m (run m stood.earlier).history q.0.1).facts in
     let trigger = picked_from trade_in_fact answered q.0.2 stood.made in
-    let met_one : stood.of ≡ both.rested = Places-same (λ (e : Entry). e.number) 0 (entries facts) in_places stood.of both.rested stood.of_in both.rested_in (stood.number_is ∙ sym both.old_is) in
-    let together : paired_with q.0 own.0 ≡ entered.0 = Places-same (λ (p : TrailRow × Input × Entry). p.2.number) 0 all places (paired_with q.0 own.0) entered.0 own.1 entered.1 (own.2 ∙ sym new_is) in
+    let met_one : stood.of ≡ both.rested = Places-one (λ (e : Entry). e.number) 0 (entries facts) in_places stood.of both.rested stood.of_in both.rested_in (stood.number_is ∙ sym both.old_is) in
+    let together : paired_with q.0 own.0 ≡ entered.0 = Places-one (λ (p : TrailRow × Input × Entry). p.2.number) 0 all places (paired_with q.0 own.0) entered.0 own.1 entered.1 (own.2 ∙ sym new_is) in
     record {
       trade = x.trade;
       rested = rested.0.2;

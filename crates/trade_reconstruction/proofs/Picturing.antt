@@ -30,7 +30,9 @@ use Rattle.trade_reconstruction.specs.EventKinds.{trigger_in, words_in, words_of
 use Rattle.trade_reconstruction.specs.Emitted.{came_of, words_at, words_emitted, words_from}
 use Rattle.trade_reconstruction.specs.Laws.{IsShown, RestingOrdersAreShown, shown_words}
 use Rattle.trade_reconstruction.proofs.Holds.{run_grows}
-use Rattle.trade_reconstruction.proofs.Members.{Contains-from_In, In, In-append_cases, In-filter_map, In-from_Contains, found_longer, found_passes, none_is_some, picked_from, same_some}
+use Rattle.venue_rules.proofs.Members.{Contains-from_In, In, In-append_cases, In-filter_map, In-find, In-from_Contains, picked_from}
+use Rattle.trade_blotter.proofs.Lists.{none_is_some, same_some}
+use Rattle.trade_reconstruction.proofs.Members.{found_longer}
 use Rattle.trade_reconstruction.proofs.Quoting.{AllQuiet, Quiet, app_quiet, input_quiet, room_fact_in}
 
 -- the reply that shows a requester what rests
@@ -69,7 +71,7 @@ quote_at : (m : Market) (h : History) (words : List EvidenceEvent) (n who number
 unfolding trigger_in
 quote_at m h words n who number era t d q there none =
     let s : Sender = record { who = who; number = number; kind = type_of (Quote d) } in
-    let k = quote_pictures m h s d t (find_room h.facts d.request_id) (λ r e. (found_passes (λ (x : Room). bytes_eq (printed 82 x.number) d.request_id) (rooms h.facts) r e).0) q there none in
+    let k = quote_pictures m h s d t (find_room h.facts d.request_id) (λ r e. (In-find (λ (x : Room). bytes_eq (printed 82 x.number) d.request_id) (rooms h.facts) r e).0) q there none in
     (k.0, k.1, k.2, k.3, d.quote_id, refl)
 
 message_pictures : (m : Market) (h : History) (words : List EvidenceEvent) (n who number era t : ℕ) (a : App) → PicturesAt m h words n (Message (record { from = who; item = record { era = era; number = number; app = a } }) t)
@@ -188,7 +190,7 @@ first_stays : (facts more : List Fact) (room : ℕ) (p q : RoomQuote) → first_
 first_stays facts more room p q here whole =
     let test : RoomQuote → Bool = λ x. x.room == room in
     let longer : first_quote (facts ++ more) room ≡ Some p = ap (λ qs. find test qs) (filter_map-append quote_in_fact facts more) ∙ found_longer test (quotes facts) (quotes more) p here in
-    subst (λ (x : RoomQuote). In x (quotes facts)) (same_some p q (sym longer ∙ whole)) (found_passes test (quotes facts) p here).0
+    subst (λ (x : RoomQuote). In x (quotes facts)) (same_some p q (sym longer ∙ whole)) (In-find test (quotes facts) p here).0
 
 by_first : (m : Market) (h : History) (words : List EvidenceEvent) (r : TrailRow) (j : Input) (rs : List TrailRow) (js : List Input) (q : RoomQuote) (o : Option RoomQuote) → first_quote h.facts q.room ≡ o
     → first_quote (run_from m h (j ∷ js)).history.facts q.room ≡ Some q → In q (quotes (answer_input m h j).facts) → Whole m h words (r ∷ rs) (j ∷ js) q

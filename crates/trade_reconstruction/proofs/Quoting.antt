@@ -45,7 +45,8 @@ use Rattle.trade_reconstruction.specs.EventKinds.{quote_id_in, word, words_in, w
 use Rattle.trade_reconstruction.specs.Emitted.{came_of, words_at, words_emitted, words_from}
 use Rattle.trade_reconstruction.specs.Laws.{IsReported, QuotesAreReported, quoted_as}
 use Rattle.trade_reconstruction.proofs.Holds.{run_grows}
-use Rattle.trade_reconstruction.proofs.Members.{Contains-from_In, In, In-append_cases, In-append_left, In-append_right, In-filter_map, In-from_Contains, found_passes, none_is_some, picked_from, same_some}
+use Rattle.venue_rules.proofs.Members.{Contains-from_In, In, In-append_cases, In-append_left, In-append_right, In-filter_map, In-find, In-from_Contains, picked_from}
+use Rattle.trade_blotter.proofs.Lists.{none_is_some, same_some}
 
 -- An answer without quotes.
 
@@ -167,7 +168,7 @@ pub input_quiet : (m : Market) (h : History) (t : ℕ) → Quiet (answer_input m
 input_quiet m h t = quiet_due m h (due h.facts t)
 
 app_sends : (m : Market) (h : History) (s : Sender) (x : App) (t : ℕ) → Sends m h (answer_app m h s x t)
-app_sends m h s (Quote d) t = quote_sends m h s d t (find_room h.facts d.request_id) (λ r e. (found_passes (λ (x : Room). bytes_eq (printed 82 x.number) d.request_id) (rooms h.facts) r e).0)
+app_sends m h s (Quote d) t = quote_sends m h s d t (find_room h.facts d.request_id) (λ r e. (In-find (λ (x : Room). bytes_eq (printed 82 x.number) d.request_id) (rooms h.facts) r e).0)
 app_sends m h s (QuoteRequest d) t = quiet_sends m h (answer_app m h s (QuoteRequest d) t) (app_quiet m h s (QuoteRequest d) t tt)
 app_sends m h s (QuoteCancel d) t = quiet_sends m h (answer_app m h s (QuoteCancel d) t) (app_quiet m h s (QuoteCancel d) t tt)
 app_sends m h s (QuoteResponse d) t = quiet_sends m h (answer_app m h s (QuoteResponse d) t) (app_quiet m h s (QuoteResponse d) t tt)

@@ -62,7 +62,8 @@ use Rattle.trade_reconstruction.specs.EventKinds.{trigger_in, is_tick, price_in}
 use Rattle.trade_reconstruction.specs.Standing.{met_of}
 use Rattle.venue_core.specs.Replay.{Emits}
 use Rattle.trade_reconstruction.specs.Emitted.{came_of}
-use Rattle.trade_reconstruction.proofs.Members.{In, In-append_left, In-append_right, In-filter, In-map, found_passes}
+use Rattle.venue_rules.proofs.Members.{In, In-append_left, In-append_right, In-find}
+use Rattle.trade_blotter.proofs.Lists.{In-filtered, In-map}
 use Rattle.trade_reconstruction.proofs.Says.{HeardAsked, HeardEntry, HeardFill, HeardHit, HeardHold, asking_by, entry_by, fill_by, hit_by, hold_by, hold_from}
 
 -- What facts are to be reported as.
@@ -244,9 +245,9 @@ fill_entered facts o f i =
     let qs = shares o.quantity lefts in
     let all = map (with_left (left facts)) (entries facts) in
     let here = filter (rests o.instrument (opposite o.side)) all in
-    let paired_in = In-filter (λ (g : Fill). nat_lt 0 g.quantity) (paired rs qs) f (unless (is_killed o.life o.quantity (sum_by (λ (r : Resting). r.left) rs)) f (filter (λ (g : Fill). nat_lt 0 g.quantity) (paired rs qs)) i) in
-    let rests_in = In-filter (λ (r : Resting). accepts o.side o.price r.entry.order.price) (ranked (opposite o.side) here) f.resting (In-paired rs qs f paired_in) in
-    let entered = In-map (with_left (left facts)) (entries facts) f.resting (In-filter (rests o.instrument (opposite o.side)) all f.resting (In-ranked (opposite o.side) here f.resting rests_in)) in
+    let paired_in = In-filtered (λ (g : Fill). nat_lt 0 g.quantity) (paired rs qs) f (unless (is_killed o.life o.quantity (sum_by (λ (r : Resting). r.left) rs)) f (filter (λ (g : Fill). nat_lt 0 g.quantity) (paired rs qs)) i) in
+    let rests_in = In-filtered (λ (r : Resting). accepts o.side o.price r.entry.order.price) (ranked (opposite o.side) here) f.resting (In-paired rs qs f paired_in) in
+    let entered = In-map (with_left (left facts)) (entries facts) f.resting (In-filtered (rests o.instrument (opposite o.side)) all f.resting (In-ranked (opposite o.side) here f.resting rests_in)) in
     subst (λ (e : Entry). In e (entries facts)) (ap (λ (r : Resting). r.entry) entered.2) entered.1
 
 -- An order that enters.
@@ -536,7 +537,7 @@ named_rests None k r e = sym (held_rests_not k) ∙ ap rest_of e
 pub named_own : (h : History) (who : ℕ) (id : List ℕ) (r : Resting) → named h who id ≡ IsResting r → who ≡ r.entry.order.who
 named_own h who id r e =
     let p : Resting → Bool = λ x. rests x.entry.order.instrument x.entry.order.side x && (x.entry.order.who == who && bytes_eq x.entry.order.id id) in
-    let passes = (found_passes p (map (with_left (left h.facts)) (entries h.facts)) r (named_rests (find_order h.facts who id) (find_held h.facts who id) r e)).1 in
+    let passes = (In-find p (map (with_left (left h.facts)) (entries h.facts)) r (named_rests (find_order h.facts who id) (find_held h.facts who id) r e)).1 in
     sym (eqb-true r.entry.order.who who (and_left (r.entry.order.who == who) (bytes_eq r.entry.order.id id) (and_right (rests r.entry.order.instrument r.entry.order.side r) (r.entry.order.who == who && bytes_eq r.entry.order.id id) passes)))
 
 -- Crosses, and held sides as they enter.
@@ -751,7 +752,7 @@ response_to-Says w h s d t (Some q) is = response_in-Says w h s q d t (room_by_n
 response-Says : (w : Here) (h : History) (s : Sender) (d : ResponseMessage) (t : ℕ) → w.trigger ≡ trigger.Response d.quote_id → Says w h (answer_response w.market h s d t)
 response-Says w h s d t is = first_of-Says w h (kind_refusals s d) _ ((refl, (refl, (refl, (tt, (inl refl, (refl, (tt, refl))))))), tt) (λ n.
     response_to-Says w h s d t (find_quote h.facts d.quote_id)
-    (λ x e. is ∙ ap (λ (id : List ℕ). trigger.Response id) (sym ((bytes_eq-Decides (printed 81 x.number) d.quote_id).0 (found_passes (λ (y : RoomQuote). bytes_eq (printed 81 y.number) d.quote_id) (quotes h.facts) x e).1))))
+    (λ x e. is ∙ ap (λ (id : List ℕ). trigger.Response id) (sym ((bytes_eq-Decides (printed 81 x.number) d.quote_id).0 (In-find (λ (y : RoomQuote). bytes_eq (printed 81 y.number) d.quote_id) (quotes h.facts) x e).1))))
 
 market_data-Says : (w : Here) (h : History) (s : Sender) (d : MarketDataMessage) → Says w h (answer_market_data w.market h s d)
 market_data-Says w h s d = first_of-Says w h (market_data_refusals w.market s d) (market_data w.market h s d) ((refl, (refl, (refl, (tt, (inl refl, (refl, (tt, refl))))))), ((refl, (refl, (refl, (tt, (inl refl, (refl, (tt, refl))))))), ((refl, (refl, (refl, (tt, (inl refl, (refl, (tt, refl))))))), tt))) (λ n. (refl, (refl, (refl, (tt, (inl refl, (refl, (tt, refl))))))))

@@ -23,7 +23,9 @@ use Rattle.trade_reconstruction.specs.Found.{met_emitted}
 use Rattle.trade_reconstruction.specs.Standing.{later, met_after, met_by, met_filled, met_of, met_what, prices_of, stood_met, stood_words}
 use Rattle.venue_core.specs.Replay.{AreEmitted, Emits}
 use Rattle.trade_reconstruction.specs.Emitted.{stood_on}
-use Rattle.trade_reconstruction.proofs.Members.{In, In-append_left, none_is_some, same_some, slice_In, slice_append, slice_map, slice_unmap, slice_within}
+use Rattle.venue_rules.proofs.Members.{In, In-append_left}
+use Rattle.trade_blotter.proofs.Lists.{none_is_some, same_some}
+use Rattle.trade_reconstruction.proofs.Members.{slice_In, slice_append, slice_map, slice_unmap, slice_within}
 use Rattle.trade_reconstruction.proofs.Says.{HeardFill, fill_by, fill_from, fill_what}
 use Rattle.trade_reconstruction.proofs.Replies.{FillsOf, at_row, fills_emitted, input-Says, met_in, met_in_what, pair_emitted}
 use Rattle.trade_reconstruction.proofs.Days.{added, next_trades}

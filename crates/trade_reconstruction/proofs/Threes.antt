@@ -8,7 +8,7 @@ use Rattle.trade_reconstruction.specs.declared.evidence_event.EvidenceEvent.{Evi
 use Rattle.trade_reconstruction.specs.declared.unrelated.Three.{Three}
 use Rattle.trade_reconstruction.specs.Lines.{is_asked, recipients_of}
 use Rattle.trade_reconstruction.specs.Unrelated.{has_second, has_third, three_of, with_first, with_second, with_third}
-use Rattle.trade_reconstruction.proofs.Members.{Contains-from_In, found_passes}
+use Rattle.venue_rules.proofs.Members.{Contains-from_In, In-find}
 
 some_found : (p : ℕ → Bool) (x : ℕ) (xs : List ℕ) (b : Bool) → (list_any p xs ≡ true → (y : ℕ) × (find p xs ≡ Some y)) → (b || list_any p xs) ≡ true → (y : ℕ) × (cond b (Some x) (find p xs) ≡ Some y)
 some_found p x xs true rest e = (x, refl)
@@ -32,13 +32,13 @@ pub three_found : (file : ParticipantFile) (requester : ℕ) (rs : List ℕ) →
 three_found file requester rs there_are =
     let first : ℕ → Bool = λ a. has_second file requester a rs in
     let a = any_found first rs there_are in
-    let of_a = found_passes first rs a.0 a.1 in
+    let of_a = In-find first rs a.0 a.1 in
     let second : ℕ → Bool = λ b. has_third file requester a.0 b rs in
     let b = any_found second rs of_a.1 in
-    let of_b = found_passes second rs b.0 b.1 in
+    let of_b = In-find second rs b.0 b.1 in
     let third : ℕ → Bool = are_unrelated file requester a.0 b.0 in
     let c = any_found third rs of_b.1 in
-    let of_c = found_passes third rs c.0 c.1 in
+    let of_c = In-find third rs c.0 c.1 in
     record {
       three = record { first = a.0; second = b.0; third = c.0 };
       is = ap (with_first file requester rs) a.1 ∙ (ap (with_second file requester a.0 rs) b.1 ∙ ap (with_third a.0 b.0) c.1);

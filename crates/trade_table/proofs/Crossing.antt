@@ -38,7 +38,8 @@ use Rattle.trade_table.specs.Executions.{taken_in}
 use Rattle.trade_table.specs.Laws.{CameFrom, IsCross, IsCrossNamed, side_due}
 use Rattle.trade_table.specs.Sources.{cross_joined, cross_known, cross_of, crossed_in, joins, known_at, known_by, newest, or, other_side, quote_known, quote_sent, quoted_in, side_entered, side_what}
 use Rattle.trade_table.proofs.Learning.{All, NoSide, accepted_adds, app_sides, due_or_none_adds}
-use Rattle.trade_table.proofs.Members.{In, Contains-from_In, In-append_cases, In-append_left, In-append_right, In-filter, In-from_Contains, none_is_some, picked_from, picked_to, same_some}
+use Rattle.venue_rules.proofs.Members.{Contains-from_In, In, In-append_cases, In-append_left, In-append_right, In-filter_map, In-from_Contains, picked_from}
+use Rattle.trade_blotter.proofs.Lists.{In-filtered, none_is_some, same_some}
 
 -- Booleans.
 
@@ -106,7 +107,7 @@ In-earliest [] k e = absurd (none_is_some k e)
 In-earliest (h ∷ hs) k e = In-earlier h (earliest hs) hs k (λ j. In-earliest hs j) e
 
 due_is_held : (fs : List Fact) (t : ℕ) (k : HeldSide) → due fs t ≡ Some k → In k (held_sides fs)
-due_is_held fs t k e = In-filter _ (held_sides fs) k (In-filter _ (held fs) k (In-earliest _ k e))
+due_is_held fs t k e = In-filtered _ (held_sides fs) k (In-filtered _ (held fs) k (In-earliest _ k e))
 
 side_due_held : (h : History) (i : Input) (k : HeldSide) → side_due h i ≡ Some k → In k (held_sides h.facts)
 side_due_held h (Message taken t) k e = absurd (none_is_some k e)
@@ -128,7 +129,7 @@ cross_is_held m is order k x =
     let i = Message x.taken x.at in
     let a = answer_input m h i in
     let there = in_run m (after h a) x.later (fact.Held k) (In-append_right h.facts a.facts (fact.Held k) (In-from_Contains a.facts (fact.Held k) x.was_held)) in
-    picked_to held_in (run m is).history.facts (fact.Held k) k (subst (λ (g : History). In (fact.Held k) g.facts) (sym (ap (λ (l : List Input). (run m l).history) x.inputs ∙ runs_join m no_history x.earlier (i ∷ x.later))) there) refl
+    In-filter_map held_in (run m is).history.facts (fact.Held k) k (subst (λ (g : History). In (fact.Held k) g.facts) (sym (ap (λ (l : List Input). (run m l).history) x.inputs ∙ runs_join m no_history x.earlier (i ∷ x.later))) there) refl
 
 -- One input more.
 
@@ -416,7 +417,7 @@ kept_still m is ks new i none still before = record {
     by order side x (inl s) = found_more ks new order side (before.complete order side (cross_in m (is ++ i ∷ []) is order side x s.0 s.1))
     by order side x (inr s) =
         let a = answer_input m (run m is).history i in
-        absurd (none_in (held_sides a.facts) side still (picked_to held_in a.facts (fact.Held side) side (at_last m is i x.earlier (Message x.taken x.at) (fact.Held side) s.0 s.1 x.was_held) refl))
+        absurd (none_in (held_sides a.facts) side still (In-filter_map held_in a.facts (fact.Held side) side (at_last m is i x.earlier (Message x.taken x.at) (fact.Held side) s.0 s.1 x.was_held) refl))
 
 alone_more : (fs : List Fact) (side : HeldSide) → is_order_id_used fs side.order.who side.order.id ≡ false → Alone (held_sides fs) → Alone (held_sides fs ++ side ∷ [])
 alone_more fs side fresh before j k a b who id = by (In-append_cases (held_sides fs) (side ∷ []) j a) (In-append_cases (held_sides fs) (side ∷ []) k b)
@@ -484,8 +485,8 @@ kept_crossed m is ks taken t d app c before = record {
     by order side x (inl s) = found_more ks new order side (before.complete order side (cross_in m (is ++ i ∷ []) is order side x s.0 s.1))
     by order side x (inr s) =
         let there = λ (f : Fact). at_last m is i x.earlier (Message x.taken x.at) f s.0 s.1 in
-        let own : c.entry ≡ x.entry = only_in (entries a.facts) c.entry x.entry c.only (picked_to entry_in a.facts (fact.Entered x.entry) x.entry (there (fact.Entered x.entry) x.entered) refl) in
-        let held : c.side ≡ side = only_in (held_sides a.facts) c.side side c.sides (picked_to held_in a.facts (fact.Held side) side (there (fact.Held side) x.was_held) refl) in
+        let own : c.entry ≡ x.entry = only_in (entries a.facts) c.entry x.entry c.only (In-filter_map entry_in a.facts (fact.Entered x.entry) x.entry (there (fact.Entered x.entry) x.entered) refl) in
+        let held : c.side ≡ side = only_in (held_sides a.facts) c.side side c.sides (In-filter_map held_in a.facts (fact.Held side) side (there (fact.Held side) x.was_held) refl) in
         (c.kept, In-append_right ks new (known.Cross c.kept) (inl refl), c.order ∙ (ap (λ (e : Entry). e.number) own ∙ x.number_is), c.who ∙ ap (λ (k : HeldSide). k.order.who) held, c.second ∙ ap (λ (k : HeldSide). k.order.id) held)
 
 pub input_kept : (m : Market) (is : List Input) (ks : List Known) (i : Input) → AreKept m is ks → AreKept m (is ++ i ∷ []) (ks ++ known_at (taken_in i) (answer_input m (run m is).history i).replies)

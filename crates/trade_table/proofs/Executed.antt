@@ -24,7 +24,8 @@ use Rattle.trade_table.specs.Laws.{AreCrossed, HasExecution, IsMade, IsSource}
 use Rattle.trade_table.specs.Sources.{known_at, made_at}
 use Rattle.trade_table.proofs.Crossing.{AreKept, cross_named, input_kept, nothing_kept}
 use Rattle.trade_table.proofs.Learning.{AreKnown, input_known}
-use Rattle.trade_table.proofs.Members.{In, Contains-from_In, In-append_left, none_is_some, picked_from, same_some}
+use Rattle.venue_rules.proofs.Members.{Contains-from_In, In, In-append_left, picked_from}
+use Rattle.trade_blotter.proofs.Lists.{none_is_some, same_some}
 use Rattle.trade_table.proofs.Reported.{Aligned, IsJoined, IsReported, input_reported, source_within}
 
 -- the facts of inputs, from a history on

@@ -51,7 +51,8 @@ use Rattle.trade_table.specs.declared.execution.Known.{Known}
 use Rattle.trade_table.specs.declared.execution.Known.TheVariants.{Quote as QuoteKnown}
 use Rattle.trade_table.specs.Executions.{taken_in}
 use Rattle.trade_table.specs.Sources.{cross_known, crossed_in, id_of, known_at, known_by, newest, or, own_id, quote_known, quoted_in, side_entered}
-use Rattle.trade_table.proofs.Members.{In, In-append_cases, In-append_left, In-append_right, none_is_some}
+use Rattle.venue_rules.proofs.Members.{In, In-append_cases, In-append_left, In-append_right}
+use Rattle.trade_blotter.proofs.Lists.{none_is_some}
 
 -- each quote of these facts, or one that is printed as it is, is the newest that its printed number names
 pub record IsKnown (ks : List Known) (qs : List RoomQuote) (q : RoomQuote) : Type 0 where

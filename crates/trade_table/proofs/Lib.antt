@@ -1,7 +1,6 @@
 pub mod Walking
 pub mod Printed
 pub mod Rows
-pub mod Members
 pub mod Learning
 pub mod Crossing
 pub mod Reported

@@ -63,7 +63,8 @@ use Rattle.trade_table.specs.Sources.{book_made, cross_joined, executed, hit, ma
 use Rattle.trade_table.specs.Table.{bought, sold}
 use Rattle.trade_table.proofs.Crossing.{EntersAs}
 use Rattle.trade_table.proofs.Learning.{AreKnown, IsKnown}
-use Rattle.trade_table.proofs.Members.{In, Contains-from_In, In-append_left, In-append_right, In-filter, In-from_Contains, In-map, found_passes, none_is_some, picked_from, same_some}
+use Rattle.venue_rules.proofs.Members.{Contains-from_In, In, In-append_left, In-append_right, In-find, In-from_Contains, picked_from}
+use Rattle.trade_blotter.proofs.Lists.{In-filtered, In-map, none_is_some, same_some}
 
 -- Trades, numbered on from a number, and their executions, one for each.
 abbrev pub Aligned : (ℕ → Trade → Execution → Type 0) → ℕ → List Trade → List Execution → Type 0
@@ -199,9 +200,9 @@ fill_entered facts o f i =
     let qs = shares o.quantity lefts in
     let all = map (with_left (left facts)) (entries facts) in
     let here = filter (rests o.instrument (opposite o.side)) all in
-    let paired_in = In-filter (λ (g : Fill). nat_lt 0 g.quantity) (paired rs qs) f (unless (is_killed o.life o.quantity (sum_by (λ (r : Resting). r.left) rs)) f (filter (λ (g : Fill). nat_lt 0 g.quantity) (paired rs qs)) i) in
-    let rests_in = In-filter (λ (r : Resting). accepts o.side o.price r.entry.order.price) (ranked (opposite o.side) here) f.resting (In-paired rs qs f paired_in) in
-    let entered = In-map (with_left (left facts)) (entries facts) f.resting (In-filter (rests o.instrument (opposite o.side)) all f.resting (In-ranked (opposite o.side) here f.resting rests_in)) in
+    let paired_in = In-filtered (λ (g : Fill). nat_lt 0 g.quantity) (paired rs qs) f (unless (is_killed o.life o.quantity (sum_by (λ (r : Resting). r.left) rs)) f (filter (λ (g : Fill). nat_lt 0 g.quantity) (paired rs qs)) i) in
+    let rests_in = In-filtered (λ (r : Resting). accepts o.side o.price r.entry.order.price) (ranked (opposite o.side) here) f.resting (In-paired rs qs f paired_in) in
+    let entered = In-map (with_left (left facts)) (entries facts) f.resting (In-filtered (rests o.instrument (opposite o.side)) all f.resting (In-ranked (opposite o.side) here f.resting rests_in)) in
     subst (λ (e : Entry). In e (entries facts)) (ap (λ (r : Resting). r.entry) entered.2) entered.1
 
 -- An order that enters.
@@ -457,7 +458,7 @@ response_to_reported r i ks m h s d t (Some q) is = response_in_reported r i ks 
 response_reported : (r : TrailRow) (i : Input) (ks : List Known) (m : Market) (h : History) (s : Sender) (d : ResponseMessage) (t : ℕ) → AreKnown ks (quotes h.facts) → Responds i s d.quote_id → AllReported r i ks h (answer_response m h s d t)
 response_reported r i ks m h s d t known is = first_reported r i ks h (kind_refusals s d) (answer_response_to m h s d t (find_quote h.facts d.quote_id)) (tt, tt)
     (response_to_reported r i ks m h s d t (find_quote h.facts d.quote_id)
-    (λ q e. (known q (found_passes (λ (y : RoomQuote). bytes_eq (printed 81 y.number) d.quote_id) (quotes h.facts) q e).0, (is.0, is.1 ∙ ap (λ (id : List ℕ). Some id) (sym ((bytes_eq-Decides (printed 81 q.number) d.quote_id).0 (found_passes (λ (y : RoomQuote). bytes_eq (printed 81 y.number) d.quote_id) (quotes h.facts) q e).1))))))
+    (λ q e. (known q (In-find (λ (y : RoomQuote). bytes_eq (printed 81 y.number) d.quote_id) (quotes h.facts) q e).0, (is.0, is.1 ∙ ap (λ (id : List ℕ). Some id) (sym ((bytes_eq-Decides (printed 81 q.number) d.quote_id).0 (In-find (λ (y : RoomQuote). bytes_eq (printed 81 y.number) d.quote_id) (quotes h.facts) q e).1))))))
 
 market_data_reported : (r : TrailRow) (i : Input) (ks : List Known) (m : Market) (h : History) (s : Sender) (d : MarketDataMessage) → AllReported r i ks h (answer_market_data m h s d)
 market_data_reported r i ks m h s d = first_reported r i ks h (market_data_refusals m s d) (market_data m h s d) (tt, (tt, (tt, tt))) tt

@@ -1,254 +1,23 @@
 //! The row of one trade, and the names of its fields.
 
-ghost use Rattle.std.specs.Prelude.{◌≡◌, ◌∷◌, [], ◌++◌, IfOk, OnOk, decimal, option_copied};
+ghost use Rattle.std.specs.Prelude.{◌≡◌, ◌∷◌, [], ◌++◌, IfOk, OnOk, option_copied};
 ghost use Rattle.csv.specs.Records.{fields_of, partial_of};
 ghost use Rattle.csv.specs.Writing.{row_text};
-ghost use Rattle.fix_fields.specs.Forms.{price_text};
-ghost use Rattle.instruments.specs.Listing.{symbol_of};
-ghost use Rattle.participants.specs.Relations.{name_of};
 ghost use Rattle.sef_moment.specs.Utc.{utc_text};
-ghost use Rattle.trade_blotter.specs.Line.{each_listed, listed, room_emitted, shown_text};
-ghost use Rattle.trade_blotter.specs.Table.{deal_fields, kind, place_fields, room_fields, setup, trade_fields};
+ghost use Rattle.trade_blotter.specs.Table.{setup};
 ghost use Rattle.venue_core.specs.VenueFacts.{IsHistory};
 ghost use Rattle.venue_rules.specs.Facts.{History};
 ghost use Rattle.trade_table.specs.Executions.{execution_of, of_trade};
-ghost use Rattle.trade_table.specs.Table.{aggressor, book_fields, bought, buying, execution_fields, field_names, or_empty, party, quote_fields, selling, sold, source_fields, table_row};
+ghost use Rattle.trade_table.specs.Table.{aggressor, book_fields, buying, execution_fields, field_names, or_empty, party, quote_fields, selling, source_fields, table_row};
 
 use crate::execution::{Execution, Matched, QuoteHit, SideFilled, Source};
-use csv::{ByteRecord, Terminator, WriterBuilder};
-use fix_dictionary::{Identifier, Price, Side};
-use instruments::Instruments;
-use participants::{Participants, Who};
+use csv::ByteRecord;
+use fix_dictionary::{Identifier, Side};
 use sef_moment::{Moment, print_utc};
 use std::alloc::{AllocError, Global};
-use trade_blotter::{append, append_number, append_price, name_at};
+use trade_blotter::{push_number, room_of, row_bytes, trade_fields};
 use venue_core::Venue;
-use venue_rules::{RoomFact, ShownOrder, TradeFact};
-
-/// An instrument's symbol; empty where there is no such instrument, which no trade has.
-fn symbol_at(instruments: &Instruments, place: u32) -> &[u8]
-    ensures { result.now ≡ symbol_of instruments.now place }
-{
-    if (place as usize) < instruments.len() {
-        instruments.get(place).symbol.as_slice()
-    } else {
-        b""
-    }
-}
-
-/// Appends names, each behind a comma.
-fn append_others(
-    text: &mut Vec<u8>,
-    participants: &Participants,
-    others: &[Who],
-) -> Result<(), AllocError>
-    ensures { OnOk result (text.new.items ≡ text.old.items ++ each_listed (name_of participants.now) others.now) }
-{
-    for other in others {
-        append(text, &[b",", name_at(participants, *other)])?;
-    }
-    Ok(())
-}
-
-/// Appends the recipients' names, with commas between them.
-fn append_asked(
-    text: &mut Vec<u8>,
-    participants: &Participants,
-    asked: &[Who],
-) -> Result<(), AllocError>
-    ensures { OnOk result (text.new.items ≡ text.old.items ++ listed (name_of participants.now) asked.now) }
-{
-    match asked.split_first() {
-        None => append(text, &[b"none"]),
-        Some((first, others)) => {
-            append(text, &[name_at(participants, *first)])?;
-            append_others(text, participants, others)
-        }
-    }
-}
-
-/// Appends an order and its leaves quantity.
-fn append_order(text: &mut Vec<u8>, order: &ShownOrder) -> Result<(), AllocError>
-    ensures { OnOk result (text.new.items ≡ text.old.items ++ shown_text order.now) }
-{
-    append_number(text, b"O", order.order)?;
-    append_number(text, b"x", order.left.get())
-}
-
-/// Appends orders, each behind a comma.
-fn append_other_orders(text: &mut Vec<u8>, others: &[ShownOrder]) -> Result<(), AllocError>
-    ensures { OnOk result (text.new.items ≡ text.old.items ++ each_listed shown_text others.now) }
-{
-    for other in others {
-        append(text, &[b","])?;
-        append_order(text, other)?;
-    }
-    Ok(())
-}
-
-/// Appends the orders that were shown, with commas between them.
-fn append_shown(text: &mut Vec<u8>, shown: &[ShownOrder]) -> Result<(), AllocError>
-    ensures { OnOk result (text.new.items ≡ text.old.items ++ listed shown_text shown.now) }
-{
-    match shown.split_first() {
-        None => append(text, &[b"none"]),
-        Some((first, others)) => {
-            append_order(text, first)?;
-            append_other_orders(text, others)
-        }
-    }
-}
-
-/// Adds a field: one character and a number.
-fn push_number(
-    alloc: Global,
-    row: &mut ByteRecord,
-    prefix: &[u8],
-    number: u64,
-) -> Result<(), AllocError>
-    requires { partial_of row.old ≡ [] }
-    ensures partial { OnOk result (partial_of row.new ≡ []) }
-    ensures fields { OnOk result (fields_of row.new ≡ fields_of row.old ++ (prefix.now ++ decimal number) ∷ []) }
-{
-    let mut text = Vec::new(alloc);
-    append_number(&mut text, prefix, number)?;
-    row.push_field(&text)
-}
-
-/// Adds a price.
-fn push_price(alloc: Global, row: &mut ByteRecord, price: Price) -> Result<(), AllocError>
-    requires { partial_of row.old ≡ [] }
-    ensures partial { OnOk result (partial_of row.new ≡ []) }
-    ensures fields { OnOk result (fields_of row.new ≡ fields_of row.old ++ price_text price ∷ []) }
-{
-    let mut text = Vec::new(alloc);
-    append_price(alloc, &mut text, price)?;
-    row.push_field(&text)
-}
-
-/// The word for a trade in the book or in a room.
-fn kind_of(room: Option<u64>) -> &'static [u8]
-    ensures { result.now ≡ kind room }
-{
-    match room {
-        None => b"book",
-        Some(_) => b"rfq",
-    }
-}
-
-/// Adds the trade's number, its kind, what was traded, and both parties.
-fn push_deal(
-    alloc: Global,
-    row: &mut ByteRecord,
-    participants: &Participants,
-    instruments: &Instruments,
-    trade: &TradeFact,
-) -> Result<(), AllocError>
-    requires { partial_of row.old ≡ [] }
-    ensures partial { OnOk result (partial_of row.new ≡ []) }
-    ensures fields { OnOk result (fields_of row.new ≡ fields_of row.old ++ deal_fields (record { participants = participants.now; instruments = instruments.now }) trade.now) }
-{
-    push_number(alloc, row, b"T", trade.number)?;
-    row.push_field(kind_of(trade.room))?;
-    row.push_field(symbol_at(instruments, trade.instrument))?;
-    push_number(alloc, row, b"", trade.quantity.get())?;
-    push_price(alloc, row, trade.price)?;
-    row.push_field(name_at(participants, trade.buyer))?;
-    row.push_field(name_at(participants, trade.seller))
-}
-
-/// Adds the recipients' names, with commas between them.
-fn push_asked(
-    alloc: Global,
-    row: &mut ByteRecord,
-    participants: &Participants,
-    asked: &[Who],
-) -> Result<(), AllocError>
-    requires { partial_of row.old ≡ [] }
-    ensures partial { OnOk result (partial_of row.new ≡ []) }
-    ensures fields { OnOk result (fields_of row.new ≡ fields_of row.old ++ listed (name_of participants.now) asked.now ∷ []) }
-{
-    let mut text = Vec::new(alloc);
-    append_asked(&mut text, participants, asked)?;
-    row.push_field(&text)
-}
-
-/// Adds the orders that were shown, with commas between them.
-fn push_shown(alloc: Global, row: &mut ByteRecord, shown: &[ShownOrder]) -> Result<(), AllocError>
-    requires { partial_of row.old ≡ [] }
-    ensures partial { OnOk result (partial_of row.new ≡ []) }
-    ensures fields { OnOk result (fields_of row.new ≡ fields_of row.old ++ listed shown_text shown.now ∷ []) }
-{
-    let mut text = Vec::new(alloc);
-    append_shown(&mut text, shown)?;
-    row.push_field(&text)
-}
-
-/// Adds a room's recipients, its first quote, and the orders shown with it.
-fn push_room(
-    alloc: Global,
-    row: &mut ByteRecord,
-    participants: &Participants,
-    room: Option<&RoomFact>,
-) -> Result<(), AllocError>
-    requires { partial_of row.old ≡ [] }
-    ensures partial { OnOk result (partial_of row.new ≡ []) }
-    ensures fields { OnOk result (fields_of row.new ≡ fields_of row.old ++ room_fields participants.now (option_copied room.entry)) }
-{
-    match room {
-        Some(room) => {
-            push_asked(alloc, row, participants, room.asked.as_slice())?;
-            push_number(alloc, row, b"Q", room.first)?;
-            push_shown(alloc, row, room.shown.as_slice())
-        }
-        None => {
-            row.push_field(b"")?;
-            row.push_field(b"")?;
-            row.push_field(b"")
-        }
-    }
-}
-
-/// Adds a room's number, and what is read back of it.
-fn push_place(
-    alloc: Global,
-    row: &mut ByteRecord,
-    participants: &Participants,
-    number: Option<u64>,
-    room: Option<&RoomFact>,
-) -> Result<(), AllocError>
-    requires { partial_of row.old ≡ [] }
-    ensures partial { OnOk result (partial_of row.new ≡ []) }
-    ensures fields { OnOk result (fields_of row.new ≡ fields_of row.old ++ place_fields participants.now number (option_copied room.entry)) }
-{
-    match number {
-        Some(number) => {
-            push_number(alloc, row, b"R", number)?;
-            push_room(alloc, row, participants, room)
-        }
-        None => {
-            row.push_field(b"")?;
-            push_room(alloc, row, participants, None)
-        }
-    }
-}
-
-/// The fields of a trade in the trade list; `room` is what is read back of it.
-fn trade_fields(
-    alloc: Global,
-    participants: &Participants,
-    instruments: &Instruments,
-    trade: &TradeFact,
-    room: Option<&RoomFact>,
-) -> Result<ByteRecord, AllocError>
-    ensures partial { IfOk result (λ row. partial_of row ≡ []) }
-    ensures fields { IfOk result (λ row. fields_of row ≡ trade_fields (record { participants = participants.now; instruments = instruments.now }) trade.now (option_copied room.entry)) }
-{
-    let mut row = ByteRecord::new(alloc);
-    push_deal(alloc, &mut row, participants, instruments, trade)?;
-    push_place(alloc, &mut row, participants, trade.room, room)?;
-    Ok(row)
-}
+use venue_rules::TradeFact;
 
 /// The order that bought.
 fn buying(matched: &Matched) -> SideFilled
@@ -450,39 +219,12 @@ fn field_names(alloc: Global) -> Result<ByteRecord, AllocError>
     )
 }
 
-/// The bytes of a row.
-fn row_bytes(alloc: Global, row: &ByteRecord) -> Result<Vec<u8>, AllocError>
-    ensures { IfOk result (λ bytes. bytes.items ≡ row_text setup (fields_of row.now)) }
-{
-    let mut writer = WriterBuilder::new()
-        .terminator(Terminator::CRLF)
-        .from_writer(Vec::new(alloc));
-    // A write into memory fails for lack of memory alone.
-    if writer.write_byte_record(row).is_err() {
-        return Err(AllocError);
-    }
-    match writer.into_inner() {
-        Ok(bytes) => Ok(bytes),
-        Err(_) => Err(AllocError),
-    }
-}
-
 /// The text of the names.
 pub(crate) fn names_text(alloc: Global) -> Result<Vec<u8>, AllocError>
     ensures { IfOk result (λ text. text.items ≡ row_text setup field_names) }
 {
     let names = field_names(alloc)?;
     row_bytes(alloc, &names)
-}
-
-/// What is read back of a trade's room.
-fn room_of(venue: &Venue, room: Option<u64>) -> Option<&RoomFact>
-    ensures { (h : History) → IsHistory venue.now h → option_copied result ≡ room_emitted h room }
-{
-    match room {
-        Some(number) => venue.room(number),
-        None => None,
-    }
 }
 
 /// The text of a trade's row.

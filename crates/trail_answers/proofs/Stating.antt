@@ -51,7 +51,8 @@ use Rattle.venue_rules.specs.Responses.{answer_response, answer_response_to, ans
 use Rattle.venue_rules.specs.Rooms.{find_room, find_quote, first_quote, room_by_number}
 use Rattle.venue_rules.specs.Run.{Input, Message, Tick, answer_due_of, answer_input}
 use Rattle.venue_rules.specs.Withdrawals.{answer_withdrawal_of, withdraw_one, withdrawn_or, not_found, both_emitted, to_maker, to_requester}
-use Rattle.trail_answers.proofs.Members.{In, In-map, found_passes}
+use Rattle.venue_rules.proofs.Members.{In, In-find}
+use Rattle.trade_blotter.proofs.Lists.{In-map}
 use Rattle.trail_answers.proofs.Said.{Said, Enters, Replaces, Fills, Leaves, said}
 
 -- What is stated.
@@ -279,7 +280,7 @@ record IsOwn (h : History) (who : ℕ) (id : List ℕ) (r : Resting) : Type 0 wh
 named_own : (h : History) (who : ℕ) (id : List ℕ) (r : Resting) → named h who id ≡ IsResting r → IsOwn h who id r
 named_own h who id r e =
     let p : Resting → Bool = λ x. rests x.entry.order.instrument x.entry.order.side x && (x.entry.order.who == who && bytes_eq x.entry.order.id id) in
-    let found = found_passes p (map (with_left (left h.facts)) (entries h.facts)) r (named_rests (find_order h.facts who id) (find_held h.facts who id) r e) in
+    let found = In-find p (map (with_left (left h.facts)) (entries h.facts)) r (named_rests (find_order h.facts who id) (find_held h.facts who id) r e) in
     let passes = and_right (rests r.entry.order.instrument r.entry.order.side r) (r.entry.order.who == who && bytes_eq r.entry.order.id id) found.1 in
     let from = In-map (with_left (left h.facts)) (entries h.facts) r found.0 in
     record {

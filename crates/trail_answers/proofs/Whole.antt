@@ -25,7 +25,9 @@ use Rattle.trail_answers.specs.Emitted.{seen_from, seen_on}
 use Rattle.trail_answers.specs.Laws.{OrdersAreWhole, is_of, is_of_life, seeks}
 use Rattle.trail_answers.specs.Life.{Life, after_replies, after_reply, at_input, is_about, is_its_number, is_named, is_numbered, is_standing, names_in, numbers_in, with_reply}
 use Rattle.trail_answers.specs.Sought.{Seen, seen_after, unseen}
-use Rattle.trail_answers.proofs.Members.{In, any_cases, any_in, any_left, any_right, from_flat, same_some, in_any, in_cases, in_flat, in_picked, or_cases, or_left, or_right, picked_from}
+use Rattle.venue_rules.proofs.Members.{In, In-append_cases, In-filter_map, picked_from}
+use Rattle.trade_blotter.proofs.Lists.{same_some}
+use Rattle.trail_answers.proofs.Members.{any_cases, any_in, any_left, any_right, from_flat, in_any, in_flat, or_cases, or_left, or_right}
 use Rattle.trail_answers.proofs.Said.{Said, Enters, Replaces, Fills, Leaves, IsUnfilled, IsKept, Silent, about_is, about_said, names_are, names_said, numbers_are, numbers_said, replaces_said, reports_said, said}
 use Rattle.trail_answers.proofs.Stating.{Event, HasEntered, HasTraded, IsCancelled, IsNext, IsReplaced, IsStated, happened, input_stated, removal_in, removals, stated, stated_said, traded_at}
 
@@ -208,7 +210,7 @@ record IsEntry (facts : List Fact) (n who : ℕ) (id : List ℕ) : Type 0 where
 
 entered_in : (facts : List Fact) (f : Fact) (n who : ℕ) (id : List ℕ) → In f facts → In (HasEntered n who id) (happened f) → IsEntry facts n who id
 entered_in facts (fact.Entered e) n who id i (inl same) =
-    record { entry = e; there = in_picked entry_in facts (fact.Entered e) e i refl; number = ap event_number same; owner = ap (λ (x : Event). who_or (Some x)) same; named = ap (λ (x : Event). id_or (Some x)) same }
+    record { entry = e; there = In-filter_map entry_in facts (fact.Entered e) e i refl; number = ap event_number same; owner = ap (λ (x : Event). who_or (Some x)) same; named = ap (λ (x : Event). id_or (Some x)) same }
 entered_in facts (fact.Entered e) n who id i (inr k) = absurd k
 entered_in facts (fact.Traded t) n who id i k = absurd (never t.place k)
   where
@@ -227,7 +229,7 @@ entered_in facts (fact.Closed x) n who id i k = absurd k
 
 -- what a reply states happened, and what happened is stated
 stated_happened : (h : History) (a : Answer) → IsStated h a → (x : Reply) (event : Event) → In x a.replies → stated x ≡ Some event → In event (flat_map happened a.facts)
-stated_happened h a k x event i e = subst (In event) k.events (in_picked stated a.replies x event i e)
+stated_happened h a k x event i e = subst (In event) k.events (In-filter_map stated a.replies x event i e)
 
 happened_stated : (h : History) (a : Answer) → IsStated h a → (f : Fact) (event : Event) → In f a.facts → In event (happened f) → (x : Reply) × In x a.replies × (stated x ≡ Some event)
 happened_stated h a k f event i e = picked_from stated a.replies event (subst (In event) (sym k.events) (in_flat happened a.facts f event i e))
@@ -308,7 +310,7 @@ new_named l h a k e i is = by (gained l a.replies e.number is)
         (subst (λ (who : ℕ). is_named (after_replies l a.replies) who says.0 ≡ true) (sym found.owner ∙ ap (λ (y : Entry). y.order.who) same) named)
 
 kept_on : (l : Life) (h : History) (a : Answer) → IsStated h a → Kept l h → Kept (after_replies l a.replies) (after h a)
-kept_on l h a k kept e i = by (in_cases (entries h.facts) (entries a.facts) e (subst (In e) (entries_after h a) i))
+kept_on l h a k kept e i = by (In-append_cases (entries h.facts) (entries a.facts) e (subst (In e) (entries_after h a) i))
   where
     by : In e (entries h.facts) ⊎ In e (entries a.facts) → (e.number < next_order (after h a).facts) × (is_numbered (after_replies l a.replies) e.number ≡ true → is_named (after_replies l a.replies) e.order.who e.order.id ≡ true)
     by (inl old) = (below e.number (length (entries h.facts)) (length (entries a.facts)) (next_order (after h a).facts) (kept e old).0 (next_after h a), old_named l h a k kept e old)
@@ -378,7 +380,7 @@ here_by l h a k kept n f i was (inl t) =
     let x = happened_stated h a k f t.0 i t.1 in
     (about_noted l a.replies x.0 x.1 (or_left (reports_said l (said x.0)) (replaces_said l x.0.to (said x.0)) (stated_about l x.0.to (said x.0) t.0 x.2 (numbered_at l (event_number t.0) n t.2 was)))).here
 here_by l h a k kept n f i was (inr t) =
-    let g = gone_about l h a t.0 kept (k.gone t.0 (in_picked removal_in a.facts f t.0 i t.1)) (numbered_at l t.0.order n t.2 was) in
+    let g = gone_about l h a t.0 kept (k.gone t.0 (In-filter_map removal_in a.facts f t.0 i t.1)) (numbered_at l t.0.order n t.2 was) in
     (about_noted l a.replies g.reply g.there g.about).here
 
 shown_by : (l : Life) (h : History) (a : Answer) → IsStated h a → Kept l h → list_any (is_of_life (after_replies l a.replies)) a.facts ≡ true → (after_replies l a.replies).here ≡ true

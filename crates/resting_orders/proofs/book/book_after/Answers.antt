@@ -18,6 +18,6 @@ returns c =
     c.append_book.new.text.items c.in_ok-day.ensures.noted c.requires.known
     (λ h is.
     c.in_ok-push_book.ensures.rested h is
-    ∙ (λ j. c.new-orders.ensures.items j ++ rested_shown (c.deref.ensures.value j) symbol (entries_in (answer_input market h (Message (asks 0 symbol) (c.some_moment.ensures j))).replies)))
+    ∙ (λ j. c.new-orders.ensures.items j ++ rested_shown (c.deref.ensures.value j) symbol (entries_in (answer_input market h (Message (asks 0 symbol) 0)).replies)))
     (c.participants.ensures ∙ ap (λ (m : Market). m.participants) c.in_ok-push_book.ensures.market)
     (c.in_ok-append_book.ensures ∙ (λ j. c.new-text.ensures.items j ++ book_text a.form file a.sheet.now (c.deref-2.ensures.value j)))
