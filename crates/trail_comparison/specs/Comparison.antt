@@ -1,5 +1,5 @@
 -- Two trails, A and B, compared: what they are of, and their answers.
-use Rattle.std.specs.Prelude.{◌≡◌, ℕ, Bool, true, false, List, [], ◌++◌, take, Option}
+use Rattle.std.specs.Prelude.{◌≡◌, ℕ, Bool, true, false, List, [], ◌++◌, take, Option, None}
 use Rattle.std.specs.Io.KnownBytes.{Appends}
 use Rattle.venue_rules.specs.Market.{Market}
 use Rattle.venue_rules.specs.declared.trail.TrailRow.{TrailRow}
@@ -36,4 +36,4 @@ pub record BeginsComparison (a b : Side) (before after : Option (List ℕ)) : Ty
   pub longest : AreShared a.trail.rows b.trail.rows shared
   pub mid : Option (List ℕ)
   pub written : Appends before mid (comparison_text a b shared)
-  pub begins : BeginsRows (market_of a) (market_of b) (take shared a.trail.rows) mid after
+  pub begins : BeginsRows None (market_of a) (market_of b) (take shared a.trail.rows) mid after

@@ -1,8 +1,9 @@
 pub mod Sent
 pub mod Lines
+pub mod Without
 pub mod Differences
 pub mod Comparison
-pub mod Laws
 pub mod Rules
 pub mod Trades
 pub mod Under
+pub mod Laws

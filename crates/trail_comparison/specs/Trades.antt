@@ -29,6 +29,10 @@ alone_from all others k (t ∷ ts) = alone_at all others k t ++ alone_from all o
 abbrev pub alone : (all others : List TradeFact) → List TradeFact
 alone all others = alone_from all others 0 all
 
+-- neither run has a trade that the other has not
+abbrev pub are_same_trades : (one other : List TradeFact) → Bool
+are_same_trades one other = length (alone one other) == 0 && length (alone other one) == 0
+
 abbrev pub trade_line : List ℕ → Market → TradeFact → List ℕ
 trade_line label m t = label ++ (decimal t.number ++ (codes " " ++ (deal m t ++ codes "\n")))
 

@@ -1,6 +1,6 @@
 //! Two trails compared.
 
-ghost use Rattle.std.specs.Prelude.{◌≡◌, ◌↔◌, ◌≤◌, ◌⊎◌, All, length, IsTrue, IfErr, IfOk, OnOk};
+ghost use Rattle.std.specs.Prelude.{◌≡◌, ◌↔◌, ◌≤◌, ◌⊎◌, All, length, None, IsTrue, IfErr, IfOk, OnOk};
 ghost use Rattle.std.specs.Io.KnownBytes.{Appends, Keeps};
 ghost use Rattle.venue_rules.specs.Facts.{no_history};
 ghost use Rattle.venue_core.specs.VenueFacts.{IsHistory};
@@ -14,6 +14,7 @@ ghost use Rattle.trail_comparison.specs.declared.fault.ComparisonFault.TheVarian
 
 use crate::day::Day;
 use crate::fault::ComparisonFault;
+use crate::left_out::Rows;
 use crate::lines::count_line;
 use crate::replaying::{emit_rows, write_text};
 use row_replay::rows_have_their_inputs;
@@ -39,10 +40,14 @@ fn print_differences<W: Write>(
     requires first { a.old.items ≡ 0 }
     requires first_too { b.old.items ≡ 0 }
     ensures emitted { OnOk result (EmitsAnswers a.old.market b.old.market rows.now (W.contents writer.old) (W.contents writer.new)) }
-    ensures begun { IfErr result (λ fault. fault ≡ Memory → BeginsRows a.old.market b.old.market rows.now (W.contents writer.old) (W.contents writer.new)) }
+    ensures begun { IfErr result (λ fault. fault ≡ Memory → BeginsRows None a.old.market b.old.market rows.now (W.contents writer.old) (W.contents writer.new)) }
 {
     rows_have_their_inputs();
-    let count = emit_rows(alloc, a, b, rows, writer)?;
+    let all = Rows {
+        all: rows,
+        left_out: None,
+    };
+    let count = emit_rows(alloc, a, b, &all, writer)?;
     let line = count_line(alloc, count, rows.len())?;
     write_text(&line, writer)
 }
@@ -59,7 +64,7 @@ fn print_answers<W: Write>(
     requires kept { All IsItem rows.now }
     requires few { length rows.now ≤ most_items }
     ensures emitted { OnOk result (EmitsAnswers (market_of (side_of a.entry)) (market_of (side_of b.entry)) rows.now (W.contents writer.old) (W.contents writer.new)) }
-    ensures begun { IfErr result (λ fault. fault ≡ Memory → BeginsRows (market_of (side_of a.entry)) (market_of (side_of b.entry)) rows.now (W.contents writer.old) (W.contents writer.new)) }
+    ensures begun { IfErr result (λ fault. fault ≡ Memory → BeginsRows None (market_of (side_of a.entry)) (market_of (side_of b.entry)) rows.now (W.contents writer.old) (W.contents writer.new)) }
 {
     let mut venue = Venue::open(alloc, a.participants, a.instruments)?;
     let mut other = Venue::open(alloc, b.participants, b.instruments)?;

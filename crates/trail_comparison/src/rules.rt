@@ -21,6 +21,13 @@ pub struct Rules {
     pub instruments: Instruments,
 }
 
+/// The rules by which rows are answered twice.
+#[derive(Drop)]
+pub struct BothRules {
+    pub a: Rules,
+    pub b: Rules,
+}
+
 /// What of a file stands in the place of a trail's own.
 #[derive(Clone, Copy, Debug, PartialEq, Eq)]
 pub enum Parts {

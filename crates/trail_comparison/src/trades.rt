@@ -184,33 +184,36 @@ fn append_counts(
     )
 }
 
-/// Appends the trades of these lists that the other has not, and how many.
+/// Appends the trades of these lists that the other has not, and how many. Returns whether there is none.
 fn append_lists(
     alloc: Global,
     text: &mut Vec<u8>,
     a: &Compared,
     b: &Compared,
-) -> Result<(), AllocError>
+) -> Result<bool, AllocError>
     requires same { b.now.others.now ≡ a.now.all.now }
     requires same_too { b.now.all.now ≡ a.now.others.now }
     requires lost { a.now.label.now ≡ specs.lost }
     requires gained { b.now.label.now ≡ specs.gained }
-    ensures { OnOk result (text.new.items ≡ text.old.items ++ specs.trades_text a.now.venue.now.market b.now.venue.now.market a.now.all.now a.now.others.now) }
+    ensures text { OnOk result (text.new.items ≡ text.old.items ++ specs.trades_text a.now.venue.now.market b.now.venue.now.market a.now.all.now a.now.others.now) }
+    ensures alike { IfOk result (λ alike. alike ≡ specs.are_same_trades a.now.all.now a.now.others.now) }
 {
     let lost = append_alone(alloc, text, a)?;
     let gained = append_alone(alloc, text, b)?;
     append_counts(text, a.all.len(), b.all.len(), lost, gained)?;
-    append_numbers(text, have_room(a, b))
+    append_numbers(text, have_room(a, b))?;
+    Ok(lost == 0 && gained == 0)
 }
 
-/// Appends the trades of one venue that the other has not, and how many.
+/// Appends the trades of one venue that the other has not, and how many. Returns whether there is none.
 pub(crate) fn append_trades(
     alloc: Global,
     text: &mut Vec<u8>,
     a: &Venue,
     b: &Venue,
-) -> Result<(), AllocError>
-    ensures { (h k : History) → IsHistory a.now h → IsHistory b.now k → OnOk result (text.new.items ≡ text.old.items ++ specs.trades_text a.now.market b.now.market (trade_facts h.facts) (trade_facts k.facts)) }
+) -> Result<bool, AllocError>
+    ensures text { (h k : History) → IsHistory a.now h → IsHistory b.now k → OnOk result (text.new.items ≡ text.old.items ++ specs.trades_text a.now.market b.now.market (trade_facts h.facts) (trade_facts k.facts)) }
+    ensures same { (h k : History) → IsHistory a.now h → IsHistory b.now k → IfOk result (λ same. same ≡ specs.are_same_trades (trade_facts h.facts) (trade_facts k.facts)) }
 {
     let trades = a.trades();
     let others = b.trades();
