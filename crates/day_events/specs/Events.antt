@@ -4,6 +4,9 @@ use Rattle.std.specs.List.{flat_map}
 use Rattle.fix_dictionary.specs.declared.messages.App.{App}
 use Rattle.fix_dictionary.specs.declared.messages.App.TheVariants.{QuoteRequest, Quote, QuoteResponse, NewOrderSingle, ExecutionReport, OrderCancelReject, QuoteRequestReject, QuoteStatusReport, MarketDataRequestReject, BusinessMessageReject}
 use Rattle.fix_dictionary.specs.Values.{is_text}
+use Rattle.venue_rules.specs.declared.refusals.OrderRefusal.{OrderRefusal}
+use Rattle.venue_rules.specs.declared.refusals.OrderRefusal.TheVariants.{LinkedOrderTooRecent}
+use Rattle.venue_rules.specs.declared.replies.OrderReport.{OrderReport}
 use Rattle.venue_rules.specs.declared.replies.QuoteState.{QuoteState}
 use Rattle.venue_rules.specs.declared.replies.QuoteState.TheVariants as state
 use Rattle.venue_rules.specs.declared.replies.Reply.{Reply}
@@ -53,7 +56,13 @@ abbrev pub ended_for_other : Bool → Origin → ℕ → Option (List ℕ) → Q
 ended_for_other true o to quote s = []
 ended_for_other false o to quote s = ended o to quote s
 
+-- an order that is refused since a linked one is too recent
+abbrev pub too_recent : Origin → ℕ → OrderReport → OrderRefusal → List Event
+too_recent o to r LinkedOrderTooRecent = event o to (what.TooRecent (record { symbol = r.symbol; side = r.side })) ∷ []
+too_recent o to r _ = []
+
 abbrev pub reported_what : Origin → ℕ → ReplyBody → List Event
+reported_what o to (reply.OrderRefused r) = too_recent o to r.order r.cause
 reported_what o to (reply.OrderEntered r) = event o to (what.Entered (record { order = r.order; id = r.id; symbol = r.symbol; side = r.side; left = r.left })) ∷ []
 reported_what o to (reply.OrderFilled r) = event o to (what.Filled (record { trade = r.trade; order = r.order.order; id = r.order.id; side = r.order.side })) ∷ []
 reported_what o to (reply.OrderCancelled r) = event o to (what.Cancelled r.order.order) ∷ []

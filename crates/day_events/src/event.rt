@@ -28,6 +28,13 @@ pub struct NewOrder {
     pub left: Amount,
 }
 
+/// An order that was refused, since a linked one was too recent (17 CFR 37.9(b)(1)).
+#[derive(Clone, Copy)]
+pub struct RecentOrder {
+    pub symbol: Identifier,
+    pub side: Side,
+}
+
 /// An order of a trade in the book.
 #[derive(Clone, Copy)]
 pub struct FilledOrder {
@@ -80,6 +87,8 @@ pub struct RoomTrade {
 #[derive(Clone, Copy)]
 pub enum What {
     Entered(NewOrder),
+    /// also a refusal
+    TooRecent(RecentOrder),
     Filled(FilledOrder),
     /// the order; none of a held side
     Cancelled(Option<u64>),

@@ -8,6 +8,7 @@ mod reporting;
 
 pub use day::{Day, day_of};
 pub use event::{
-    Event, FilledOrder, NewOrder, NewQuote, NewRequest, Origin, RoomTrade, ShownPrice, What,
+    Event, FilledOrder, NewOrder, NewQuote, NewRequest, Origin, RecentOrder, RoomTrade, ShownPrice,
+    What,
 };
 pub use reporting::push_events_at;

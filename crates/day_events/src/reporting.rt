@@ -3,10 +3,11 @@
 ghost use Rattle.std.specs.Prelude.{◌≡◌, ◌++◌, ◌∷◌, [], map, OnOk};
 ghost use Rattle.std.specs.List.{flat_map};
 ghost use Rattle.venue_rules.specs.declared.replies.ReplyBody.TheVariants as body;
-ghost use Rattle.day_events.specs.Events.{event, events_at, named_in, origin_of, own_in, shown_price, reported, reported_what};
+ghost use Rattle.day_events.specs.Events.{event, events_at, named_in, origin_of, own_in, shown_price, reported, reported_what, too_recent};
 
 use crate::event::{
-    Event, FilledOrder, NewOrder, NewQuote, NewRequest, Origin, RoomTrade, ShownPrice, What,
+    Event, FilledOrder, NewOrder, NewQuote, NewRequest, Origin, RecentOrder, RoomTrade, ShownPrice,
+    What,
 };
 use crate::refusing::push_refusal;
 use fix_dictionary::{Amount, App, Identifier, Price, Quantity, Side};
@@ -14,8 +15,8 @@ use participants::Who;
 use sef_moment::Moment;
 use std::alloc::{AllocError, Global};
 use venue_rules::{
-    ChangedReport, FilledReport, OrderReport, QuoteSent, QuoteState, QuoteStatus, Reply, ReplyBody,
-    RequestSent, RoomReport, SnapshotEntry, Taken, TrailRow,
+    ChangedReport, FilledReport, OrderRefusal, OrderRefused, OrderReport, QuoteSent, QuoteState,
+    QuoteStatus, Reply, ReplyBody, RequestSent, RoomReport, SnapshotEntry, Taken, TrailRow,
 };
 
 /// Appends what a reply says.
@@ -29,6 +30,7 @@ pub(crate) fn push_event(
 {
     // Types of an event's content, named here because the proof of the push needs each.
     let _entered: Option<NewOrder> = None;
+    let _recent: Option<RecentOrder> = None;
     let _filled: Option<FilledOrder> = None;
     let _asked: Option<NewRequest> = None;
     let _shown: Option<ShownPrice> = None;
@@ -115,6 +117,28 @@ fn push_entered(
         left: report.left,
     };
     push_event(events, origin, to, What::Entered(order))
+}
+
+/// Appends that an order is refused, if a linked one is too recent.
+#[tactic(auto, unfolding(crate::specs::Events::too_recent))]
+fn push_too_recent(
+    events: &mut Vec<Event>,
+    origin: &Origin,
+    to: Who,
+    refused: &OrderRefused,
+) -> Result<(), AllocError>
+    ensures { OnOk result (events.new.items ≡ events.old.items ++ too_recent origin.now to refused.now.order refused.now.cause) }
+{
+    match &refused.cause {
+        OrderRefusal::LinkedOrderTooRecent => {
+            let order = RecentOrder {
+                symbol: refused.order.symbol,
+                side: refused.order.side,
+            };
+            push_event(events, origin, to, What::TooRecent(order))
+        }
+        _ => Ok(()),
+    }
 }
 
 fn push_filled(
@@ -254,6 +278,7 @@ fn push_reported(events: &mut Vec<Event>, origin: &Origin, reply: &Reply) -> Res
     ensures { OnOk result (events.new.items ≡ events.old.items ++ reported origin.now reply.now) }
 {
     match &reply.what {
+        ReplyBody::OrderRefused(refused) => push_too_recent(events, origin, reply.to, refused),
         ReplyBody::OrderEntered(report) => push_entered(events, origin, reply.to, report),
         ReplyBody::OrderFilled(report) => push_filled(events, origin, reply.to, report),
         ReplyBody::OrderCancelled(report) => push_cancelled(events, origin, reply.to, report),

@@ -1,0 +1,7 @@
+use Rattle.std.proofs.Common.{◌≡◌, drop}
+use Rattle.surveillance.specs.Index.{reports_from, reports}
+use Rattle.surveillance.proofs.index.reports.Given as goal
+
+-- the map so far, and then the other events, are all
+abbrev pub invariant-loop-event : goal.invariant-loop-event
+invariant-loop-event l = reports_from l.places.entries (drop l.event-index l.events) ≡ reports l.events
