@@ -1,13 +1,21 @@
 """expected.py TRAIL ANSWERS: prints the page of a day, made of the templates of crates/day_tables and crates/day_page
-by this program alone: of a trail's file, and of what `sef_replay TRAIL --answers` printed of it."""
+by this program alone: of a trail's file, and of what `sef_replay TRAIL --answers` printed of it. Alarms are found as
+tests/cli/check_watch finds them."""
+import importlib.machinery
+import importlib.util
 import os
 import re
 import sys
+import tomllib
 
 sys.dont_write_bytecode = True
 ROOT = os.path.join(os.path.dirname(os.path.abspath(__file__)), "..", "..")
 sys.path.insert(0, os.path.join(ROOT, "tests", "cli"))
 import check_digest
+
+loader = importlib.machinery.SourceFileLoader("check_watch", os.path.join(ROOT, "tests", "cli", "check_watch"))
+check_watch = importlib.util.module_from_spec(importlib.util.spec_from_loader(loader.name, loader))
+loader.exec_module(check_watch)
 
 SOURCES = (
     "day_tables/src/template.rt", "day_sections/src/template.rt", "day_page/src/template.rt", "day_page/src/style.rt",
@@ -16,7 +24,7 @@ CONSTANT = re.compile(r'const (\w+): &\[u8\] =\s*b"((?:[^"\\]|\\.)*)";', re.S)
 CAME = re.compile(r"row (\d+) at (\S+) from (\S+), sequence number (\d+) in era (\d+): (.*)")
 CLOCK = re.compile(r"row (\d+) at (\S+): the clock")
 REPLY = re.compile(r"row (\d+) to (\S+): (.*)")
-MOST_ROWS, MOST_OPEN, MOST_ROOMS, MOST_NAMED = 5000, 120, 300, 24
+MOST_ROWS, MOST_OPEN, MOST_ROOMS, MOST_NAMED, MOST_ALARMS, MOST_TRADES = 5000, 120, 300, 24, 300, 10000
 
 
 def templates():
@@ -171,7 +179,7 @@ def row_number(page, rows, row):
 
 def trade_list(page, symbols, rows, trades):
     page.add("TRADES", f"{len(trades):,}")
-    for t in trades:
+    for t in trades[:MOST_TRADES]:
         page.add("TRADE", t.number, t.number, t.row.utc[9:], symbols.index(t.symbol), t.symbol)
         if t.room is None:
             page.add("IN_BOOK")
@@ -214,6 +222,8 @@ def fate(page, rows, room, row, quote):
         found, named = ("LIVE",), rows[-1].utc
     if full(end) < full(named):
         found = ("RAN_OUT",)
+    if found[0] == "HIT" and int(found[1]) > MOST_TRADES:
+        found = ("HIT_ALONE", found[1])
     page.add(found[0], *(found[1:] * 2 if found[0] in ("HIT", "REPLACED") else found[1:]))
 
 
@@ -238,7 +248,9 @@ def requests(page, rows, trades):
         page.add("ROOM", room[1:], row.utc[9:], row.who, f"{len(sent):,}", side, f"{int(value(message, '38')):,}",
                  value(message, "55"), value(row.message, "131"))
         made = [t for t in trades if t.room == room[1:]]
-        if made:
+        if made and made[0].number > MOST_TRADES:
+            page.add("ROOM_TRADED_ALONE", made[0].number, made[0].price)
+        elif made:
             page.add("ROOM_TRADED", made[0].number, made[0].number, made[0].price)
         else:
             page.add("ROOM_IDLE", f"{len(quotes):,}")
@@ -315,6 +327,81 @@ def participants_list(page, names, rows, trades):
     page.add("PEOPLE_END")
 
 
+class Watched:
+    """A day, as check_watch looks at it."""
+
+    def __init__(self, rows, trades, participants, symbols, delays):
+        self.replies = [((str(row.n), row.utc, row.who, first_of_each(row.message)), who,
+                         {**first_of_each(message), "entries": prices(message)})
+                        for row, who, message in all_replies(rows)]
+        self.trades = [{"trade": f"T{t.number}", "row": str(t.row.n), "moment_utc": t.row.utc, "buyer": t.buyer,
+                        "seller": t.seller, "instrument": t.symbol, "kind": "book" if t.room is None else "request"}
+                       for t in trades]
+        file = tomllib.loads(participants)
+        self.names = [it["name"] for it in file["participant"]]
+        self.related = {frozenset((it["a"], it["b"])) for it in file.get("related", [])}
+        self.delay = dict(zip(symbols, delays))
+
+
+def first_of_each(message):
+    return dict(reversed(message))
+
+
+def prices(message):
+    """The sides and prices of a snapshot."""
+    sides, found = ([text for tag, text in message if tag == wanted] for wanted in ("269", "270"))
+    return list(zip(sides, found))
+
+
+def linked(page, rows, day):
+    entered, orders = {}, {}
+    for (n, _, sender, message), _, reply in day.replies:
+        if reply["35"] == "8" and reply["150"] in "05":
+            entered[reply["37"]] = (int(n), sender is None, message.get("583") if message.get("35") == "D" else None)
+        if reply["35"] == "8" and reply["150"] == "F" and reply["37"].startswith("O"):
+            orders.setdefault(reply["880"], []).append(entered[reply["37"]])
+    found = []
+    for it in day.trades:
+        both = sorted(orders.get(it["trade"], []))
+        links = {link for _, _, link in both}
+        one = it["buyer"] == it["seller"] or frozenset((it["buyer"], it["seller"])) in day.related
+        if both and (one or (len(links) == 1 and None not in links)):
+            found.append((it, *both))
+    if not found:
+        page.add("NO_LINKED")
+        return
+    page.add("LINKED", f"{len(found):,}")
+    for it, (first, _, _), (second, held, _) in found[:MOST_ALARMS]:
+        one, other = rows[first - 1], rows[second - 1]
+        between = check_watch.milliseconds(other.utc) - check_watch.milliseconds(one.utc)
+        number = it["trade"][1:]
+        page.add(*(("TRADE_LINK", number, number) if int(number) <= MOST_TRADES else ("TRADE_ALONE", number)))
+        page.add("LINKED_TRADE", it["buyer"], it["seller"], one.utc[9:], other.utc[9:])
+        page.add("BY_CLOCK" if held else "BY_MESSAGE")
+        page.add("LINKED_TIMES", f"{between:,}", f"{day.delay[it['instrument']]:,}")
+        row_number(page, rows, one)
+        row_number(page, rows, other)
+        page.add("CELL_END")
+    page.add("TABLE_END")
+
+
+def alarms(page, rows, day):
+    found = [*check_watch.trades(day, check_watch.USUAL), *check_watch.cancels_and_prices(day, check_watch.USUAL),
+             *check_watch.again(day), *check_watch.ratios(day, check_watch.USUAL)]
+    if not found:
+        page.add("NO_ALARM")
+        return
+    page.add("ALARMS", f"{len(found):,}")
+    for it in found[:MOST_ALARMS]:
+        page.add("ALARM", check_watch.line(it))
+        if it[1]:
+            row_number(page, rows, rows[int(it[1]) - 1])
+        else:
+            page.add("NO_ROW")
+        page.add("CELL_END")
+    page.add("TABLE_END")
+
+
 def row_list(page, rows):
     page.add("ROWS", f"{len(rows):,}")
     page.add("ROWS_OPEN" if len(rows) <= MOST_OPEN else "ROWS_FOLDED")
@@ -360,6 +447,9 @@ def main(trail, answers):
     requests(page, rows, trades)
     refusals(page, rows)
     participants_list(page, names, rows, trades)
+    watched = Watched(rows, trades, participants, symbols, stored[3])
+    linked(page, rows, watched)
+    alarms(page, rows, watched)
     row_list(page, rows)
     page.add("END")
     sys.stdout.write(page.text())

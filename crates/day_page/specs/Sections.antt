@@ -7,12 +7,18 @@ use Rattle.page_text.specs.Parts.{Part}
 use Rattle.sef_moment.specs.Utc.{utc_text}
 use Rattle.trail_digest.specs.Head.{digest_text, sha256_text}
 use Rattle.trail_digest.specs.Trail.{Trail}
+use Rattle.venue_rules.specs.declared.trail.TradeFact.{TradeFact}
 use Rattle.venue_rules.specs.declared.trail.TrailRow.{TrailRow}
 use Rattle.venue_rules.specs.Facts.{History}
 use Rattle.venue_rules.specs.Market.{Market}
 use Rattle.venue_rules.specs.Readings.{trade_facts}
 use Rattle.venue_rules.specs.Run.{Input}
+use Rattle.surveillance.specs.Alarms.{alarms_of, looked}
+use Rattle.surveillance.specs.Pairs.{linked_in}
+use Rattle.surveillance.specs.Thresholds.{usual}
+use Rattle.day_sections.specs.Alarms.{alarms_parts}
 use Rattle.day_sections.specs.Figures.{figures_part}
+use Rattle.day_sections.specs.Linked.{linked_trades_parts}
 use Rattle.day_sections.specs.People.{people_parts}
 use Rattle.day_sections.specs.Picks.{of_requests}
 use Rattle.day_sections.specs.Refusals.{causes, refusals_parts}
@@ -64,7 +70,17 @@ answered_parts m rs h es =
     ++ (refusals_parts m.participants (are_shown rs) es (causes es)
     ++ people_parts m.participants rs (trade_facts h.facts) es)
 
+-- the trades of linked orders, and the alarms by the usual bounds
+
+abbrev pub watched_by : Market → List TrailRow → List TradeFact → List Event → List Part
+watched_by m rs ts es =
+    linked_trades_parts m.participants (are_shown rs) (linked_in m (looked es) ts)
+    ++ alarms_parts m.participants (are_shown rs) (alarms_of usual m ts es)
+
+abbrev pub watched_parts : Market → List TrailRow → History → List Event → List Part
+watched_parts m rs h es = watched_by m rs (trade_facts h.facts) es
+
 -- the page of a trail, whose rows led to this history, answered this, and spell these inputs
 abbrev pub page_parts : Market → Trail → History → List Event → List Input → List Part
 page_parts m t h es read =
-    head_parts m t ++ (tables_parts m t.rows h es ++ (answered_parts m t.rows h es ++ (rows_parts m.participants t.rows read ++ plain_part END.now ∷ [])))
+    head_parts m t ++ (tables_parts m t.rows h es ++ (answered_parts m t.rows h es ++ (watched_parts m t.rows h es ++ (rows_parts m.participants t.rows read ++ plain_part END.now ∷ []))))

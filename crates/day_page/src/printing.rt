@@ -9,19 +9,24 @@ ghost use Rattle.venue_core.specs.Plan.{most_items};
 ghost use Rattle.venue_core.specs.Replay.{IsItem};
 ghost use Rattle.venue_core.specs.VenueFacts.{IsHistory};
 ghost use Rattle.venue_rules.specs.Facts.{History};
+ghost use Rattle.surveillance.specs.Alarms.{alarms_of, looked};
+ghost use Rattle.surveillance.specs.Pairs.{linked_in};
+ghost use Rattle.surveillance.specs.Thresholds.{usual};
+ghost use Rattle.day_sections.specs.Alarms.{alarms_parts};
+ghost use Rattle.day_sections.specs.Linked.{linked_trades_parts};
 ghost use Rattle.day_sections.specs.Reports.{reports};
 ghost use Rattle.day_sections.specs.Trades.{trades_parts};
 ghost use Rattle.day_sections.specs.Values.{are_shown};
 ghost use Rattle.day_page.specs.Printed.{EmitsPage, IsDay, IsPage};
-ghost use Rattle.day_page.specs.Sections.{tables_parts, answered_parts};
+ghost use Rattle.day_page.specs.Sections.{tables_parts, answered_parts, watched_parts};
 
 use crate::head::add_head;
 use crate::rows::add_rows;
 use crate::template::END;
 use day_events::{Event, day_of};
 use day_sections::{
-    Reported, add_figures, add_people, add_refusals, add_requests, add_trades, are_shown,
-    reports_of,
+    Reported, add_alarms, add_figures, add_linked, add_people, add_refusals, add_requests,
+    add_trades, are_shown, reports_of,
 };
 use day_tables::add_bulletin;
 use instruments::Instruments;
@@ -30,6 +35,7 @@ use participants::Participants;
 use row_replay::rows_have_their_inputs;
 use std::alloc::{AllocError, Global};
 use std::io::Write;
+use surveillance::{alarms_of, linked_trades, usual_bounds};
 use trade_blotter::PrintFault;
 use trail_digest::Contents;
 use venue_core::Venue;
@@ -101,6 +107,56 @@ fn add_answered(
     add_people(alloc, page, participants, rows, trades, events)
 }
 
+/// Adds the trades of linked orders.
+fn add_pairs(
+    alloc: Global,
+    page: &mut Page,
+    participants: &Participants,
+    instruments: &Instruments,
+    rows: &[TrailRow],
+    trades: &[TradeFact],
+    events: &[Event],
+) -> Result<(), AllocError>
+    ensures { OnOk result (page.new ≡ with_parts page.old (linked_trades_parts participants.now (are_shown rows.now) (linked_in (record { participants = participants.now; instruments = instruments.now }) (looked events.now) trades.now))) }
+{
+    let linked = linked_trades(alloc, participants, instruments, trades, events)?;
+    add_linked(alloc, page, participants, are_shown(rows), &linked)
+}
+
+/// Adds the alarms, by the usual bounds.
+fn add_raised(
+    alloc: Global,
+    page: &mut Page,
+    participants: &Participants,
+    instruments: &Instruments,
+    rows: &[TrailRow],
+    trades: &[TradeFact],
+    events: &[Event],
+) -> Result<(), AllocError>
+    ensures { OnOk result (page.new ≡ with_parts page.old (alarms_parts participants.now (are_shown rows.now) (alarms_of usual (record { participants = participants.now; instruments = instruments.now }) trades.now events.now))) }
+{
+    let bounds = usual_bounds();
+    let alarms = alarms_of(alloc, &bounds, participants, instruments, trades, events)?;
+    add_alarms(alloc, page, participants, are_shown(rows), &alarms)
+}
+
+/// Adds the trades of linked orders, and the alarms.
+fn add_watched(
+    alloc: Global,
+    page: &mut Page,
+    venue: &Venue,
+    rows: &[TrailRow],
+    events: &[Event],
+) -> Result<(), AllocError>
+    ensures { (h : History) → IsHistory venue.now h → OnOk result (page.new ≡ with_parts page.old (watched_parts venue.now.market rows.now h events.now)) }
+{
+    let participants = venue.participants();
+    let instruments = venue.instruments();
+    let trades = venue.trades();
+    add_pairs(alloc, page, participants, instruments, rows, trades, events)?;
+    add_raised(alloc, page, participants, instruments, rows, trades, events)
+}
+
 /// The page of a trail, whose rows led to this venue and answered this.
 fn page_made(
     alloc: Global,
@@ -117,6 +173,7 @@ fn page_made(
     add_head(alloc, &mut page, participants, instruments, trail)?;
     add_tables(alloc, &mut page, venue, trail.rows, events)?;
     add_answered(alloc, &mut page, venue, trail.rows, events)?;
+    add_watched(alloc, &mut page, venue, trail.rows, events)?;
     add_rows(alloc, &mut page, participants, trail.rows)?;
     page.add(END, &[])?;
     Ok(page)

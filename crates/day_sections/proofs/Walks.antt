@@ -86,5 +86,5 @@ rooms_on es i e last next is kept more whole below at_i n test k h =
 
 -- as many as there are, at most
 
-pub all_taken : (n : ℕ) (es : List Event) → length es ≤ n → es ≡ take n es
-all_taken n es few = sym (take_all n es few)
+pub all_taken : {X : Type 0} (n : ℕ) (xs : List X) → length xs ≤ n → xs ≡ take n xs
+all_taken n xs few = sym (take_all n xs few)

@@ -16,3 +16,7 @@ pub mod Requests
 pub mod Refusals
 -- participants
 pub mod People
+-- trades of linked orders
+pub mod Linked
+-- alarms
+pub mod Alarms

@@ -15,13 +15,13 @@ use Rattle.day_events.specs.declared.event.RoomTrade.{RoomTrade}
 use Rattle.day_events.specs.declared.event.ShownPrice.{ShownPrice}
 use Rattle.day_events.specs.declared.event.What.{What}
 use Rattle.day_events.specs.declared.event.What.TheVariants as what
-use Rattle.day_sections.specs.declared.template.TheConstants.{CELL_END, HIT, LIVE, NAME, NO_REQUEST, NOTHING_SHOWN, NOT_TAKEN, PASSED, QUOTE, QUOTES, RAN_OUT, REPLACED, REQUESTS, ROOM, ROOM_ASKED, ROOM_END, ROOM_IDLE, ROOM_SHOWN, ROOM_TRADED, SECTION_END, SHOWN, SHOWN_END, WITHDRAWN}
+use Rattle.day_sections.specs.declared.template.TheConstants.{CELL_END, HIT, HIT_ALONE, LIVE, NAME, NO_REQUEST, NOTHING_SHOWN, NOT_TAKEN, PASSED, QUOTE, QUOTES, RAN_OUT, REPLACED, REQUESTS, ROOM, ROOM_ASKED, ROOM_END, ROOM_IDLE, ROOM_SHOWN, ROOM_TRADED, ROOM_TRADED_ALONE, SECTION_END, SHOWN, SHOWN_END, WITHDRAWN}
 use Rattle.day_sections.specs.declared.fate.Fate.{Fate}
 use Rattle.day_sections.specs.declared.fate.Fate.TheVariants as fate
 use Rattle.day_sections.specs.declared.picks.Pick.TheVariants as pick
 use Rattle.day_sections.specs.Fate.{outcome_of}
 use Rattle.day_sections.specs.Picks.{is_picked}
-use Rattle.day_sections.specs.Values.{or_empty, row_part, sender_of}
+use Rattle.day_sections.specs.Values.{is_listed, or_empty, row_part, sender_of}
 use Rattle.day_tables.specs.Parts.{framed, plain_part}
 use Rattle.day_tables.specs.Values.{grouped, time_in}
 
@@ -59,8 +59,16 @@ room_part file e r asked = record {
 abbrev pub idle_part : ℕ → Part
 idle_part quotes = record { template = ROOM_IDLE.now; values = grouped quotes ∷ [] }
 
+-- its trade: a link, if that is on the page
+
+abbrev pub trade_link : RoomTrade → Part
+trade_link t = record { template = ROOM_TRADED.now; values = decimal t.trade ∷ decimal t.trade ∷ price_text t.price ∷ [] }
+
+abbrev pub trade_alone : RoomTrade → Part
+trade_alone t = record { template = ROOM_TRADED_ALONE.now; values = decimal t.trade ∷ price_text t.price ∷ [] }
+
 abbrev pub traded_part : RoomTrade → Part
-traded_part t = record { template = ROOM_TRADED.now; values = decimal t.trade ∷ decimal t.trade ∷ price_text t.price ∷ [] }
+traded_part t = if is_listed t.trade then trade_link t else trade_alone t
 
 abbrev pub outcome_part : Option RoomTrade → ℕ → Part
 outcome_part None quotes = idle_part quotes
@@ -120,11 +128,14 @@ once_part template n = record { template = template; values = decimal n ∷ [] }
 abbrev pub twice_part : List ℕ → ℕ → Part
 twice_part template n = record { template = template; values = decimal n ∷ decimal n ∷ [] }
 
+abbrev pub hit_part : ℕ → Part
+hit_part n = if is_listed n then twice_part HIT.now n else once_part HIT_ALONE.now n
+
 abbrev pub fate_part : Fate → Part
 fate_part fate.Live = plain_part LIVE.now
 fate_part fate.NotTaken = plain_part NOT_TAKEN.now
 fate_part fate.RanOut = plain_part RAN_OUT.now
-fate_part (fate.Hit n) = twice_part HIT.now n
+fate_part (fate.Hit n) = hit_part n
 fate_part (fate.Replaced n) = twice_part REPLACED.now n
 fate_part (fate.Withdrawn n) = once_part WITHDRAWN.now n
 fate_part (fate.Passed n) = once_part PASSED.now n

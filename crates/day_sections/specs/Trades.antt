@@ -1,5 +1,5 @@
 -- The section of the trades.
-use Rattle.std.specs.Prelude.{ℕ, Bool, List, [], ◌∷◌, ◌++◌, length, decimal, Option, Some, None}
+use Rattle.std.specs.Prelude.{ℕ, Bool, List, [], ◌∷◌, ◌++◌, length, decimal, take, Option, Some, None}
 use Rattle.std.specs.List.{flat_map}
 use Rattle.fix_fields.specs.Forms.{price_text}
 use Rattle.instruments.specs.declared.instruments.Instrument.{Instrument}
@@ -14,7 +14,7 @@ use Rattle.day_tables.specs.Parts.{framed, plain_part}
 use Rattle.day_tables.specs.Values.{grouped, time_in}
 use Rattle.day_sections.specs.declared.template.TheConstants.{CELL_END, DEAL, IN_BOOK, IN_ROOM, NO_ROW, TRADE, TRADES, TRADES_END}
 use Rattle.day_sections.specs.Reports.{report_of}
-use Rattle.day_sections.specs.Values.{row_part}
+use Rattle.day_sections.specs.Values.{most_trades, row_part}
 
 -- the time of what is reported
 
@@ -53,4 +53,4 @@ abbrev pub count_part : List TradeFact → Part
 count_part ts = record { template = TRADES.now; values = grouped (length ts) ∷ [] }
 
 abbrev pub trades_parts : ParticipantFile → List Instrument → Bool → List Event → List TradeFact → List Part
-trades_parts file xs linked rs ts = framed (count_part ts) (flat_map (trade_parts file xs linked rs) ts) (plain_part TRADES_END.now)
+trades_parts file xs linked rs ts = framed (count_part ts) (flat_map (trade_parts file xs linked rs) (take most_trades ts)) (plain_part TRADES_END.now)

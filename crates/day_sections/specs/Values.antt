@@ -28,6 +28,14 @@ row_part linked n = if linked then row_link n else row_alone n
 abbrev pub are_shown : List TrailRow → Bool
 are_shown rs = nat_le (length rs) 5000
 
+-- the trades on the page: the first, in the order of their numbers
+
+abbrev pub most_trades : ℕ
+most_trades = 10000
+
+abbrev pub is_listed : ℕ → Bool
+is_listed trade = nat_le trade most_trades
+
 abbrev pub moment_of : Option TrailRow → Option ℕ
 moment_of row = option_map (λ (r : TrailRow). r.moment) row
 

@@ -1,10 +1,12 @@
-//! Sections of the page of a day that say what its answers say: its six figures, trades, requests for quotes, refusals
-//! and participants.
+//! Sections of the page of a day that say what its answers say: its six figures, trades, requests for quotes, refusals,
+//! participants, linked orders and alarms.
 #![tactic(auto)]
 
+mod alarms;
 mod counts;
 mod fate;
 mod figures;
+mod linked;
 mod people;
 mod picks;
 mod refusals;
@@ -15,9 +17,11 @@ mod template;
 mod trades;
 mod values;
 
+pub use alarms::add_alarms;
 pub use counts::Kind;
 pub use fate::{Fate, Quoted};
 pub use figures::add_figures;
+pub use linked::add_linked;
 pub use people::{Kept, add_people};
 pub use picks::Pick;
 pub use refusals::add_refusals;

@@ -5,7 +5,7 @@ ghost use Rattle.std.specs.List.{flat_map};
 ghost use Rattle.page_text.specs.Parts.{with_part, with_parts};
 ghost use Rattle.day_sections.specs.declared.picks.Pick.TheVariants as pick;
 ghost use Rattle.day_sections.specs.Picks.{is_picked, of_requests};
-ghost use Rattle.day_sections.specs.Requests.{all_quotes, asked_parts, asked_section, fate_part, idle_part, if_quote_parts, if_request_parts, if_traded, most_rooms, once_part, opening_parts, optional_price, outcome_part, price_part, quote_part, quote_parts, request_parts, requests_parts, room_part, shown_order_parts, shown_parts, shown_section, side_word, side_words, some_requests, trade_in, traded_part, twice_part};
+ghost use Rattle.day_sections.specs.Requests.{all_quotes, asked_parts, asked_section, fate_part, hit_part, idle_part, if_quote_parts, if_request_parts, if_traded, most_rooms, once_part, opening_parts, optional_price, outcome_part, price_part, quote_part, quote_parts, request_parts, requests_parts, room_part, shown_order_parts, shown_parts, shown_section, side_word, side_words, some_requests, trade_alone, trade_in, trade_link, traded_part, twice_part};
 ghost use Rattle.day_sections.specs.Rooms.{rooms};
 ghost use Rattle.day_sections.specs.Values.{are_shown, last_moment};
 
@@ -13,11 +13,13 @@ use crate::fate::{Fate, Quoted, outcome_of};
 use crate::picks::{Pick, picked};
 use crate::rooms::{many, rooms};
 use crate::template::{
-    CELL_END, HIT, LIVE, NAME, NO_REQUEST, NOT_TAKEN, NOTHING_SHOWN, PASSED, QUOTE, QUOTES,
-    RAN_OUT, REPLACED, REQUESTS, ROOM, ROOM_ASKED, ROOM_END, ROOM_IDLE, ROOM_SHOWN, ROOM_TRADED,
-    SECTION_END, SHOWN, SHOWN_END, WITHDRAWN,
+    CELL_END, HIT, HIT_ALONE, LIVE, NAME, NO_REQUEST, NOT_TAKEN, NOTHING_SHOWN, PASSED, QUOTE,
+    QUOTES, RAN_OUT, REPLACED, REQUESTS, ROOM, ROOM_ASKED, ROOM_END, ROOM_IDLE, ROOM_SHOWN,
+    ROOM_TRADED, ROOM_TRADED_ALONE, SECTION_END, SHOWN, SHOWN_END, WITHDRAWN,
 };
-use crate::values::{add_row_number, are_shown, id_text, last_moment, sender_at, text_or_empty};
+use crate::values::{
+    add_row_number, are_shown, id_text, is_listed, last_moment, sender_at, text_or_empty,
+};
 use day_events::{Event, NewQuote, NewRequest, RoomTrade, ShownPrice, What};
 use day_tables::{grouped_text, name_at, number_text, price_bytes, time_in};
 use fix_dictionary::{Price, Side};
@@ -125,13 +127,33 @@ fn add_idle(alloc: Global, page: &mut Page, quotes: u64) -> Result<(), AllocErro
     page.add(ROOM_IDLE, &[&count])
 }
 
-/// Adds the trade of a request.
-fn add_traded(alloc: Global, page: &mut Page, trade: &RoomTrade) -> Result<(), AllocError>
-    ensures { OnOk result (page.new ≡ with_part page.old (traded_part trade.now)) }
+/// Adds the trade of a request, which is on the page.
+fn add_trade_link(alloc: Global, page: &mut Page, trade: &RoomTrade) -> Result<(), AllocError>
+    ensures { OnOk result (page.new ≡ with_part page.old (trade_link trade.now)) }
 {
     let number = number_text(alloc, trade.trade)?;
     let price = price_bytes(alloc, trade.price)?;
     page.add(ROOM_TRADED, &[&number, &number, &price])
+}
+
+/// Adds one that is not.
+fn add_trade_alone(alloc: Global, page: &mut Page, trade: &RoomTrade) -> Result<(), AllocError>
+    ensures { OnOk result (page.new ≡ with_part page.old (trade_alone trade.now)) }
+{
+    let number = number_text(alloc, trade.trade)?;
+    let price = price_bytes(alloc, trade.price)?;
+    page.add(ROOM_TRADED_ALONE, &[&number, &price])
+}
+
+/// Adds the trade of a request.
+fn add_traded(alloc: Global, page: &mut Page, trade: &RoomTrade) -> Result<(), AllocError>
+    ensures { OnOk result (page.new ≡ with_part page.old (traded_part trade.now)) }
+{
+    if is_listed(trade.trade) {
+        add_trade_link(alloc, page, trade)
+    } else {
+        add_trade_alone(alloc, page, trade)
+    }
 }
 
 /// Adds what came of a request.
@@ -311,6 +333,17 @@ fn add_twice(alloc: Global, page: &mut Page, template: &[u8], number: u64) -> Re
     page.add(template, &[&text, &text])
 }
 
+/// Adds that a quote was hit.
+fn add_hit(alloc: Global, page: &mut Page, trade: u64) -> Result<(), AllocError>
+    ensures { OnOk result (page.new ≡ with_part page.old (hit_part trade)) }
+{
+    if is_listed(trade) {
+        add_twice(alloc, page, HIT, trade)
+    } else {
+        add_once(alloc, page, HIT_ALONE, trade)
+    }
+}
+
 /// Adds what became of a quote.
 fn add_fate(alloc: Global, page: &mut Page, fate: Fate) -> Result<(), AllocError>
     ensures { OnOk result (page.new ≡ with_part page.old (fate_part fate)) }
@@ -319,7 +352,7 @@ fn add_fate(alloc: Global, page: &mut Page, fate: Fate) -> Result<(), AllocError
         Fate::Live => page.add(LIVE, &[]),
         Fate::NotTaken => page.add(NOT_TAKEN, &[]),
         Fate::RanOut => page.add(RAN_OUT, &[]),
-        Fate::Hit(trade) => add_twice(alloc, page, HIT, trade),
+        Fate::Hit(trade) => add_hit(alloc, page, trade),
         Fate::Replaced(quote) => add_twice(alloc, page, REPLACED, quote),
         Fate::Withdrawn(row) => add_once(alloc, page, WITHDRAWN, row),
         Fate::Passed(row) => add_once(alloc, page, PASSED, row),

@@ -4,7 +4,8 @@ ghost use Rattle.std.specs.Prelude.{◌≡◌, ◌++◌, IfOk, OnOk, count_by, l
 ghost use Rattle.day_sections.specs.Rooms.{asked_room, is_first_asked, is_made, kept_if, room_after, rooms_from};
 
 use day_events::{
-    Event, FilledOrder, NewOrder, NewQuote, NewRequest, Origin, RoomTrade, ShownPrice, What,
+    Event, FilledOrder, NewOrder, NewQuote, NewRequest, Origin, RecentOrder, RoomTrade, ShownPrice,
+    What,
 };
 use fix_dictionary::{Amount, Identifier, Price, Quantity, Side};
 use participants::Who;
@@ -31,6 +32,7 @@ pub(crate) fn keep(events: &mut Vec<Event>, event: &Event, kept: bool) -> Result
     let _who: Option<Who> = None;
     let _what: Option<What> = None;
     let _entered: Option<NewOrder> = None;
+    let _recent: Option<RecentOrder> = None;
     let _filled: Option<FilledOrder> = None;
     let _asked: Option<NewRequest> = None;
     let _shown: Option<ShownPrice> = None;

@@ -38,7 +38,7 @@ pub(crate) const CELL_END: &[u8] = b"</td></tr>";
 
 /// The end of the trades.
 pub(crate) const TRADES_END: &[u8] =
-    b"</tbody></table>\n<p class=\"s none\">One name as buyer and seller: two orders of one participant, the delay or more apart, or both sides of its cross: <code>sef_replay --csv</code> says which.</p></section>\n";
+    b"</tbody></table>\n<p class=\"s none\">One name as buyer and seller: two orders of one participant, the delay or more apart, or both sides of its cross: <code>sef_replay --csv</code> says which, and has the others of more than 10,000 trades.</p></section>\n";
 
 /// The end of a section with one table.
 pub(crate) const TABLE_END: &[u8] = b"</tbody></table></section>\n";
@@ -54,6 +54,10 @@ pub(crate) const ROOM: &[u8] =
 /// A request that traded.
 pub(crate) const ROOM_TRADED: &[u8] =
     b"<span class=\"out\"><a href=\"#T$trade;\">T$trade;</a> at <b class=\"a\">$price;</b></span>";
+
+/// A request whose trade is not on the page.
+pub(crate) const ROOM_TRADED_ALONE: &[u8] =
+    b"<span class=\"out\">T$trade; at <b class=\"a\">$price;</b></span>";
 
 /// A request that did not.
 pub(crate) const ROOM_IDLE: &[u8] =
@@ -90,6 +94,10 @@ pub(crate) const QUOTE: &[u8] =
 /// A quote that was hit.
 pub(crate) const HIT: &[u8] =
     b"<b class=\"a\">hit</b>, <a href=\"#T$trade;\">T$trade;</a></td><td class=\"n\" data-l=\"row\">";
+
+/// A quote that was hit by a trade that is not on the page.
+pub(crate) const HIT_ALONE: &[u8] =
+    b"<b class=\"a\">hit</b>, T$trade;</td><td class=\"n\" data-l=\"row\">";
 
 /// A quote that was replaced.
 pub(crate) const REPLACED: &[u8] =
@@ -151,3 +159,43 @@ pub(crate) const PERSON: &[u8] =
 
 /// The end of the participants.
 pub(crate) const PEOPLE_END: &[u8] = b"</tbody></table></div></section>\n";
+
+/// The head of the trades of linked orders.
+pub(crate) const LINKED: &[u8] =
+    b"<section id=\"linked\">\n<h2>Linked orders and crosses<small>$count;</small></h2>\n<p class=\"lead\">Trades in the book of two orders of one participant, of related ones or with one link (583, not followed through replacements), and of both sides of a cross: the second enters the delay after the first, or later (17 CFR 37.9(b)(1)). Of more than 300 trades the first 300 are here.</p>\n<table class=\"cards\"><caption class=\"q\">Linked orders and crosses</caption>\n<thead><tr><th scope=\"col\">Trade</th><th scope=\"col\">Buyer</th><th scope=\"col\">Seller</th><th scope=\"col\">First order</th><th scope=\"col\">Second order</th><th scope=\"col\" class=\"n\">Between, ms</th><th scope=\"col\" class=\"n\">Delay, ms</th><th scope=\"col\" class=\"n\">Their rows</th></tr></thead>\n<tbody>";
+
+/// A trade that is on the page.
+pub(crate) const TRADE_LINK: &[u8] =
+    b"<tr><th scope=\"row\"><a href=\"#T$trade;\">T$trade;</a></th>";
+
+/// A trade that is not.
+pub(crate) const TRADE_ALONE: &[u8] = b"<tr><th scope=\"row\">T$trade;</th>";
+
+/// The parties of a trade of linked orders, and when these entered, up to how the second did.
+pub(crate) const LINKED_TRADE: &[u8] =
+    b"<td data-l=\"buyer\">$buyer;</td><td data-l=\"seller\">$seller;</td><td class=\"w\" data-l=\"first\">$first;</td><td class=\"w\" data-l=\"second\">$second;";
+
+/// At a row of the clock.
+pub(crate) const BY_CLOCK: &[u8] = b" <small>held side</small></td>";
+
+/// With a message.
+pub(crate) const BY_MESSAGE: &[u8] = b"</td>";
+
+/// The time between them, and the delay.
+pub(crate) const LINKED_TIMES: &[u8] =
+    b"<td class=\"n\" data-l=\"between\">$between;</td><td class=\"n\" data-l=\"delay\">$delay;</td><td class=\"n\" data-l=\"rows\">";
+
+/// A day without such a trade.
+pub(crate) const NO_LINKED: &[u8] =
+    b"<section id=\"linked\">\n<h2>Linked orders and crosses</h2>\n<p class=\"none s\">No two linked orders traded; links (583) of replaced orders are not followed.</p></section>\n";
+
+/// The head of the alarms.
+pub(crate) const ALARMS: &[u8] =
+    b"<section id=\"alarms\">\n<h2>Alarms<small>$count;</small></h2>\n<p class=\"lead\">What surveillance of the day raises (17 CFR 37.203(d), 37.401) by the default thresholds, 1,000 ms, 20 orders a trade, 90 percent and 10 requests: each is something to look at, not a finding. Of more than 300 alarms the first 300 are here: <code>sef_replay --watch</code> prints the others, and with <code>--thresholds</code> those by other thresholds.</p>\n<table class=\"cards\"><caption class=\"q\">Alarms</caption>\n<thead><tr><th scope=\"col\">Alarm</th><th scope=\"col\" class=\"n\">Row</th></tr></thead>\n<tbody>";
+
+/// An alarm, up to its row.
+pub(crate) const ALARM: &[u8] = b"<tr><td>$alarm;</td><td class=\"n\" data-l=\"row\">";
+
+/// A day without an alarm.
+pub(crate) const NO_ALARM: &[u8] =
+    b"<section id=\"alarms\">\n<h2>Alarms</h2>\n<p class=\"none s\">None is raised by the default thresholds, 1,000 ms, 20 orders a trade, 90 percent and 10 requests: <code>sef_replay --watch</code> has others.</p></section>\n";

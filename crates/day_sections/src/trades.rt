@@ -1,13 +1,14 @@
 //! The section of the trades.
 
-ghost use Rattle.std.specs.Prelude.{◌≡◌, OnOk, IfOk};
+ghost use Rattle.std.specs.Prelude.{◌≡◌, OnOk, IfOk, take};
 ghost use Rattle.std.specs.List.{flat_map};
 ghost use Rattle.page_text.specs.Parts.{with_part, with_parts};
+ghost use Rattle.day_sections.specs.Values.{most_trades};
 ghost use Rattle.day_sections.specs.Trades.{deal_part, head_part, place_part, room_part, row_of_part, time_text, trade_parts, trades_parts};
 
 use crate::reports::report_of;
 use crate::template::{CELL_END, DEAL, IN_BOOK, IN_ROOM, NO_ROW, TRADE, TRADES, TRADES_END};
-use crate::values::add_row_number;
+use crate::values::{MOST_TRADES, add_row_number};
 use day_events::Event;
 use day_tables::{grouped_text, name_at, number_text, price_bytes, symbol_at, time_in};
 use instruments::Instruments;
@@ -138,6 +139,18 @@ fn add_each(
     Ok(())
 }
 
+/// The first of some trades.
+fn first_of(trades: &[TradeFact]) -> &[TradeFact]
+    ensures { result.now ≡ take most_trades trades.now }
+{
+    if trades.len() > MOST_TRADES {
+        let (first, _) = trades.split_at(MOST_TRADES);
+        first
+    } else {
+        trades
+    }
+}
+
 /// Adds the section of the trades, each with the row at which it was reported.
 pub fn add_trades(
     alloc: Global,
@@ -151,6 +164,7 @@ pub fn add_trades(
 {
     let count = grouped_text(alloc, trades.len() as u64)?;
     page.add(TRADES, &[&count])?;
-    add_each(alloc, page, participants, instruments, reported, trades)?;
+    let listed = first_of(trades);
+    add_each(alloc, page, participants, instruments, reported, listed)?;
     page.add(TRADES_END, &[])
 }

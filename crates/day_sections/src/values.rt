@@ -1,7 +1,7 @@
 //! The values of the places of a section, and the numbers of rows.
 ghost use Rattle.std.specs.Prelude.{◌≡◌, IfOk, OnOk, option_copied};
 ghost use Rattle.page_text.specs.Parts.{with_part};
-ghost use Rattle.day_sections.specs.Values.{are_shown, last_moment, moment_of, or_empty, row_alone, row_link, row_part, sender_of};
+ghost use Rattle.day_sections.specs.Values.{are_shown, is_listed, last_moment, moment_of, or_empty, row_alone, row_link, row_part, sender_of};
 
 use crate::template::{ROW_ALONE, ROW_LINK};
 use day_tables::{name_at, number_text};
@@ -77,6 +77,16 @@ pub fn are_shown(rows: &[TrailRow]) -> bool
     ensures { result ≡ are_shown rows.now }
 {
     rows.len() <= 5_000
+}
+
+/// The most trades that are on the page: the first, in the order of their numbers.
+pub(crate) const MOST_TRADES: usize = 10_000;
+
+/// Whether a trade is on the page.
+pub(crate) fn is_listed(trade: u64) -> bool
+    ensures { result ≡ is_listed trade }
+{
+    trade <= MOST_TRADES as u64
 }
 
 fn moment_of(row: Option<&TrailRow>) -> Option<Moment>

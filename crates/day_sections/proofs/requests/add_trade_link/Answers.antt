@@ -2,7 +2,7 @@ use Rattle.std.proofs.Common.{◌∷◌, [], ◌∙◌, ap, sym, List, ℕ, leng
 use Rattle.std.proofs.lemmas.Result.{on_ok_weaker}
 use Rattle.page_text.specs.Parts.{with_part, with_parts}
 use Rattle.day_sections.specs.declared.template.TheConstants.{ROOM_TRADED}
-use Rattle.day_sections.proofs.requests.add_traded.Goals as goal
+use Rattle.day_sections.proofs.requests.add_trade_link.Goals as goal
 
 pub returns : goal.returns
 returns c =

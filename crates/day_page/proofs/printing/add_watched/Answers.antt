@@ -1,0 +1,14 @@
+use Rattle.std.proofs.lemmas.Result.{err_from_is_err_and, on_ok_weaker}
+use Rattle.day_page.proofs.Pages.{watched_are}
+use Rattle.day_page.proofs.printing.add_watched.Goals as goal
+
+pub returns-in_err-add_pairs : goal.returns-in_err-add_pairs
+returns-in_err-add_pairs c = λ h is. let p = err_from_is_err_and c.from_residual.result c.from_residual.ensures.1 in rw (p.1) tt
+
+pub returns : goal.returns
+returns c = λ h is.
+    on_ok_weaker c.add_raised.result
+    (watched_are c.args.venue.now.market c.args.rows.now h c.args.events.now c.participants-participants.result.now c.instruments-instruments.result.now c.trades-trades.result.now
+    c.args.page.now c.add_pairs.new.page c.add_raised.new.page
+    c.participants-participants.ensures c.instruments-instruments.ensures (c.trades-trades.ensures h is) c.in_ok-add_pairs.ensures)
+    c.add_raised.ensures

@@ -1,0 +1,51 @@
+-- The section of the trades of linked orders (`surveillance`).
+use Rattle.std.specs.Prelude.{ℕ, ◌==◌, Bool, true, false, List, [], ◌∷◌, length, take, decimal, if◌then◌else◌}
+use Rattle.std.specs.List.{flat_map}
+use Rattle.page_text.specs.Parts.{Part}
+use Rattle.participants.specs.ParticipantFile.{ParticipantFile}
+use Rattle.participants.specs.Relations.{name_of}
+use Rattle.sef_moment.specs.Utc.{utc_text}
+use Rattle.surveillance.specs.declared.pairs.LinkedTrade.{LinkedTrade}
+use Rattle.day_sections.specs.declared.template.TheConstants.{BY_CLOCK, BY_MESSAGE, CELL_END, LINKED, LINKED_TIMES, LINKED_TRADE, NO_LINKED, TABLE_END, TRADE_ALONE, TRADE_LINK}
+use Rattle.day_sections.specs.Values.{is_listed, row_part}
+use Rattle.day_tables.specs.Parts.{framed, plain_part}
+use Rattle.day_tables.specs.Values.{grouped, time_in}
+
+-- the most trades that have their part
+abbrev pub most_linked : ℕ
+most_linked = 300
+
+-- its number: a link, if it is on the page
+
+abbrev pub trade_link : ℕ → Part
+trade_link n = record { template = TRADE_LINK.now; values = decimal n ∷ decimal n ∷ [] }
+
+abbrev pub trade_alone : ℕ → Part
+trade_alone n = record { template = TRADE_ALONE.now; values = decimal n ∷ [] }
+
+abbrev pub trade_part : ℕ → Part
+trade_part n = if is_listed n then trade_link n else trade_alone n
+
+-- its parties, and when both orders entered
+abbrev pub pair_part : ParticipantFile → LinkedTrade → Part
+pair_part file t = record { template = LINKED_TRADE.now; values = name_of file t.buyer ∷ name_of file t.seller ∷ time_in (utc_text t.first.moment) ∷ time_in (utc_text t.second.moment) ∷ [] }
+
+-- whether the second entered at a row of the clock
+abbrev pub held_part : Bool → Part
+held_part true = plain_part BY_CLOCK.now
+held_part false = plain_part BY_MESSAGE.now
+
+abbrev pub times_part : LinkedTrade → Part
+times_part t = record { template = LINKED_TIMES.now; values = grouped t.between ∷ grouped t.delay ∷ [] }
+
+abbrev pub linked_parts : ParticipantFile → Bool → LinkedTrade → List Part
+linked_parts file shown t = trade_part t.trade ∷ pair_part file t ∷ held_part t.is_held ∷ times_part t ∷ row_part shown t.first.row ∷ row_part shown t.second.row ∷ plain_part CELL_END.now ∷ []
+
+abbrev pub count_part : List LinkedTrade → Part
+count_part ts = record { template = LINKED.now; values = grouped (length ts) ∷ [] }
+
+abbrev pub some_linked : ParticipantFile → Bool → List LinkedTrade → List Part
+some_linked file shown ts = framed (count_part ts) (flat_map (linked_parts file shown) (take most_linked ts)) (plain_part TABLE_END.now)
+
+abbrev pub linked_trades_parts : ParticipantFile → Bool → List LinkedTrade → List Part
+linked_trades_parts file shown ts = if length ts == 0 then plain_part NO_LINKED.now ∷ [] else some_linked file shown ts

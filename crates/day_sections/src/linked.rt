@@ -1,0 +1,173 @@
+//! The section of the trades of linked orders.
+
+ghost use Rattle.std.specs.Prelude.{◌≡◌, IfOk, OnOk, take};
+ghost use Rattle.std.specs.List.{flat_map};
+ghost use Rattle.sef_moment.specs.Utc.{utc_text};
+ghost use Rattle.page_text.specs.Parts.{with_part, with_parts};
+ghost use Rattle.day_tables.specs.Values.{time_in};
+ghost use Rattle.day_sections.specs.Linked.{held_part, linked_parts, linked_trades_parts, most_linked, pair_part, some_linked, times_part, trade_alone, trade_link, trade_part};
+
+use crate::template::{
+    BY_CLOCK, BY_MESSAGE, CELL_END, LINKED, LINKED_TIMES, LINKED_TRADE, NO_LINKED, TABLE_END,
+    TRADE_ALONE, TRADE_LINK,
+};
+use crate::values::{add_row_number, is_listed};
+use day_tables::{grouped_text, name_at, number_text, time_in};
+use page_text::Page;
+use participants::Participants;
+use sef_moment::{Moment, print_utc};
+use std::alloc::{AllocError, Global};
+use surveillance::LinkedTrade;
+
+/// The most trades that have their part.
+const MOST_LINKED: usize = 300;
+
+fn time_of(alloc: Global, moment: Moment) -> Result<Vec<u8>, AllocError>
+    ensures { IfOk result (λ text. text.items ≡ time_in (utc_text moment)) }
+{
+    let printed = print_utc(moment);
+    Vec::from_slice(alloc, time_in(&printed))
+}
+
+/// Adds the number of a trade that is on the page.
+fn add_trade_link(alloc: Global, page: &mut Page, trade: u64) -> Result<(), AllocError>
+    ensures { OnOk result (page.new ≡ with_part page.old (trade_link trade)) }
+{
+    let number = number_text(alloc, trade)?;
+    page.add(TRADE_LINK, &[&number, &number])
+}
+
+/// Adds the number of one that is not.
+fn add_trade_alone(alloc: Global, page: &mut Page, trade: u64) -> Result<(), AllocError>
+    ensures { OnOk result (page.new ≡ with_part page.old (trade_alone trade)) }
+{
+    let number = number_text(alloc, trade)?;
+    page.add(TRADE_ALONE, &[&number])
+}
+
+/// Adds the number of a trade: a link, if it is on the page.
+fn add_trade_number(alloc: Global, page: &mut Page, trade: u64) -> Result<(), AllocError>
+    ensures { OnOk result (page.new ≡ with_part page.old (trade_part trade)) }
+{
+    if is_listed(trade) {
+        add_trade_link(alloc, page, trade)
+    } else {
+        add_trade_alone(alloc, page, trade)
+    }
+}
+
+/// Adds the parties of a trade, and when both orders entered.
+fn add_pair(
+    alloc: Global,
+    page: &mut Page,
+    participants: &Participants,
+    trade: &LinkedTrade,
+) -> Result<(), AllocError>
+    ensures { OnOk result (page.new ≡ with_part page.old (pair_part participants.now trade.now)) }
+{
+    let buyer = name_at(participants, trade.buyer);
+    let seller = name_at(participants, trade.seller);
+    let first = time_of(alloc, trade.first.moment)?;
+    let second = time_of(alloc, trade.second.moment)?;
+    page.add(LINKED_TRADE, &[buyer, seller, &first, &second])
+}
+
+/// Adds whether the second order entered at a row of the clock.
+fn add_held(page: &mut Page, is_held: bool) -> Result<(), AllocError>
+    ensures { OnOk result (page.new ≡ with_part page.old (held_part is_held)) }
+{
+    if is_held {
+        page.add(BY_CLOCK, &[])
+    } else {
+        page.add(BY_MESSAGE, &[])
+    }
+}
+
+fn add_times(alloc: Global, page: &mut Page, trade: &LinkedTrade) -> Result<(), AllocError>
+    ensures { OnOk result (page.new ≡ with_part page.old (times_part trade.now)) }
+{
+    let between = grouped_text(alloc, trade.between)?;
+    let delay = grouped_text(alloc, trade.delay)?;
+    page.add(LINKED_TIMES, &[&between, &delay])
+}
+
+/// Adds a trade.
+fn add_one(
+    alloc: Global,
+    page: &mut Page,
+    participants: &Participants,
+    shown: bool,
+    trade: &LinkedTrade,
+) -> Result<(), AllocError>
+    ensures { OnOk result (page.new ≡ with_parts page.old (linked_parts participants.now shown trade.now)) }
+{
+    add_trade_number(alloc, page, trade.trade)?;
+    add_pair(alloc, page, participants, trade)?;
+    add_held(page, trade.is_held)?;
+    add_times(alloc, page, trade)?;
+    add_row_number(alloc, page, shown, trade.first.row)?;
+    add_row_number(alloc, page, shown, trade.second.row)?;
+    page.add(CELL_END, &[])
+}
+
+/// Adds some trades, in order.
+fn add_each(
+    alloc: Global,
+    page: &mut Page,
+    participants: &Participants,
+    shown: bool,
+    trades: &[LinkedTrade],
+) -> Result<(), AllocError>
+    ensures { OnOk result (page.new ≡ with_parts page.old (flat_map (linked_parts participants.now shown) trades.now)) }
+{
+    for trade in trades {
+        add_one(alloc, page, participants, shown, trade)?;
+    }
+    Ok(())
+}
+
+/// The first of some trades.
+fn first_of(trades: &[LinkedTrade]) -> &[LinkedTrade]
+    ensures { result.now ≡ take most_linked trades.now }
+{
+    if trades.len() > MOST_LINKED {
+        let (first, _) = trades.split_at(MOST_LINKED);
+        first
+    } else {
+        trades
+    }
+}
+
+/// Adds the section of a day with trades of linked orders.
+fn add_some(
+    alloc: Global,
+    page: &mut Page,
+    participants: &Participants,
+    shown: bool,
+    trades: &[LinkedTrade],
+) -> Result<(), AllocError>
+    ensures { OnOk result (page.new ≡ with_parts page.old (some_linked participants.now shown trades.now)) }
+{
+    let count = grouped_text(alloc, trades.len() as u64)?;
+    page.add(LINKED, &[&count])?;
+    add_each(alloc, page, participants, shown, first_of(trades))?;
+    page.add(TABLE_END, &[])
+}
+
+/// Adds the section of the trades of linked orders; each with links to the rows of its orders, if the rows are on the
+/// page.
+pub fn add_linked(
+    alloc: Global,
+    page: &mut Page,
+    participants: &Participants,
+    shown: bool,
+    trades: &[LinkedTrade],
+) -> Result<(), AllocError>
+    ensures { OnOk result (page.new ≡ with_parts page.old (linked_trades_parts participants.now shown trades.now)) }
+{
+    if trades.len() == 0 {
+        page.add(NO_LINKED, &[])
+    } else {
+        add_some(alloc, page, participants, shown, trades)
+    }
+}
