@@ -6,3 +6,4 @@ pub mod Older
 pub mod Asked
 pub mod OverBytes
 pub mod UnderFile
+pub mod WithoutRows

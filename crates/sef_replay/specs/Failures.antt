@@ -1,9 +1,11 @@
 -- The program's exit statuses other than 0.
 use Rattle.std.specs.Prelude.{ℕ}
 use Rattle.sqlite.specs.declared.error.Error.{Error}
-use Rattle.sqlite.specs.declared.error.Error.TheVariants.{SqliteFailure}
-use Rattle.sqlite.specs.declared.error.ErrorCode.{ErrorCode}
-use Rattle.sqlite.specs.declared.error.ErrorCode.TheVariants as code
+use Rattle.program_shell.specs.TrailEnd.{end_of_error, end_of_fault}
+use Rattle.program_shell.specs.declared.trail_end.TrailEnd.{TrailEnd}
+use Rattle.program_shell.specs.declared.trail_end.TrailEnd.TheVariants as end
+use Rattle.program_shell.specs.declared.words.WordsFault.{WordsFault}
+use Rattle.program_shell.specs.declared.words.WordsFault.TheVariants as words
 use Rattle.venue_rules.specs.declared.trail.TrailFault.{TrailFault}
 use Rattle.venue_rules.specs.declared.trail.TrailFault.TheVariants as trail
 use Rattle.trail_questions.specs.declared.fault.AskedFault.{AskedFault}
@@ -22,14 +24,14 @@ status_of (UnknownNamed what) = 3
 status_of File = 3
 status_of Differs = 4
 
--- the end of the program where a trail has this fault
+-- the end of the program where a trail ends it
+abbrev pub end_failure : TrailEnd → Failure
+end_failure (end.Refused number) = TrailRefused number
+end_failure end.Memory = Stopped stop.Memory
+end_failure end.Stopped = Stopped stop.Trail
+
 abbrev pub trail_failure : TrailFault → Failure
-trail_failure trail.Refused = TrailRefused 1
-trail_failure trail.OtherFiles = TrailRefused 2
-trail_failure (trail.BadRow n) = TrailRefused 3
-trail_failure trail.OtherVersion = TrailRefused 4
-trail_failure (trail.BadDelay x) = TrailRefused 5
-trail_failure trail.NoMemory = Stopped stop.Memory
+trail_failure fault = end_failure (end_of_fault fault)
 
 -- and where a question is not answered
 abbrev pub asked_failure : AskedFault → Failure
@@ -43,14 +45,11 @@ abbrev pub rows_stop : TrailFault → Stop
 rows_stop trail.NoMemory = stop.Memory
 rows_stop _ = stop.Trail
 
--- and where the file is not opened: another process has it, or the disk failed; else it is no database
-abbrev pub code_failure : ErrorCode → Failure
-code_failure code.OutOfMemory = Stopped stop.Memory
-code_failure code.DatabaseBusy = Stopped stop.Trail
-code_failure code.SystemIoFailure = Stopped stop.Trail
-code_failure code.DiskFull = Stopped stop.Trail
-code_failure _ = TrailRefused 1
-
+-- and where the file is not opened
 abbrev pub open_failure : Error → Failure
-open_failure (SqliteFailure c) = code_failure c
-open_failure _ = TrailRefused 1
+open_failure error = end_failure (end_of_error error)
+
+-- and where the words are not there
+abbrev pub words_failure : WordsFault → Failure
+words_failure words.Memory = Stopped stop.Memory
+words_failure words.Refused = CommandLine

@@ -7,4 +7,5 @@ pub mod Reports
 pub mod Copied
 pub mod Compared
 pub mod Under
+pub mod Without
 pub mod Answered

@@ -5,9 +5,11 @@ use crate::refused::Refused;
 use clap::error::ErrorKind;
 use clap::{Arg, ArgAction, ArgMatches, Command, Error};
 use message_words::Form as AnswersForm;
+use program_shell::words_given;
 use std::alloc::{AllocError, Global};
-use std::{env, io};
-use trail_questions::{ActivityForm, AskedWords, BookForm, BookWords, NarrowingWords, RestsWords};
+use trail_questions::{
+    ActivityForm, AskedWords, BookForm, BookWords, NarrowingWords, RestsWords, WatchForm,
+};
 
 /// The request of the command line.
 #[derive(Drop)]
@@ -31,10 +33,21 @@ pub enum Task {
         desk: String,
         log: String,
     },
+    /// `TRAIL --watch`, perhaps with `--thresholds FILE`
+    Watch {
+        path: String,
+        thresholds: Option<String>,
+        form: WatchForm,
+    },
     /// `TRAIL --with FILE`
     With {
         path: String,
         file: String,
+    },
+    /// `TRAIL --without NAME`
+    Without {
+        path: String,
+        name: String,
     },
     /// `--compare TRAIL OTHER`
     Compare {
@@ -58,8 +71,10 @@ enum Mode {
     Against,
     Desk,
     With,
+    Without,
     Digest,
     Page,
+    Watch,
     Compare,
 }
 
@@ -72,6 +87,7 @@ enum Word {
     Order,
     Room,
     Desk,
+    Thresholds,
     Csv,
     Json,
     /// A second trail.
@@ -108,8 +124,10 @@ fn mode_word(mode: Mode) -> &'static str {
         Mode::Against => "--against",
         Mode::Desk => "--desk",
         Mode::With => "--with",
+        Mode::Without => "--without",
         Mode::Digest => "--digest",
         Mode::Page => "--page",
+        Mode::Watch => "--watch",
         Mode::Compare => "--compare",
     }
 }
@@ -125,9 +143,10 @@ fn goes_with(word: Word, mode: Mode) -> bool {
         ),
         Word::Csv => matches!(
             mode,
-            Mode::Day | Mode::Answers | Mode::Book | Mode::Rests | Mode::Desk
+            Mode::Day | Mode::Answers | Mode::Book | Mode::Rests | Mode::Desk | Mode::Watch
         ),
         Word::Desk => matches!(mode, Mode::Against | Mode::Desk),
+        Word::Thresholds => mode == Mode::Watch,
         Word::Other => mode == Mode::Compare,
     }
 }
@@ -141,8 +160,9 @@ fn place_of(word: Word) -> &'static str {
         Word::Order => "--order goes with --answers",
         Word::Room => "--room goes with --answers",
         Word::Desk => "--desk goes with --against, or alone",
+        Word::Thresholds => "--thresholds goes with --watch",
         Word::Csv =>
-            "--csv goes with the trades of a trail, which --migrate updates before, or with --answers, --book, --rests or --desk",
+            "--csv goes with the trades of a trail, which --migrate updates before, or with --answers, --book, --rests, --desk or --watch",
         Word::Json => "--json goes with --answers",
         Word::Other => "a second TRAIL goes with --compare",
     }
@@ -178,7 +198,10 @@ fn misfit_refused(alloc: Global, misfit: Misfit) -> Refused {
 
 /// The request in the process's arguments.
 pub fn task_given(rt: &HostRuntime) -> Result<Task, Refused> {
-    let words = words_given(rt)?;
+    let words = match words_given(rt) {
+        Ok(words) => words,
+        Err(fault) => return Err(Refused::from(Failure::from(fault))),
+    };
     let task = task_in(rt.alloc(), &words);
     drop(words);
     match task {
@@ -189,20 +212,6 @@ pub fn task_given(rt: &HostRuntime) -> Result<Task, Refused> {
             drop(error);
             answer
         }
-    }
-}
-
-/// The process's arguments. One that is not UTF-8 is refused.
-fn words_given(rt: &HostRuntime) -> Result<Vec<String>, Failure> {
-    match env::args(rt) {
-        Ok(words) => match words.collect(rt.alloc()) {
-            Ok(words) => Ok(words),
-            Err(_) => Err(Failure::Stopped(Stop::Memory)),
-        },
-        Err(error) => match error.kind() {
-            io::ErrorKind::OutOfMemory => Err(Failure::Stopped(Stop::Memory)),
-            _ => Err(Failure::CommandLine),
-        },
     }
 }
 
@@ -225,16 +234,19 @@ const EXAMPLES: &str = "Examples:
   sef_replay day.trail --against messages.log --desk BETA    whether BETA's log has what it was owed, in order
   sef_replay day.trail --desk BETA     BETA's own figures: requests, quotes, orders and trades
   sef_replay day.trail --with other.toml       the same rows under another file: answers that differ, trades lost and gained
+  sef_replay day.trail --without BETA  the same rows without BETA's: answers that differ, trades lost and gained
   sef_replay day.trail --digest        the number of rows, and the digest of the trail's content; with --row, up to a row
   sef_replay day.trail --page >day.html        the day as one page of HTML, for a browser or for paper
+  sef_replay day.trail --watch         alarms: self-trades, orders cancelled soon, ratios; with --thresholds FILE, by its thresholds
   sef_replay --compare A B             whether two trails are the same, the first row that differs, and which answers do
   sef_replay --migrate day.trail       of a trail of an older version, which is changed for good: copy it before
 
 The files are read whole and not written, but for --migrate: media that cannot be written, a copy without a log, and the
 trail of a venue that runs can be read. docs/COMPLIANCE.md explains what is printed.
 
-Status: 0 done, and of --compare, --against and --with, all is the same; 4 it is not, as is printed, also where one is
-the first part of the other; 1 stopped; 2 the command line, 3 a trail or what was asked for is refused, as a second line says.";
+Status: 0 done, and of --compare, --against, --with and --without, all that is compared is the same; 4 it is not, as is
+printed, also where one is the first part of the other; 1 stopped; 2 the command line, 3 a trail or what was asked for
+is refused, as a second line says.";
 
 /// An argument without a value.
 fn flag<'a>(alloc: Global, name: &'a str, help: &'a str) -> Arg<'a> {
@@ -378,12 +390,18 @@ fn with_against<'a>(alloc: Global, command: Command<'a>) -> Result<Command<'a>, 
     ))
 }
 
-fn with_other_file<'a>(alloc: Global, command: Command<'a>) -> Result<Command<'a>, AllocError> {
-    command.arg(option(
+fn with_other_runs<'a>(alloc: Global, command: Command<'a>) -> Result<Command<'a>, AllocError> {
+    let command = command.arg(option(
         alloc,
         "with",
         "FILE",
         "Answers the rows by the participants or the instruments of this file, and prints what differs",
+    ))?;
+    command.arg(option(
+        alloc,
+        "without",
+        "NAME",
+        "Answers the rows without those that this participant sent, and prints what differs",
     ))
 }
 
@@ -399,7 +417,21 @@ fn with_page<'a>(alloc: Global, command: Command<'a>) -> Result<Command<'a>, All
     command.arg(flag(alloc, "page", "Prints the day as one page of HTML"))
 }
 
-/// The arguments of answers, books, logs, digests and pages.
+fn with_watch<'a>(alloc: Global, command: Command<'a>) -> Result<Command<'a>, AllocError> {
+    let command = command.arg(flag(
+        alloc,
+        "watch",
+        "Prints what surveillance of the day raises an alarm of",
+    ))?;
+    command.arg(option(
+        alloc,
+        "thresholds",
+        "FILE",
+        "Of --watch, the thresholds, as TOML; those that it does not state are the default ones",
+    ))
+}
+
+/// The arguments of answers, books, logs, digests, pages and alarms.
 fn with_questions<'a>(alloc: Global, command: Command<'a>) -> Result<Command<'a>, AllocError> {
     let command = with_answers(alloc, command)?;
     let command = with_to(alloc, command)?;
@@ -419,9 +451,10 @@ fn with_questions<'a>(alloc: Global, command: Command<'a>) -> Result<Command<'a>
         "Prints what rests or is held, for each participant",
     ))?;
     let command = with_against(alloc, command)?;
-    let command = with_other_file(alloc, command)?;
+    let command = with_other_runs(alloc, command)?;
     let command = with_digest(alloc, command)?;
-    with_page(alloc, command)
+    let command = with_page(alloc, command)?;
+    with_watch(alloc, command)
 }
 
 /// The program's command. Each argument is added by a function of its own: several in one function cost the proof a
@@ -485,8 +518,10 @@ fn mode_given(given: &ArgMatches<'_>) -> Result<Mode, Misfit> {
     let is_desk = given.get_str("desk").is_some() && given.get_str("against").is_none();
     let mode = and_mode(mode, is_desk, Mode::Desk);
     let mode = and_mode(mode, given.get_str("with").is_some(), Mode::With);
+    let mode = and_mode(mode, given.get_str("without").is_some(), Mode::Without);
     let mode = and_mode(mode, given.get_flag("digest"), Mode::Digest);
     let mode = and_mode(mode, given.get_flag("page"), Mode::Page);
+    let mode = and_mode(mode, given.get_flag("watch"), Mode::Watch);
     and_mode(mode, given.get_flag("compare"), Mode::Compare)
 }
 
@@ -517,6 +552,11 @@ fn misfit_of(given: &ArgMatches<'_>, mode: Mode) -> Option<Misfit> {
         .or(astray(given.get_str("order").is_some(), Word::Order, mode))
         .or(astray(given.get_str("room").is_some(), Word::Room, mode))
         .or(astray(given.get_str("desk").is_some(), Word::Desk, mode))
+        .or(astray(
+            given.get_str("thresholds").is_some(),
+            Word::Thresholds,
+            mode,
+        ))
         .or(astray(csv, Word::Csv, mode))
         .or(astray(json, Word::Json, mode))
         .or(astray(given.get_str("other").is_some(), Word::Other, mode))
@@ -541,9 +581,18 @@ fn task_at(
             let words = AskedWords::Activity(desk, activity_form_of(given));
             Ok(Task::Ask { path, words })
         }
+        Mode::Watch => Ok(Task::Watch {
+            path,
+            thresholds: word_given(alloc, given, "thresholds")?,
+            form: watch_form_of(given),
+        }),
         Mode::With => Ok(Task::With {
             path,
             file: required_word(alloc, given, "with")?,
+        }),
+        Mode::Without => Ok(Task::Without {
+            path,
+            name: required_word(alloc, given, "without")?,
         }),
         Mode::Compare => Ok(Task::Compare {
             path,
@@ -651,6 +700,14 @@ fn activity_form_of(given: &ArgMatches<'_>) -> ActivityForm {
         ActivityForm::Table
     } else {
         ActivityForm::Lines
+    }
+}
+
+fn watch_form_of(given: &ArgMatches<'_>) -> WatchForm {
+    if given.get_flag("csv") {
+        WatchForm::Table
+    } else {
+        WatchForm::Lines
     }
 }
 

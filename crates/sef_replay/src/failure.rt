@@ -1,11 +1,12 @@
 //! The program's exit statuses other than 0.
 
 ghost use Rattle.std.specs.Prelude.{◌≡◌};
-ghost use Rattle.sef_replay.specs.Failures.{asked_failure, code_failure, open_failure, status_of, trail_failure};
+ghost use Rattle.sef_replay.specs.Failures.{asked_failure, end_failure, open_failure, status_of, trail_failure, words_failure};
 ghost use Rattle.sef_replay.specs.declared.failure.Failure.TheVariants.{Stopped as Stops};
 ghost use Rattle.sef_replay.specs.declared.failure.Stop.TheVariants.{Memory};
 
-use sqlite::{Error as StoreError, ErrorCode};
+use program_shell::{TrailEnd, WordsFault};
+use sqlite::Error as StoreError;
 use std::alloc::AllocError;
 use thiserror::Error;
 use trail_questions::{AskedFault, Unknown};
@@ -96,18 +97,23 @@ impl From<AskedFault> for Failure {
     }
 }
 
+impl From<TrailEnd> for Failure {
+    ghost from_gives = { λ end failure. failure ≡ end_failure end };
+
+    fn from(end: TrailEnd) -> Failure {
+        match end {
+            TrailEnd::Refused(number) => Failure::Trail(number),
+            TrailEnd::Memory => Failure::Stopped(Stop::Memory),
+            TrailEnd::Stopped => Failure::Stopped(Stop::Trail),
+        }
+    }
+}
+
 impl From<TrailFault> for Failure {
     ghost from_gives = { λ fault failure. failure ≡ trail_failure fault };
 
     fn from(fault: TrailFault) -> Failure {
-        match fault {
-            TrailFault::Refused => Failure::Trail(1),
-            TrailFault::OtherFiles => Failure::Trail(2),
-            TrailFault::BadRow(_) => Failure::Trail(3),
-            TrailFault::OtherVersion => Failure::Trail(4),
-            TrailFault::BadDelay(_) => Failure::Trail(5),
-            TrailFault::NoMemory => Failure::Stopped(Stop::Memory),
-        }
+        Failure::from(TrailEnd::from(fault))
     }
 }
 
@@ -115,23 +121,17 @@ impl From<StoreError> for Failure {
     ghost from_gives = { λ error failure. failure ≡ open_failure error };
 
     fn from(error: StoreError) -> Failure {
-        match error {
-            StoreError::SqliteFailure(code) => Failure::from(code),
-            _ => Failure::Trail(1),
-        }
+        Failure::from(TrailEnd::from(error))
     }
 }
 
-impl From<ErrorCode> for Failure {
-    ghost from_gives = { λ code failure. failure ≡ code_failure code };
+impl From<WordsFault> for Failure {
+    ghost from_gives = { λ fault failure. failure ≡ words_failure fault };
 
-    fn from(code: ErrorCode) -> Failure {
-        match code {
-            ErrorCode::OutOfMemory => Failure::Stopped(Stop::Memory),
-            ErrorCode::DatabaseBusy => Failure::Stopped(Stop::Trail),
-            ErrorCode::SystemIoFailure => Failure::Stopped(Stop::Trail),
-            ErrorCode::DiskFull => Failure::Stopped(Stop::Trail),
-            _ => Failure::Trail(1),
+    fn from(fault: WordsFault) -> Failure {
+        match fault {
+            WordsFault::Memory => Failure::Stopped(Stop::Memory),
+            WordsFault::Refused => Failure::CommandLine,
         }
     }
 }

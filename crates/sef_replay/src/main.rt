@@ -9,7 +9,6 @@ mod copied;
 mod copying;
 mod diagnosis;
 mod failure;
-mod file;
 mod form;
 mod market;
 mod migrating;
@@ -19,6 +18,7 @@ mod refused;
 mod replaying;
 mod report;
 mod under;
+mod without;
 
 pub use answering::{WordsFailure, print_words};
 pub use asking::print_asked;
@@ -28,12 +28,12 @@ pub use copied::{Copied, print_copied};
 use copying::{copied_from, file_at};
 use diagnosis::{fault_line, other_rules_line};
 pub use failure::{Failure, Stop};
-use file::is_database;
 pub use form::Form;
 pub use migrating::print_migrated;
 pub use printing::print_day;
+use program_shell::is_database;
 pub use reading::{ReadDay, read_day};
-use refused::{Refused, absent_in, misspelt_in};
+use refused::{Refused, absent_in, misspelt_in, nobody_named};
 pub use report::print_wanted;
 use sqlite::{Alter, Connection};
 use std::alloc::Global;
@@ -41,8 +41,11 @@ use std::io::Write;
 use std::process::ExitCode;
 use trail_bytes::open_bytes;
 use trail_comparison::RulesFault;
-use trail_questions::{AskedWords, NoLog, Unknown, question_of};
+use trail_questions::{
+    AskedWords, NoLog, Thresholds, ThresholdsFault, Unknown, WatchForm, question_of, thresholds_in,
+};
 pub use under::{UnderFailure, print_under_file};
+pub use without::{WithoutFailure, print_without_rows};
 
 /// The seed of a store in memory, which keeps nothing that somebody could foresee.
 const SEED: u64 = 0;
@@ -120,6 +123,38 @@ fn ask_against(rt: &HostRuntime, path: &str, desk: String, log: &str) -> Result<
         }
     };
     ask(rt, path, &AskedWords::Against(desk, bytes))
+}
+
+/// The bounds of the alarms in a file; the usual ones without a file.
+fn bounds_in(rt: &HostRuntime, file: &Option<String>) -> Result<Thresholds, Refused> {
+    let (text, file) = match file {
+        Some(file) => (other_file_at(rt, file)?, file.as_str()),
+        None => (Vec::new(rt.alloc()), ""),
+    };
+    match thresholds_in(rt.alloc(), &text) {
+        Ok(bounds) => Ok(bounds),
+        Err(ThresholdsFault::NoMemory) => Err(Refused::from(Failure::Stopped(Stop::Memory))),
+        Err(fault) => Err(of_thresholds(rt, file, fault)),
+    }
+}
+
+/// The refusal of a file of thresholds.
+fn of_thresholds(rt: &HostRuntime, file: &str, fault: ThresholdsFault) -> Refused {
+    match format!(in rt.alloc(); "{fault}") {
+        Ok(reason) => Refused::of_word(rt.alloc(), Failure::File, file, &reason),
+        Err(_) => Refused::from(Failure::File),
+    }
+}
+
+/// Prints the alarms of the day in the trail at a path.
+fn watch(
+    rt: &HostRuntime,
+    path: &str,
+    thresholds: &Option<String>,
+    form: WatchForm,
+) -> Result<(), Refused> {
+    let bounds = bounds_in(rt, thresholds)?;
+    ask(rt, path, &AskedWords::Watch(bounds, form))
 }
 
 /// A file that is not there is no log.
@@ -215,6 +250,19 @@ fn answer_under(rt: &HostRuntime, path: &str, file: &str) -> Result<(), Refused>
     }
 }
 
+/// Prints how the answers to the rows of the trail at a path differ without those of the participant with this name.
+fn answer_without(rt: &HostRuntime, path: &str, name: &str) -> Result<(), Refused> {
+    let copied = trail_at(rt, path)?;
+    match print_without_rows(rt.alloc(), copied, SEED, name.as_bytes(), &mut rt.stdout()) {
+        Ok(()) => Ok(()),
+        Err(WithoutFailure::OfTrail(failure)) => Err(with_fault(rt, path, failure)),
+        Err(WithoutFailure::Nobody) => Err(nobody_named(rt.alloc(), name)),
+        Err(WithoutFailure::Differ) => Err(Refused::from(Failure::Differs)),
+        Err(WithoutFailure::Memory) => Err(Refused::from(Failure::Stopped(Stop::Memory))),
+        Err(WithoutFailure::Output) => Err(Refused::from(Failure::Stopped(Stop::Output))),
+    }
+}
+
 // Generic over the store, so that the contracts of `print_migrated` are passed on in one call.
 fn migrate_and_close<S: Alter + Drop, W: Write>(
     alloc: Global,
@@ -254,7 +302,13 @@ fn run(rt: &HostRuntime) -> Result<(), Refused> {
         Task::Migrate { path } => migrate(rt, &path, Form::Lines),
         Task::Ask { path, words } => ask(rt, &path, &words),
         Task::Against { path, desk, log } => ask_against(rt, &path, desk, &log),
+        Task::Watch {
+            path,
+            thresholds,
+            form,
+        } => watch(rt, &path, &thresholds, form),
         Task::With { path, file } => answer_under(rt, &path, &file),
+        Task::Without { path, name } => answer_without(rt, &path, &name),
         Task::Compare { path, other } => compare(rt, &path, &other),
         Task::Help => Ok(()),
     }

@@ -79,6 +79,12 @@ fn absence_of(unknown: Unknown) -> &'static str {
     }
 }
 
+/// The refusal of a name that no participant of the trail has.
+pub fn nobody_named(alloc: Global, name: &str) -> Refused {
+    let nobody = Unknown::Sender;
+    Refused::of_word(alloc, Failure::Unknown(nobody), name, absence_of(nobody))
+}
+
 /// Why a word that names a row, or the rows from one to another, is refused.
 fn absence_of_rows(word: &str) -> &'static str {
     match span_in(word) {
@@ -150,8 +156,11 @@ fn word_for(words: &AskedWords, unknown: Unknown) -> Option<&str> {
         AskedWords::Digest(Some(word)) => Some(word.as_str()),
         AskedWords::Against(desk, _) => Some(desk.as_str()),
         AskedWords::Activity(desk, _) => Some(desk.as_str()),
-        AskedWords::Table | AskedWords::Evidences | AskedWords::Digest(None) | AskedWords::Page =>
-            None,
+        AskedWords::Table
+        | AskedWords::Evidences
+        | AskedWords::Digest(None)
+        | AskedWords::Page
+        | AskedWords::Watch(_, _) => None,
         AskedWords::Book(words, _) => book_word(words, unknown),
         AskedWords::Rests(words, _) => rests_word(words, unknown),
         AskedWords::Answers(words, _) => narrowing_word(words, unknown),

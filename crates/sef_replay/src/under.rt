@@ -38,7 +38,7 @@ pub enum UnderFailure {
 }
 
 /// The rules of a day, read again from its files.
-fn rules_again(alloc: Global, day: &ReadDay) -> Result<Rules, Stop>
+pub(crate) fn rules_again(alloc: Global, day: &ReadDay) -> Result<Rules, Stop>
     requires kept { AreKept day.now.files day.now.delays.items day.now.day.participants day.now.day.instruments }
     ensures same { IfOk result (λ own. market_of_rules own ≡ market_of (read_side day.now)) }
     ensures memory { IfErr result (λ why. why ≡ stop.Memory) }

@@ -12,3 +12,4 @@ pub mod Digest
 pub mod Question
 pub mod Numbers
 pub mod Words
+pub mod Watch

@@ -9,7 +9,7 @@ use Rattle.trail_questions.specs.declared.fault.Unknown.TheVariants.{Instrument,
 use Rattle.trail_questions.specs.declared.question.Question.{Question}
 use Rattle.trail_questions.specs.declared.question.Question.TheVariants as question
 use Rattle.trail_questions.specs.declared.words.AskedWords.{AskedWords}
-use Rattle.trail_questions.specs.declared.words.AskedWords.TheVariants.{Activity, Against, Answers, Book, Digest, Evidence, Evidences, Page, Rests, Table, Why}
+use Rattle.trail_questions.specs.declared.words.AskedWords.TheVariants.{Activity, Against, Answers, Book, Digest, Evidence, Evidences, Page, Rests, Table, Watch, Why}
 use Rattle.trail_questions.specs.declared.words.BookWords.{BookWords}
 use Rattle.trail_questions.specs.declared.words.NarrowingWords.{NarrowingWords}
 use Rattle.trail_questions.specs.declared.rests.RestsAfter.{RestsAfter}
@@ -82,6 +82,7 @@ IsAgainst desk log _ = ⊥
 abbrev pub Spells : AskedWords → Question → Type 0
 Spells Table q = q ≡ question.Table
 Spells Page q = q ≡ question.Page
+Spells (Watch bounds form) q = q ≡ question.Watch bounds form
 Spells (Against desk log) q = IsAgainst (string_bytes desk) log.items q
 Spells (Activity desk form) q = (name : List ℕ) × (q ≡ question.Activity name form) × (name ≡ string_bytes desk)
 Spells (Digest word) q = (row : Option ℕ) × (q ≡ question.Digest row) × SpellsNumber (codes "") (option_map string_bytes word) row
@@ -96,6 +97,7 @@ Spells (Answers w form) q = (n : Narrowing) × (q ≡ question.Answers n form) �
 abbrev pub IsMisspelt : AskedWords → Unknown → Type 0
 IsMisspelt Table what = ⊥
 IsMisspelt Page what = ⊥
+IsMisspelt (Watch bounds form) what = ⊥
 IsMisspelt (Against desk log) Recipient = IsNoName (Some (string_bytes desk))
 IsMisspelt (Against desk log) _ = ⊥
 IsMisspelt (Activity desk form) Recipient = IsNoName (Some (string_bytes desk))

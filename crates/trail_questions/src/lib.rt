@@ -14,6 +14,7 @@ mod page;
 mod question;
 mod rests;
 mod trades;
+mod watch;
 mod why;
 mod words;
 
@@ -25,4 +26,5 @@ pub use participant_activity::Form as ActivityForm;
 pub use question::{Question, print_question};
 pub use resting_orders::Form as BookForm;
 pub use rests::RestsAfter;
+pub use surveillance::{Form as WatchForm, Thresholds, ThresholdsFault, thresholds_in};
 pub use words::{AskedWords, BookWords, NarrowingWords, RestsWords, question_of};

@@ -21,6 +21,7 @@ use crate::headed::head_form;
 use crate::page::print_page_of;
 use crate::rests::{RestsAfter, print_rests_after};
 use crate::trades::print_table_of;
+use crate::watch::{print_watch_of, watch_head};
 use crate::why::print_why_at;
 use fix_dictionary::Identifier;
 use instruments::Instruments;
@@ -30,6 +31,7 @@ use participants::Participants;
 use resting_orders::Form as BookForm;
 use std::alloc::Global;
 use std::io::Write;
+use surveillance::{Form as WatchForm, Thresholds};
 use trail_digest::{Contents, HeadForm, append_head};
 
 /// A question about a day.
@@ -57,6 +59,8 @@ pub enum Question<'a> {
     Digest(Option<u64>),
     /// The day as one page.
     Page,
+    /// The alarms of the day, by these bounds.
+    Watch(Thresholds, WatchForm),
 }
 
 /// The head above an answer that is made whole before it is written: of a table, a digest or a page none, and none of
@@ -68,6 +72,7 @@ fn head_of(question: &Question<'_>) -> Option<HeadForm>
         Question::Evidence(_) | Question::Why(_) | Question::Against(_, _) => Some(HeadForm::Line),
         Question::Book(_, form) | Question::Rests(_, form) => book_head(*form),
         Question::Activity(_, form) => activity_head(*form),
+        Question::Watch(_, form) => watch_head(*form),
         Question::Answers(narrowing, form) => {
             if is_sought(narrowing) {
                 head_form(*form)
@@ -136,6 +141,17 @@ fn print_answer<W: Write>(
             print_digest_at(alloc, trail, *row, writer)
         }
         Question::Page => print_page_of(alloc, participants, instruments, trail, writer),
+        Question::Watch(bounds, form) => {
+            print_watch_of(
+                alloc,
+                participants,
+                instruments,
+                rows,
+                bounds,
+                *form,
+                writer,
+            )
+        }
     }
 }
 

@@ -13,6 +13,7 @@ use fix_dictionary::Identifier;
 use message_words::Form;
 use participant_activity::Form as ActivityForm;
 use resting_orders::Form as BookForm;
+use surveillance::{Form as WatchForm, Thresholds};
 use trail_answers::RowSpan;
 
 /// What narrows the answers, as it was written.
@@ -64,6 +65,8 @@ pub enum AskedWords {
     Digest(Option<String>),
     /// `--page`
     Page,
+    /// `--watch`, perhaps with `--thresholds FILE`: with the bounds that the file states
+    Watch(Thresholds, WatchForm),
 }
 
 /// A name, if one is given. Nothing where it is none.
@@ -199,6 +202,7 @@ pub fn question_of<'a>(words: &'a AskedWords) -> Result<Question<'a>, Unknown>
     match words {
         AskedWords::Table => Ok(Question::Table),
         AskedWords::Page => Ok(Question::Page),
+        AskedWords::Watch(bounds, form) => Ok(Question::Watch(*bounds, *form)),
         AskedWords::Evidence(word) => match trade_number(word) {
             Some(number) => Ok(Question::Evidence(number)),
             None => Err(Unknown::Trade),
