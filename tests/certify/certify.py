@@ -140,6 +140,23 @@ def chosen(words):
     return found
 
 
+def script_of(cases, name="ALPHA"):
+    """The cases as a script of the QuickFIX client of tests/interop/quickfix: what it sends in each, and waits for."""
+    yield f"{name} logon\n{name} hears 35=A"
+    for case in cases:
+        yield f"# {case.name}"
+        for step in case.all_steps():
+            if step.who == "ALPHA":
+                yield f"{name} send {step.text.replace('ALPHA', name)}"
+            for it in step.answers:
+                who, _, text = it.partition(" gets ")
+                # (the client takes 35=AI for a Logon, 35=A, and waits for the session)
+                fields = re.sub(r"^35=A[IG]\||\|45=[^|]*|\|62=[^|]*", "", text).rstrip("|")
+                if who == "ALPHA":
+                    yield f"{name} hears {fields.replace('ALPHA', name)}"
+    yield f"{name} ends"
+
+
 def files_of(market):
     participants = os.path.join(MARKETS, f"{market}.participants.toml")
     with open(participants, encoding="utf-8") as file:

@@ -27,15 +27,16 @@ class Cause:
         self.words = words  # in the place of the page's
         self.market = market
         self.alone = alone or change  # where it is the second of two, and the first is put right
-        self.near = near  # only with its neighbours: what is set up takes thousands of messages
+        self.near = near  # with all but its neighbour in one case: what is set up takes thousands of messages
 
 
 class List:
-    def __init__(self, name, kind, section, source, base, setup, causes, both=None, never=None):
+    def __init__(self, name, kind, section, source, base, setup, causes, both=None, by_hand=(), never=None):
         self.name, self.kind, self.section, self.source = name, kind, section, source
         self.base, self.setup, self.causes = base, setup, causes
-        self.both = both or {}
-        self.never = never or {}
+        self.both = both or {}  # the change that brings two causes about, where it is not that of each
+        self.by_hand = by_hand  # two causes whose case stands in its file
+        self.never = never or {}  # two causes that do not hold at once, and why
 
 
 def expanded(text):
@@ -91,7 +92,7 @@ def phrase(item):
 def setup_of(it, *causes):
     """What is set up: what takes long first, since a side that is held may fall due."""
     lines = dict.fromkeys(line for cause in causes for line in cause.setup)
-    return [step_of(line) for line in [*lines, *it.setup]]
+    return [step_of(line) for line in [*sorted(lines, key=lambda line: " times " not in line), *it.setup]]
 
 
 def market_of(*causes):
@@ -127,10 +128,25 @@ def pair(it, first, second, items):
     return case
 
 
+def each_before(it, last, items):
+    """Each cause at once with the last of the list, but for its neighbour, in one case; and then the last alone."""
+    b = it.causes[last]
+    before = [it.causes[k] for k in range(last - 1) if (k + 1, last + 1) not in it.never]
+    rules = list(dict.fromkeys(items[cause.item - 1] for cause in [*before, b]))
+    sentence = f"{it.kind} has other faults in turn while {b.words or phrase(items[b.item - 1])}. Each of them is given, and at the end the last of the list."
+    shows = [f"{it.name} {cause.name} before {b.name}" for cause in before]
+    case = Case(f"{it.name}/each_before_{last + 1}", sentence, shows, rules, it.source, market_of(*before, b))
+    case.setup = setup_of(it, *before, b)
+    both = [it.both.get((it.causes.index(cause) + 1, last + 1), cause.change) for cause in before]
+    case.steps = [Step("ALPHA", "sends", changed(it.base, change, b.change)) for change in both]
+    case.steps.append(Step("ALPHA", "sends", changed(it.base, b.alone)))
+    return case
+
+
 def is_pair(it, first, second):
     a, b = it.causes[first], it.causes[second]
     near = second == first + 1
-    if (first + 1, second + 1) in it.never or (near is False and (a.near or b.near)):
+    if (first + 1, second + 1) in {*it.never, *it.by_hand} or (near is False and (a.near or b.near)):
         return False
     clash = tags_of(a.change) & tags_of(b.change)
     if clash and (first + 1, second + 1) not in it.both:
@@ -152,8 +168,15 @@ def cases_of(it):
         for second in range(first + 1, len(it.causes)):
             if is_pair(it, first, second):
                 yield pair(it, first, second, items)
+    for place, cause in enumerate(it.causes):
+        if cause.near:
+            yield each_before(it, place, items)
 
 
+# (an identifier that was used is that of an order in another book: a sale without a price, as one at 0, meets none)
+USED = "ALPHA sends 35=D|11=a1|55=BASIS1Y|54=1|38=10|40=2|44=2.5|"
+BID = "ALPHA sends 35=D|11=a0|55=IRS5Y|54=1|38=10|40=2|44=2.5|"
+CROSSED = f"ALPHA sends {expanded('35=s|548=c1|549=4|550=1|sides=1,2|ids=x1,x2|qtys=10,10|55=IRS5Y|40=2|44=-2.4|')}"
 SELLS = "DELTA sends 200 times 35=D|11=d*|55=IRS5Y|54=2|38=10|40=2|44=2.7|"
 # (of a thousand sides that are held, and requests that are open, one is the participant's own)
 HELD = [
@@ -165,19 +188,22 @@ ROOMS = request("BETA", "b*", "DELTA EPSILON ZETA", "I1").replace(" sends ", " s
 ORDER = List(
     "order", "An order", "Orders", "crates/venue_rules/specs/Orders.antt, order_refusals",
     "35=D|11=a2|55=IRS5Y|54=2|38=10|40=2|44=2.505|",
-    ["ALPHA sends 35=D|11=a1|55=IRS5Y|54=1|38=10|40=2|44=2.5|"],
+    [],
     [
         Cause("UnknownInstrument", 1, "55=IRS9Y"),
-        Cause("DuplicateClOrdId", 2, "11=a1"),
+        Cause("DuplicateClOrdId", 2, "11=a1", USED),
         Cause("UnsupportedOrder", 3, "40=1"),
         Cause("PriceMissing", 4, "44=-"),
         Cause("PriceOffTick", 5, "44=2.506"),
         Cause("QuantityBelowLeast", 6, "38=9"),
-        Cause("LinkedOrderTooRecent", 7, "44=2.5"),
+        Cause("LinkedOrderTooRecent", 7, "44=2.5", BID),
         Cause("BookSideFull", 8, "", SELLS),
     ],
-    both={(5, 7): "44=2.499", (7, 8): "44=2.5|38=20"},
-    never={(4, 5): "an order without a price is off no tick", (4, 7): "an order without a price trades with none"},
+    both={(4, 7): "44=-", (5, 7): "44=2.499", (7, 8): "44=2.5|38=20"},
+    never={
+        **{(1, k): "a symbol that is not listed has no tick, no least quantity and no orders" for k in (5, 6, 7, 8)},
+        (4, 5): "an order without a price is off no tick",
+    },
 )  # fmt: skip
 
 CANCEL = List(
@@ -192,7 +218,6 @@ REPLACE = List(
     "35=G|11=a4|41=a1|38=20|40=2|44=2.495|",
     [
         "ALPHA sends 35=D|11=a1|55=IRS5Y|54=1|38=20|40=2|44=2.5|",
-        "DELTA sends 35=D|11=d1|55=IRS5Y|54=2|38=10|40=2|44=2.5|59=3|",
         "ALPHA sends 35=D|11=a2|55=IRS5Y|54=2|38=10|40=2|44=2.51|",
         f"ALPHA sends {expanded('35=s|548=c1|549=4|550=1|sides=1,2|ids=x1,x2|qtys=10,10|55=IRS5Y|40=2|44=2.4|')}",
     ],
@@ -204,39 +229,42 @@ REPLACE = List(
         Cause("PriceMissing", 5, "44=-"),
         Cause("PriceOffTick", 6, "44=2.496"),
         Cause("QuantityBelowLeast", 7, "38=9"),
-        Cause("QuantityAlreadyFilled", 8, "38=10"),
+        Cause("QuantityAlreadyFilled", 8, "38=10", "DELTA sends 35=D|11=d1|55=IRS5Y|54=2|38=10|40=2|44=2.5|"),
         Cause("LinkedOrderTooRecent", 9, "44=2.51"),
     ],
     both={(6, 9): "44=2.511", (7, 8): "38=9"},
+    by_hand={(5, 9)},
     never={
         (1, 3): "41 names one order",
+        **{(1, k): "an order that is not there has no instrument and no fills" for k in (6, 7, 8, 9)},
+        **{(3, k): "a held side has no fills, and is in no book" for k in (8, 9)},
         (5, 6): "a replacement without a price is off no tick",
-        (5, 9): "a replacement without a price trades with none",
+        (8, 9): "it would have nothing left that trades",
     },
 )  # fmt: skip
 
 CROSS = List(
     "cross", "A cross", "Crosses", "crates/venue_rules/specs/Crosses.antt, cross_refusals",
     "35=s|548=c2|549=4|550=2|sides=1,2|ids=x3,x4|qtys=10,10|55=IRS5Y|40=2|44=2.6|",
-    [
-        "ALPHA sends 35=D|11=a1|55=IRS5Y|54=1|38=10|40=2|44=2.5|",
-        f"ALPHA sends {expanded('35=s|548=c1|549=4|550=1|sides=1,2|ids=x1,x2|qtys=10,10|55=IRS5Y|40=2|44=2.4|')}",
-    ],
+    [],
     [
         Cause("UnknownInstrument", 1, "55=IRS9Y"),
-        Cause("DuplicateCrossId", 2, "548=c1"),
-        Cause("DuplicateClOrdId", 3, "ids=a1,x4", words="the participant has used an 11, or both are equal"),
+        Cause("DuplicateCrossId", 2, "548=c1", CROSSED),
+        Cause("DuplicateClOrdId", 3, "ids=a1,x4", USED, words="the participant has used an 11, or both are equal"),
         Cause("UnsupportedOrder", 4, "549=1"),
         Cause("PriceMissing", 5, "44=-"),
         Cause("OneBuyAndOneSell", 6, "sides=2,2"),
         Cause("PriceOffTick", 7, "44=2.601"),
         Cause("Quantity", 8, "qtys=10,20"),
-        Cause("LinkedOrderTooRecent", 9, "44=2.5", words="the first side would trade with a linked order too recent"),
+        Cause("LinkedOrderTooRecent", 9, "44=2.5", BID, words="the first side would trade with a linked order too recent"),
         Cause("BookSideFull", 9, "", SELLS, words="the first side would rest where 200 orders do"),
-        Cause("TooManyHeld", 10, "", *HELD, market="large", alone="550=1", near=True),
+        Cause("TooManyHeld", 10, "", *HELD, CROSSED, market="large", alone="550=1", near=True),
     ],
-    both={(7, 9): "44=2.499", (9, 10): "44=2.5|qtys=20,20"},
-    never={(5, 7): "a cross without a price is off no tick", (5, 9): "a cross without a price trades with none"},
+    both={(5, 9): "44=-", (5, 11): "44=-|550=1", (7, 9): "44=2.499", (9, 10): "44=2.5|qtys=20,20"},
+    never={
+        **{(1, k): "a symbol that is not listed has no tick and no orders" for k in (7, 9, 10)},
+        (5, 7): "a cross without a price is off no tick",
+    },
 )  # fmt: skip
 
 REQUEST = List(
@@ -255,8 +283,16 @@ REQUEST = List(
         Cause("RecipientsNotUnrelated", 9, "to=BETA GAMMA DELTA"),
         Cause("TooManyRequests", 10, "", ROOMS, market="large", near=True),
     ],
-    both={(5, 8): "to=BETA ALPHA", (6, 8): "to=BETA BETA", (8, 9): "to=BETA GAMMA"},
-    never={(7, 8): "thirteen recipients are not fewer than three"},
+    both={
+        (4, 8): "to=BETA OMEGA",
+        (5, 8): "to=BETA ALPHA",
+        (5, 9): "to=BETA GAMMA ALPHA",
+        (6, 8): "to=BETA BETA",
+        (6, 9): "to=BETA GAMMA BETA",
+        (8, 9): "to=BETA GAMMA",
+    },
+    by_hand={(7, 9)},
+    never={(2, 3): "a symbol that is not listed has no least quantity", (7, 8): "thirteen recipients are not fewer than three"},
 )  # fmt: skip
 
 QUOTE = List(
@@ -285,7 +321,7 @@ QUOTE = List(
         Cause("EndPassed", 9, "62=<-1>"),
     ],
     both={(2, 3): "131=R4"},
-    never={(1, 2): "a request that is not there was asked of nobody", (1, 3): "a request that is not there is not over"},
+    never={(1, k): "of a request that is not there nothing is known" for k in (2, 3, 4, 7, 8)},
 )  # fmt: skip
 
 SNAPSHOT = List(
@@ -297,12 +333,22 @@ SNAPSHOT = List(
 
 BY_CHANGE = [ORDER, CANCEL, REPLACE, CROSS, REQUEST, QUOTE, SNAPSHOT]
 
-# The neighbours in the other lists that do not hold at once.
+# A cause that holds of each message of which another does, and why: no case has that one without it.
+ALWAYS = {
+    "request": {("TooFewRecipients", "RecipientsNotUnrelated"): "of fewer than three recipients no three are unrelated"}
+}
+
+# What does not hold at once in the other lists.
 NEVER = {
-    "withdrawal": {(2, 3): "an absent 117 names no quote", (3, 4): "298 is 5 or 4"},
+    "withdrawal": {
+        **{(1, k): "298 is another, or 5, or 4" for k in (2, 3, 4)},
+        (2, 3): "an absent 117 names no quote",
+        **{(k, 4): "298 is 5 or 4" for k in (2, 3)},
+    },
     "response": {
-        (2, 3): "a quote that is not there is nobody's",
+        **{(2, k): "of a quote that is not there nothing else is known" for k in range(3, 10)},
         (7, 8): "one side was asked, or both were",
+        (7, 9): "where one side was asked, a quote has its price",
         (8, 9): "a price is that of a side",
     },
 }

@@ -1,6 +1,6 @@
-"""The number of each cause that `sef_replay --why` prints, and how many it says there are, by its definitions.
+"""What `sef_replay --why` prints of each cause, by its definitions: its number, of how many, and its sentence.
 
-Read are crates/refusal_causes/specs: Places (a cause's place in the rules' list) and Listed (its number).
+Read are crates/refusal_causes/specs: Places (a cause's place in the rules' list), Listed (its number) and Sentences.
 """
 
 import os
@@ -32,9 +32,32 @@ def equations(file, name):
 
 
 def by_cause(file, name):
-    """By a cause the number that a definition gives it."""
-    found = [(re.match(r"\w+\.(\w+)", given), rest) for given, rest in equations(file, name)]
-    return {it[1]: int(rest) for it, rest in found if it and rest.isdigit()}
+    """By a cause the number that a definition gives it, or the words."""
+    found = {}
+    for given, rest in equations(file, name):
+        cause = re.match(r"\w+\.(\w+)", given)
+        value = re.fullmatch(r'([0-9]+)|codes "(.*)"', rest)
+        if cause and value:
+            found[cause[1]] = int(value[1]) if value[1] else value[2]
+    return found
+
+
+def words_of(file, name, given):
+    """The words that a definition gives of what it is given."""
+    return re.fullmatch(r'codes "(.*)"', dict(equations(file, name))[given])[1]
+
+
+def sentences(name):
+    """By a cause of a list its sentence."""
+    found = by_cause("Sentences", "missing_sentence") | by_cause("Sentences", "state_sentence")
+    if name == "withdrawal":
+        words = words_of("Sentences", "not_found_sentence", "None symbol")
+        return found | {"NotFound": words, "NotFound again": words}
+    if name == "response":
+        gone, again = (words_of("Sentences", "gone_sentence", it) for it in ("None", "(Some symbol)"))
+        found |= {"NotFound": gone, "NotFound again": again}
+    kind = {"cancel": "change", "replace": "change", "due": "order", "snapshot": "market"}.get(name, name)
+    return found | by_cause("Sentences", f"{kind}_sentence")
 
 
 def places(name):
