@@ -43,6 +43,7 @@ logs = {
     # as QuickFIX writes its messages: a moment before each, and SOH
     "logon": f"20250303-14:30:00.000000000 : {message('A', 1, '98=0|108=30|1137=9|', target='SEX')}\n".replace("|", chr(1)),
     "faulty": message("A", 1, "98=1|108=30|1137=9|").replace("|", chr(1)),
+    "first": message("D", 1, "11=a1|" + order).replace("|", chr(1)),
     "below": (lines[0] + lines[1] + message("D", 2, "11=a2|" + order)).replace("|", chr(1)),
     "long": (lines[0] + message("D", 2, f"11=a1|58={'x' * 8192}|{order}") + message("0", 2, "")).replace("|", chr(1)),
     "large": "x" * 1_048_577,

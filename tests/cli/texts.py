@@ -5,32 +5,10 @@ import shutil
 import sqlite3
 import subprocess
 
+from refused_files import INSTRUMENTS, PARTICIPANTS, ROW
+
 LONGEST = 60  # seconds
 MOST_BYTES = 1_048_576
-
-
-def tables(head, each, count):
-    return head + "".join(each.format(k) for k in range(count))
-
-
-ONE = '[[instrument]]\nsymbol = "{}"\ntick = 1\nleast = 1\nrfq_life = 1\n'
-
-# The text, by the number that it is refused with.
-PARTICIPANTS = {
-    1: "venue = ",
-    2: "",
-    3: 'venue = "A"\nparticipant = [{ name = "A" }]',
-    4: 'venue = "S"\nparticipant = [{ name = "A" }]\nrelated = [{ a = "A", b = "ZETA" }]',
-    5: tables('venue = "SEF"\n', '[[participant]]\nname = "P{}"\n', 33),
-    6: 'venue = 7\nparticipant = [{ name = "A" }]',
-}
-INSTRUMENTS = {
-    1: "instrument = ",
-    2: "",
-    3: 2 * ONE.format("IRS5Y"),
-    5: tables("", ONE, 257),
-    6: 'instrument = [{ symbol = "A", tick = 0, least = 1, rfq_life = 1 }]',
-}
 
 
 def ran(words, folder):
@@ -46,23 +24,28 @@ def write(folder, name, text):
 
 
 def checks(program, folder):
-    """`check` of each pair of texts that are refused, and of each of them with a good one."""
+    """`check` of each file that is refused, alone and with one for instruments of each number."""
 
-    def row(participants, instruments, fault):
+    def row(participants, instruments, fault, line):
         words = [program, "check", "--participants", participants, "--instruments", instruments]
-        return f"check of {participants} and {instruments}", ran(words, folder), ("", f"venue_main: {fault}\n", 3)
+        return f"check of {participants} and {instruments}", ran(words, folder), ("", f"venue_main: {fault}\n  {line}\n", 3)
 
-    first = {number: write(folder, f"participants_{number}", text) for number, text in PARTICIPANTS.items()}
-    later = {number: write(folder, f"instruments_{number}", text) for number, text in INSTRUMENTS.items()}
-    for number, instruments in later.items():
-        yield row("participants.toml", instruments, f"instruments refused {number}")
-        for number, participants in first.items():
-            yield row(participants, instruments, f"participants refused {number}")
+    def files(kind, rows):
+        return [(number, write(folder, f"{kind}_{name}", text), line) for name, number, text, line in rows]
+
+    first, later = files("participants", PARTICIPANTS), files("instruments", INSTRUMENTS)
+    for number, participants, line in first:
+        yield row(participants, "instruments.toml", f"participants refused {number}", line)
+    for number, instruments, line in later:
+        yield row("participants.toml", instruments, f"instruments refused {number}", line)
+    for number, participants, line in {row[0]: row for row in first}.values():
+        for _, instruments, _ in {row[0]: row for row in later}.values():
+            yield row(participants, instruments, f"participants refused {number}", line)
 
 
 def lengths(program, folder):
     """A text of as many bytes as it may have has no name; one that has one more is not read."""
-    for count, fault, status in ((MOST_BYTES, "participants refused 2", 3), (MOST_BYTES + 1, "stopped: input", 1)):
+    for count, fault, status in ((MOST_BYTES, "participants refused 2\n  venue is missing", 3), (MOST_BYTES + 1, "stopped: input", 1)):
         long = write(folder, "long", count * "#")
         words = [program, "check", "--participants", long, "--instruments", "instruments.toml"]
         yield f"check of a text of {count} bytes", ran(words, folder), ("", f"venue_main: {fault}\n", status)
@@ -74,7 +57,7 @@ def most_rows(program, folder):
     pairs = [(a, b) for place, b in enumerate(names) for a in names[:place]]
     participants = 'venue = "SEF"\n' + "".join(f'[[participant]]\nname = "{name}"\n' for name in names)
     participants += "".join(f'[[related]]\na = "{a}"\nb = "{b}"\n' for a, b in pairs)
-    instruments = "".join(ONE.format(f"{k:03d}{'S' * (k % 62)}") for k in range(256))
+    instruments = "".join(ROW.format(f"{k:03d}{'S' * (k % 62)}") for k in range(256))
     words = [program, "check", "--participants", write(folder, "most_participants", participants), "--instruments", write(folder, "most_instruments", instruments)]
     yield "check of the most rows", ran(words, folder), ("participants 32 related 496 instruments 256\n", "", 0)
 

@@ -206,10 +206,12 @@ def main():
     venue = subprocess.Popen([*command, *stop_file.words], stderr=subprocess.PIPE, stdout=subprocess.PIPE, text=True)
     try:
         await_listening(venue.stderr, START_SECONDS)
-        threading.Thread(target=lambda: sys.stderr.writelines(venue.stderr), daemon=True).start()
+        copying = threading.Thread(target=lambda: sys.stderr.writelines(venue.stderr), daemon=True)
+        copying.start()
         with open(script, encoding="ascii") as lines:
             taken = run(lines, port)
         stop_file.end(venue)
+        copying.join(10)  # (so that the closing line comes last)
     finally:
         if venue.poll() is None:
             venue.terminate()

@@ -4,7 +4,8 @@
 // received (<), with | for SOH. Its own data dictionaries and its validation are those of the settings. A line of
 // the script is one of
 //   NAME logon | logout | break      the session of this sender; break cuts the connection, and the engine reconnects
-//   NAME send BODY                   an application message: 35=..| and its fields, without the header
+//   NAME send BODY                   an application message: 35=..| and its fields, without the header; <+30> in it is
+//                                    the moment 30 seconds from now
 //   NAME resets yes | no             whether its next Logons reset the numbers (141=Y)
 //   NAME resend FIRST LAST           asks the venue to send these numbers again
 //   NAME hears FIELDS                waits for a message with all these fields, after those that were awaited before
@@ -23,6 +24,7 @@
 #include <algorithm>
 #include <chrono>
 #include <condition_variable>
+#include <ctime>
 #include <iostream>
 #include <map>
 #include <mutex>
@@ -133,6 +135,18 @@ struct Client : FIX::Application {
     void fromApp(const FIX::Message &, const FIX::SessionID &) throw(FIX::FieldNotFound, FIX::IncorrectDataFormat, FIX::IncorrectTagValue, FIX::UnsupportedMessageType) override {}
 };
 
+// A body with each <+30> or <-1> as the moment that is 30 seconds from now, or was a second ago.
+std::string with_moments(std::string body) {
+    for (size_t at; (at = body.find("=<")) != std::string::npos;) {
+        auto end = body.find('>', at);
+        time_t moment = time(nullptr) + std::stoi(body.substr(at + 2, end - at - 2));
+        char text[32];
+        strftime(text, sizeof text, "%Y%m%d-%H:%M:%S", gmtime(&moment));
+        body.replace(at + 1, end - at, text);
+    }
+    return body;
+}
+
 // A message of a body, its groups by the dictionaries.
 FIX::Message message_of(std::string body, const FIX::DataDictionary &transport, const FIX::DataDictionary &application) {
     body = with(body, '|', '\x01');
@@ -170,7 +184,7 @@ struct Runner {
         if (verb == "break") return session.disconnect();
         if (verb == "resets") return session.setResetOnLogon(rest == "yes");
         if (verb == "send") {
-            FIX::Message message = message_of(rest, transport, application);
+            FIX::Message message = message_of(with_moments(rest), transport, application);
             FIX::Session::sendToTarget(message, sessions[name]);
         } else if (verb == "resend") {
             FIX::Message message;
