@@ -115,7 +115,7 @@ def printed_by(client):
     return numbers_in(line)
 
 
-def ours(port, *options, names=NAMES, participants=PARTICIPANTS, instruments=INSTRUMENTS):
+def ours(port, *options, names=NAMES, participants=PARTICIPANTS, instruments=INSTRUMENTS, program=PROGRAM):
     """The venue of this repository, which is ready once it has printed the port of each participant."""
     listening = []
 
@@ -124,8 +124,8 @@ def ours(port, *options, names=NAMES, participants=PARTICIPANTS, instruments=INS
         return len(listening) == len(names)
 
     files = ("--participants", participants, "--instruments", instruments)
-    words = [PROGRAM, "serve", *files, "--port", str(port), "--turns", ENDLESS, *options]
-    return Venue("dazhwiro", port, words, is_ready, names)
+    words = [program, "serve", *files, "--port", str(port), "--turns", ENDLESS, *options]
+    return Venue("dazhwiro" if program == PROGRAM else "before", port, words, is_ready, names)
 
 
 def peer(directory, port, *trail, names=NAMES, symbols=SYMBOLS, with_groups=False):

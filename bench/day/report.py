@@ -1,28 +1,37 @@
-"""Times a venue over a long day, and says what its memory is of."""
+"""Times a venue over a long day, says what its memory is of, and compares the trades with those of the replay."""
 
 import os
 import subprocess
 import sys
+import time
+from itertools import zip_longest
 
 sys.path.insert(0, "bench")
 from venues import fresh, numbers_in, ours  # noqa: E402
 
+REPLAY = os.environ.get("SEF_REPLAY", "crates/sef_replay/out/sef_replay")
 PORT = 7300
+SENDER, MAKER = 0, 3  # participants, who are not related
 FIRST, BLOCK = 1_000, 100_000
+A_RUN = 2_500_000  # messages, after which a venue with a trail is started again from it: a run keeps what it sent
 TRIPS = 1_000
 RESTS, REFUSED, TESTS = "IRS5Y", "NOPE", "-"  # orders that rest, and cancels; refused ones; TestRequests
 OF_EACH = 100_000  # messages of a kind
-MOST_BYTES = 1_000  # that a message leaves: what has to be free for the day to begin
+MOST_BYTES = 1_200  # that a message leaves: what has to be free for the day to begin
 
 
 class Day:
-    """A venue with one participant that sends."""
+    """A venue with one participant that sends, and where trades are written down one that fills its orders."""
 
-    def __init__(self, directory, symbol, *options):
+    def __init__(self, directory, symbol, *options, trades_in=None):
         self.venue = ours(PORT, *options)
-        words = [f"{directory}/day_client", str(PORT), self.venue.names[0], symbol]
+        words = [f"{directory}/day_client", str(PORT + SENDER), self.venue.names[SENDER], symbol]
+        if trades_in:
+            words += [str(PORT + MAKER), self.venue.names[MAKER], trades_in]
         self.client = subprocess.Popen(words, stdin=subprocess.PIPE, stdout=subprocess.PIPE, text=True)
-        self.sent = 0
+        self.options, self.has_trail = options, "--trail" in options
+        self.sent = self.last = 0
+        self.before = self.venue.resident()
 
     def send(self, how, count):
         """What the client prints of this many messages; and the venue's processor seconds."""
@@ -35,8 +44,27 @@ class Day:
         return numbers_in(line), self.venue.on_processor() - before
 
     def send_up_to(self, count):
-        if count > self.sent:
-            self.send("many", count - self.sent)
+        while count > self.sent:
+            self.send("many", min(count, self.sent + A_RUN - self.sent % A_RUN) - self.sent)
+            if self.has_trail and self.sent < count and self.sent % A_RUN == 0:
+                self.restart()
+
+    def restart(self):
+        trades = self.send("out", 0)[0]["trades"]
+        had, begun = self.venue.resident(), time.monotonic()
+        self.venue.end()
+        self.venue = ours(PORT, *self.options)
+        took = f"{time.monotonic() - begun:.1f} s, {self.venue.resident() / 1e6:,.0f} MB"
+        print(f"started again after {self.sent:,} messages, {trades:,} trades, {had / 1e6:,.0f} MB: {took}", flush=True)
+        self.send("on", 0)
+        self.before, self.last = self.venue.resident(), self.sent
+
+    def left(self):
+        """The bytes that the venue has, and those that each message left since it was last asked."""
+        now = self.venue.resident()
+        each = (now - self.before) / max(self.sent - self.last, 1)
+        self.before, self.last = now, self.sent
+        return now, each
 
     def end(self):
         self.client.kill()
@@ -59,26 +87,52 @@ def counts(messages):
 
 
 def print_day(directory, messages, *options):
-    """The table of a day."""
+    """The table of a day, whose trades are written down as they are reported; where they are."""
     print("| After | Processor each, us | Messages/s | p50, us | p99, us | Memory, MB | Bytes each |\n|" + "---|" * 7)
-    day = Day(directory, RESTS, *options)
-    begun = before = day.venue.resident()
-    last = 0
+    trades_in = f"{directory}/day_trades"
+    day = Day(directory, RESTS, *options, trades_in=trades_in)
+    begun = day.before
     try:
         for count in counts(messages):
             day.send_up_to(count)
-            now = day.venue.resident()
-            each = (now - before) / (day.sent - last)
-            before, last = now, day.sent
+            now, each = day.left()
             block = min(count, BLOCK)
             took, cost = day.send("many", block)
             trips, _ = day.send("trips", TRIPS)
             pace = block / (took["us"] / 1e6)
             cells = f"{cost / block * 1e6:.1f} | {pace:,.0f} | {trips['p50_us']} | {trips['p99_us']}"
             print(f"| {count:,} | {cells} | {now / 1e6:,.0f} | {each:,.0f} |", flush=True)
+        trades = day.send("out", 0)[0]["trades"]
     finally:
         day.end()
-    print(f"{begun / 1e6:.0f} MB at the start")
+    names = [day.venue.names[who] for who in (SENDER, MAKER)]
+    print(f"{begun / 1e6:.0f} MB at the start; {day.sent:,} messages, {trades:,} trades", flush=True)
+    return [(name, f"{trades_in}.{name}") for name in names]
+
+
+def lines_of(path):
+    with open(path, encoding="utf-8") as file:
+        yield from map(str.strip, file)
+
+
+def compare_replay(trail, reported):
+    """Whether the trades of the replay are those that were reported to each of the two, and what the replay took."""
+    (buyer, bought), (seller, sold) = reported
+    begun = time.monotonic()
+    count = 0
+    with subprocess.Popen([REPLAY, trail], stdout=subprocess.PIPE, text=True) as replay:
+        for line, one, other in zip_longest(replay.stdout, lines_of(bought), lines_of(sold), fillvalue=""):
+            if one != other or line != f"{one} buyer {buyer} seller {seller}\n":
+                raise SystemExit(f"bench/day: replayed {line!r}, reported to {buyer} {one!r}, to {seller} {other!r}")
+            count += 1
+        _, status, usage = os.wait4(replay.pid, 0)
+        replay.returncode = os.waitstatus_to_exitcode(status)
+    if replay.returncode:
+        raise SystemExit(f"bench/day: {REPLAY}: status {replay.returncode}")
+    size = sum(os.path.getsize(path) for path in (trail, trail + "-wal") if os.path.exists(path))
+    cost = f"{usage.ru_utime + usage.ru_stime:.1f} s of the processor, {usage.ru_maxrss / 1024:,.0f} MB"
+    took = f"{time.monotonic() - begun:.1f} s, {cost}, from {size / 1e6:,.0f} MB"
+    print(f"replayed to the same {count:,} trades that were reported to both: {took}", flush=True)
 
 
 def left_by(directory, symbol, *options):
@@ -102,7 +156,10 @@ def main():
         trails.append(("a trail in a file", ["--trail", fresh(os.path.join(folder, "day.trail"))]))
     for what, options in trails:
         print(f"{what}:", flush=True)
-        print_day(directory, messages, *options)
+        reported = print_day(directory, messages, *options)
+        if options:
+            compare_replay(options[-1], reported)
+            fresh(options[-1])
     kinds = {
         "a TestRequest (its number alone)": TESTS,
         "an order that is refused (its reply is kept, and its row)": REFUSED,

@@ -14,6 +14,7 @@ import make_trail  # noqa: E402
 from fix import Files, Venue, free_ports, wait_until  # noqa: E402
 
 LONGEST = 900  # seconds
+SAMPLES = 3
 # the rows, read and hashed
 READ = """
 import hashlib, sqlite3, sys
@@ -99,9 +100,8 @@ def main():
         trail = os.path.join(folder, f"restart_{rows}.trail")
         make_trail.make(rows, trail)
         size = os.path.getsize(trail) / 1_000_000
-        samples = 3 if rows <= 100_000 else 2
         starts, others = [], {"sef_replay": [], "Python's sqlite3": []}
-        for _ in range(samples):
+        for _ in range(SAMPLES):
             starts.append(sample(program, files, trail))
             others["sef_replay"].append(run_of(replay, trail))
             others["Python's sqlite3"].append(run_of(sys.executable, "-c", READ, trail))

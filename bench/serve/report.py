@@ -9,8 +9,9 @@ import time
 
 sys.path[:0] = ["tests/lib", "bench"]
 from hostile import HostileClient  # noqa: E402
-from venues import NAMES, fresh, ours, peer, spread  # noqa: E402
+from venues import NAMES, PROGRAM, fresh, ours, peer, spread  # noqa: E402
 
+BEFORE = os.environ.get("VENUE_BEFORE")  # a program of this venue that takes the peer's place
 SAMPLES = 9
 ROUND_TRIPS = 2_000
 RECORDED = 10  # one of ten messages is sent where each is a row of a trail
@@ -42,13 +43,13 @@ def measure(venue, directory, messages):
     return figures
 
 
-def compare(samples):
-    """Ours and the peer's, each the median of its samples, and the ratio of the two in a sample."""
+def compare(samples, name):
+    """Ours and those of the venue of this name, each the median of its samples, and the ratio in a sample."""
     for kind, _ in KINDS:
         for at, what in enumerate(FIGURES):
             mine, theirs = ([figures[kind][at] for figures in each] for each in samples)
             ratios = [one / other for one, other in zip(mine, theirs)]
-            both = f"{statistics.median(mine):.0f}, peer {statistics.median(theirs):.0f}"
+            both = f"{statistics.median(mine):.0f}, {name} {statistics.median(theirs):.0f}"
             print(f"{kind}: {what}: {both}, ratio {spread(ratios, 2)}", flush=True)
 
 
@@ -144,7 +145,7 @@ def alternately(venues, directory, messages, with_idle):
             for venue, figures in zip(venues, samples):
                 figures.append(measure(venue, directory, messages))
         if len(venues) > 1:
-            compare(samples)
+            compare(samples, venues[1].name)
         if with_idle:
             for venue in venues:
                 idle(venue, directory)
@@ -153,9 +154,21 @@ def alternately(venues, directory, messages, with_idle):
             venue.end()
 
 
-def started(port, directory, peers):
-    """Ours, and the peer where there is one."""
-    return [ours(port)] if peers == "alone" else [ours(port), peer(directory, port + 100)]
+def started(port, directory, peers, with_trails=False):
+    """Ours, and what it is compared with: the program before, where one is named, or the peer, where there is one."""
+
+    def trail(name):
+        return [fresh(f"{directory}/{name}.trail")] if with_trails else []
+
+    def serving(at, name, program):
+        return ours(at, *(["--trail", *trail(name)] if with_trails else []), program=program)
+
+    venues = [serving(port, "serve", PROGRAM)]
+    if BEFORE:
+        venues.append(serving(port + 100, "before", BEFORE))
+    elif peers == "recorded" or (peers == "unrecorded" and not with_trails):
+        venues.append(peer(directory, port + 100, *trail("quickfix")))
+    return venues
 
 
 def main():
@@ -171,10 +184,7 @@ def main():
     print("a participant's round trips:", flush=True)
     hostile(port, directory)
     print("each message a row of a trail in a file, a transaction each:", flush=True)
-    venues = [ours(port, "--trail", fresh(f"{directory}/serve.trail"))]
-    if peers == "recorded":
-        venues.append(peer(directory, port + 100, fresh(f"{directory}/quickfix.trail")))
-    alternately(venues, directory, max(1, messages // RECORDED), False)
+    alternately(started(port, directory, peers, True), directory, max(1, messages // RECORDED), False)
 
 
 if __name__ == "__main__":
