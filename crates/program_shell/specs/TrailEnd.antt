@@ -17,11 +17,9 @@ end_of_fault trail.OtherVersion = Refused 4
 end_of_fault (trail.BadDelay x) = Refused 5
 end_of_fault trail.NoMemory = Memory
 
--- and where its file is not opened: another process has it, it cannot be opened, or the disk failed; else it is no
--- database
+-- and where its file is not opened: another process has it, or the disk failed; else there is none, or no database
 abbrev pub end_of_code : ErrorCode → TrailEnd
 end_of_code code.OutOfMemory = Memory
-end_of_code code.CannotOpen = Stopped
 end_of_code code.DatabaseBusy = Stopped
 end_of_code code.SystemIoFailure = Stopped
 end_of_code code.DiskFull = Stopped

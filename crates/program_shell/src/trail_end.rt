@@ -13,7 +13,7 @@ pub enum TrailEnd {
     Refused(u8),
     /// An allocation failed.
     Memory,
-    /// Another process has the trail open, it cannot be opened, its disk is full or failed, or it was closed.
+    /// Another process has the trail open, its disk is full or failed, or it was closed.
     Stopped,
 }
 
@@ -43,13 +43,12 @@ impl From<StoreError> for TrailEnd {
     }
 }
 
-// What is no database is refused.
+// What is no database, or cannot be opened, is refused.
 fn end_of_code(code: ErrorCode) -> TrailEnd
     ensures { result ≡ end_of_code code }
 {
     match code {
         ErrorCode::OutOfMemory => TrailEnd::Memory,
-        ErrorCode::CannotOpen => TrailEnd::Stopped,
         ErrorCode::DatabaseBusy => TrailEnd::Stopped,
         ErrorCode::SystemIoFailure => TrailEnd::Stopped,
         ErrorCode::DiskFull => TrailEnd::Stopped,
