@@ -6,11 +6,11 @@ use Rattle.file_diagnosis.specs.declared.cause.Cause.{Cause}
 use Rattle.file_diagnosis.specs.Line.{IsLineOn, line_of}
 
 -- the line on the cause of a document
-pub on_document : {X : Type 0} (bytes : X → List ℕ) (causes : Data → Option Cause) (text : List ℕ) (document : Members) (d : Data) (cause : Option Cause) (r : Option X) → d ≡ table document → parse_document text ≡ Some document → cause ≡ causes d
+pub on_document : {X : Type 0} (bytes : X → List ℕ) (causes : Data → Option Cause) (text : List ℕ) (document : Members) (d : Data) (cause : Option Cause) (r : Option X) → d ≡ table document → IsUtf8 text → parse_document text ≡ Some document → cause ≡ causes d
     → IfSome r (λ line. (c : Cause) × (cause ≡ Some c) × (bytes line ≡ line_of d c)) → IfSome r (λ line. IsLineOn causes text (bytes line))
-on_document bytes causes text document d cause None same parsed found h = tt
-on_document bytes causes text document d cause (Some line) same parsed found h =
-    inr (document, h.0, parsed, sym (ap causes same) ∙ (sym found ∙ h.1), h.2 ∙ ap (λ x. line_of x h.0) same)
+on_document bytes causes text document d cause None same encoded parsed found h = tt
+on_document bytes causes text document d cause (Some line) same encoded parsed found h =
+    inr (document, h.0, encoded, parsed, sym (ap causes same) ∙ (sym found ∙ h.1), h.2 ∙ ap (λ x. line_of x h.0) same)
 
 -- the line on a text that is no document
 pub on_text : {X : Type 0} (bytes : X → List ℕ) (causes : Data → Option Cause) (text : List ℕ) (r : Option X) (Memory : Type 0) → (¬ Memory → IsUtf8 text → parse_document text ≡ None) → IfSome r (λ line. ¬ Memory) → IfSome r (λ line. IsLineOn causes text (bytes line))

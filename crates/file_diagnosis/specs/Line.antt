@@ -14,7 +14,7 @@ use Rattle.file_diagnosis.specs.declared.cause.Wrong.{Wrong}
 use Rattle.file_diagnosis.specs.declared.cause.Wrong.TheVariants as wrong
 use Rattle.file_diagnosis.specs.Causes.{key_word, part_word}
 
--- a text of the file that is shown: 1 to 64 bytes, no control characters
+-- a text of the file that is shown: 1 to 64 bytes, no ASCII control characters
 abbrev pub is_control : ℕ → Bool
 is_control b = nat_lt b 32 || b == 127
 
@@ -118,4 +118,4 @@ line_of file c = with_place (part_word c.part) c.entry (fault_text file (entry_a
 
 -- the line on a text: that on its cause, where it is a document
 abbrev pub IsLineOn : (Data → Option Cause) → List ℕ → List ℕ → Type 0
-IsLineOn causes text line = (IsUtf8 text → parse_document text ≡ None) ⊎ ((document : Members) × (c : Cause) × (parse_document text ≡ Some document) × (causes (table document) ≡ Some c) × (line ≡ line_of (table document) c))
+IsLineOn causes text line = (IsUtf8 text → parse_document text ≡ None) ⊎ ((document : Members) × (c : Cause) × IsUtf8 text × (parse_document text ≡ Some document) × (causes (table document) ≡ Some c) × (line ≡ line_of (table document) c))

@@ -33,7 +33,7 @@ pub enum Wrong {
     Lacks(Key),
     /// 6: a part that is no list.
     NoList,
-    /// 6: a part, or an entry, that is no table.
+    /// 6: an entry that is no table.
     NoTable,
     /// 6: a venue without a name of the right form.
     NoVenue,

@@ -90,7 +90,7 @@ fn is_shown(text: &str) -> bool
     1 <= text.len() && text.len() <= MAX_SHOWN && !has_control(text.as_bytes())
 }
 
-/// The text at a key, if it is one to show: not empty, not long, without control characters.
+/// The text at a key, if it is one to show: not empty, not long, without ASCII control characters.
 fn shown<'a>(entry: &'a Value, key: &str) -> Option<&'a str>
     ensures { option_copied result ≡ shown (text_at key.now (view entry.now)) }
 {
