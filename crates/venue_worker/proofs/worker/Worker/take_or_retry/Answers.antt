@@ -1,12 +1,11 @@
 use Rattle.std.proofs.Common.{◌≡◌, ◌∙◌, Ok, Err, refl, sym, ap, subst}
 use Rattle.venue_rules.specs.declared.trail.EventFault.{EventFault}
 use Rattle.venue_rules.specs.declared.trail.EventFault.TheVariants.{Behind}
-use Rattle.venue_worker.specs.Acts.{Act}
 use Rattle.venue_worker.specs.Work.{Work}
 use Rattle.venue_worker.specs.Calls.{Takes}
 use Rattle.venue_worker.proofs.Moving.{moves_takes}
 use Rattle.venue_worker.proofs.Refusals.{moves_late, take_due, fault_cut, take_unrefused, take_settles, take_others, take_done, take_behind, take_no_memory, take_named, take_stops, take_waits, met_settled, met_done, met_others, set_met, still_unmet, take_counts, take_undone, cut_count, cut_hands, met_hands, met_count}
-use Rattle.venue_worker.proofs.Acting.{acts_one, follows_stop, follows_wait}
+use Rattle.venue_worker.proofs.Acting.{follows_wait, look_on, take_refused}
 use Rattle.venue_worker.proofs.worker.Worker.take_or_retry.Goals as goal
 
 pub returns-in-Ok : goal.returns-in-Ok
@@ -27,7 +26,7 @@ returns-in-Ok g c =
       had_refusal = λ e. still_unmet old new d.place.had_refusal e;
       hands = d.place.hands;
       counts = take_counts i t b old new d;
-      acts = acts_one (λ x. x ≡ t) (Act.Looks_at i t) old new (Ok b, new, refl, d, refl);
+      acts = (Ok b, new, d, refl);
     }
 
 pub cut-requires : goal.cut-requires
@@ -55,7 +54,7 @@ returns-in-Cut g c =
       had_refusal = λ e. set_met c.cut.new.self new c.note_refusal.ensures e;
       hands = cut_hands c.in-Cut.j mid c.cut.new.self new c.cut.ensures.cuts c.note_refusal.ensures ∙ d.place.hands;
       counts = cut_count c.in-Cut.j mid c.cut.new.self new c.cut.ensures.cuts c.note_refusal.ensures ∙ take_undone i t c.in-Err.fault old mid d;
-      acts = acts_one (λ x. x ≡ t) (Act.Looks_at i t) old new (Err (Behind c.in-Cut.j), mid, refl, subst (λ (z : EventFault). Takes i t (Err z) old mid) f d, (c.cut.new.self, c.cut.ensures.cuts, c.note_refusal.ensures));
+      acts = look_on i t (Behind c.in-Cut.j) old mid new (subst (λ (z : EventFault). Takes i t (Err z) old mid) f d) (c.cut.new.self, c.cut.ensures.cuts, c.note_refusal.ensures);
     }
 
 pub returns-in-Wait : goal.returns-in-Wait
@@ -77,7 +76,7 @@ returns-in-Wait g c =
       had_refusal = λ e. set_met mid new c.note_refusal-in-Wait.ensures e;
       hands = met_hands mid new c.note_refusal-in-Wait.ensures ∙ d.place.hands;
       counts = met_count mid new c.note_refusal-in-Wait.ensures ∙ take_undone i t c.in-Err.fault old mid d;
-      acts = acts_one (λ x. x ≡ t) (Act.Looks_at i t) old new (Err c.in-Err.fault, mid, refl, d, follows_wait c.in-Err.fault mid new (sym c.in-Wait.ensures) (take_due i t c.in-Err.fault old mid c.requires.settled c.look_at.ensures.kept d) c.note_refusal-in-Wait.ensures);
+      acts = look_on i t c.in-Err.fault old mid new d (follows_wait c.in-Err.fault mid new (sym c.in-Wait.ensures) (take_due i t c.in-Err.fault old mid c.requires.settled c.look_at.ensures.kept d) c.note_refusal-in-Wait.ensures);
     }
 
 pub returns-in-Stop : goal.returns-in-Stop
@@ -97,5 +96,5 @@ returns-in-Stop g c =
       had_refusal = λ e. still_unmet old new d.place.had_refusal e;
       hands = d.place.hands;
       counts = tt;
-      acts = acts_one (λ x. x ≡ t) (Act.Looks_at i t) old new (Err c.in-Err.fault, new, refl, d, follows_stop c.in-Err.fault new (sym c.in-Stop.ensures));
+      acts = take_refused i t c.in-Err.fault old new (take_stops i t c.in-Err.fault old new d (sym c.in-Stop.ensures)).0 d;
     }

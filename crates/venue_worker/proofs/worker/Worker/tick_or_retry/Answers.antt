@@ -1,11 +1,10 @@
 use Rattle.std.proofs.Common.{◌≡◌, ◌∙◌, Ok, Err, refl, sym, subst}
 use Rattle.venue_rules.specs.declared.trail.EventFault.{EventFault}
 use Rattle.venue_rules.specs.declared.trail.EventFault.TheVariants.{Behind}
-use Rattle.venue_worker.specs.Acts.{Act}
 use Rattle.venue_worker.specs.Calls.{Ticks}
 use Rattle.venue_worker.proofs.Moving.{moves_ticks}
 use Rattle.venue_worker.proofs.Refusals.{ticks_at, tick_due, moves_late, fault_cut, tick_unrefused, tick_falls, tick_settled, tick_behind, tick_no_memory, tick_named, tick_stops, tick_waits, met_settled, not_ticked, tick_counts, cut_count, cut_hands, met_hands, met_count}
-use Rattle.venue_worker.proofs.Acting.{acts_one, follows_stop, follows_wait}
+use Rattle.venue_worker.proofs.Acting.{follows_wait, tick_on, tick_refused, ticked}
 use Rattle.venue_worker.proofs.worker.Worker.tick_or_retry.Goals as goal
 
 pub returns-in-Ok : goal.returns-in-Ok
@@ -22,7 +21,7 @@ returns-in-Ok g c =
       settled = tick_settled t c.in-Ok.ticked old new d;
       hands = d.place.hands;
       counts = tick_counts t c.in-Ok.ticked old new d;
-      acts = acts_one (λ x. x ≡ t) (Act.Ticks_at t) old new (Ok c.in-Ok.ticked, new, refl, d, refl);
+      acts = ticked t c.in-Ok.ticked old new d;
     }
 
 pub cut-requires : goal.cut-requires
@@ -47,7 +46,7 @@ returns-in-Cut g c =
       settled = λ e. met_settled t c.cut.new.self new c.note_refusal.ensures;
       hands = cut_hands c.in-Cut.j mid c.cut.new.self new c.cut.ensures.cuts c.note_refusal.ensures ∙ d.place.hands;
       counts = cut_count c.in-Cut.j mid c.cut.new.self new c.cut.ensures.cuts c.note_refusal.ensures ∙ d.ticked.unanswered.count;
-      acts = acts_one (λ x. x ≡ t) (Act.Ticks_at t) old new (Err (Behind c.in-Cut.j), mid, refl, d, (c.cut.new.self, c.cut.ensures.cuts, c.note_refusal.ensures));
+      acts = tick_on t (Behind c.in-Cut.j) old mid new d (c.cut.new.self, c.cut.ensures.cuts, c.note_refusal.ensures);
     }
 
 pub returns-in-Wait : goal.returns-in-Wait
@@ -66,7 +65,7 @@ returns-in-Wait g c =
       settled = λ e. met_settled t mid new c.note_refusal-in-Wait.ensures;
       hands = met_hands mid new c.note_refusal-in-Wait.ensures ∙ d.place.hands;
       counts = met_count mid new c.note_refusal-in-Wait.ensures ∙ d.ticked.unanswered.count;
-      acts = acts_one (λ x. x ≡ t) (Act.Ticks_at t) old new (Err c.in-Err.fault, mid, refl, d, follows_wait c.in-Err.fault mid new (sym c.in-Wait.ensures) (tick_due t c.in-Err.fault old mid d) c.note_refusal-in-Wait.ensures);
+      acts = tick_on t c.in-Err.fault old mid new d (follows_wait c.in-Err.fault mid new (sym c.in-Wait.ensures) (tick_due t c.in-Err.fault old mid d) c.note_refusal-in-Wait.ensures);
     }
 
 pub returns-in-Stop : goal.returns-in-Stop
@@ -83,5 +82,5 @@ returns-in-Stop g c =
       settled = tt;
       hands = d.place.hands;
       counts = tt;
-      acts = acts_one (λ x. x ≡ t) (Act.Ticks_at t) old new (Err c.in-Err.fault, new, refl, d, follows_stop c.in-Err.fault new (sym c.in-Stop.ensures));
+      acts = tick_refused t c.in-Err.fault old new (tick_stops t c.in-Err.fault old new d (sym c.in-Stop.ensures)).0 d;
     }
