@@ -1,5 +1,6 @@
 //! The venue: its files, the day's state, and the count of items.
-ghost use Rattle.std.specs.Prelude.{◌≡◌, ◌≤◌, ◌+◌, option_map, IfOk, is_some};
+ghost use Rattle.std.specs.Prelude.{◌≡◌, ◌≤◌, ◌+◌, option_map, slice_get, IfOk, is_some};
+ghost use Rattle.venue_rules.specs.Book.{picture, resting};
 ghost use Rattle.venue_rules.specs.Delay.{due};
 ghost use Rattle.venue_rules.specs.Facts.{History, no_history};
 ghost use Rattle.venue_rules.specs.Readings.{room_fact, trade_facts};
@@ -14,12 +15,14 @@ use crate::plan::Plan;
 use crate::ticks::plan_due;
 use crate::venue_state::{VenueState, add_plan, new_day};
 use cross_delay::delay_is_read_alone;
+use fix_dictionary::{Price, Side};
 use instruments::Instruments;
 use participants::Participants;
+use price_book::{book_is_read_alone, sides_are_read_alone};
 use sef_moment::Moment;
 use std::alloc::{AllocError, Global};
 use std::marker::Model;
-use venue_rules::{RoomFact, Taken, TradeFact};
+use venue_rules::{RoomFact, SnapshotEntry, Taken, TradeFact};
 
 /// A swap execution facility: its state, and its answer to each input.
 pub struct Venue {
@@ -109,6 +112,22 @@ impl Venue {
         ensures { (h : History) → IsHistory self.now h → option_map (λ f. f.now) result ≡ room_fact h.facts number }
     {
         self.day.quoted.find(number)
+    }
+
+    /// The price of the first resting order of an instrument and a side, in price-time priority.
+    pub fn best(&self, instrument: u32, side: Side) -> Option<Price>
+        ensures { (h : History) → IsHistory self.now h → result ≡ option_map (λ r. r.entry.order.price) (slice_get (resting h.facts instrument side) 0) }
+    {
+        sides_are_read_alone();
+        self.day.book.best(instrument, side)
+    }
+
+    /// The resting orders of an instrument: bids, then offers, each best first.
+    pub fn picture(&self, instrument: u32) -> Result<Vec<SnapshotEntry>, AllocError>
+        ensures { (h : History) → IsHistory self.now h → IfOk result (λ v. v.items ≡ picture h.facts instrument) }
+    {
+        book_is_read_alone();
+        self.day.book.picture(instrument)
     }
 
     /// Plans a message taken at a moment, and reserves memory for it. At most 10^15 items came before.
