@@ -19,13 +19,13 @@ use Rattle.day_events.specs.Days.{AreEvents, TakesEvents, events, events_from, t
 
 -- one row further
 
-emitted_more : (rs : List TrailRow) (is : List Input) (r : TrailRow) (i : Input) → AreEmitted rs is → Emits r i → AreEmitted (rs ++ r ∷ []) (is ++ i ∷ [])
+pub emitted_more : (rs : List TrailRow) (is : List Input) (r : TrailRow) (i : Input) → AreEmitted rs is → Emits r i → AreEmitted (rs ++ r ∷ []) (is ++ i ∷ [])
 emitted_more [] [] r i emitted emits = (emits, tt)
 emitted_more [] (j ∷ is) r i emitted emits = absurd emitted
 emitted_more (x ∷ rs) [] r i emitted emits = absurd emitted
 emitted_more (x ∷ rs) (j ∷ is) r i emitted emits = (emitted.0, emitted_more rs is r i emitted.1 emits)
 
-events_more : (m : Market) (h : History) (rs : List TrailRow) (is : List Input) (r : TrailRow) (i : Input) → AreEmitted rs is
+pub events_more : (m : Market) (h : History) (rs : List TrailRow) (is : List Input) (r : TrailRow) (i : Input) → AreEmitted rs is
     → events_from m h (rs ++ r ∷ []) (is ++ i ∷ []) ≡ events_from m h rs is ++ events_at r (taken_in i) (answer_input m (run_from m h is).history i).replies
 events_more m h [] [] r i emitted = append-nil (events_at r (taken_in i) (answer_input m h i).replies)
 events_more m h [] (j ∷ is) r i emitted = absurd emitted
@@ -39,7 +39,7 @@ events_more m h (x ∷ rs) (j ∷ is) r i emitted =
 abbrev pub StandsOn : Type 0
 StandsOn = (m : Market) (is : List Input) (i : Input) (s s' : State) (a : Answer) → Stands m is s → Takes s i a s' → Stands m (is ++ i ∷ []) s'
 
-pub answered_more : StandsOn → (m : Market) (rs : List TrailRow) (k : ℕ) (r : TrailRow) (s s' : State) (es es' : List Event) → k < length rs → r ≡ get_or rs k r
+abbrev pub answered_more : StandsOn → (m : Market) (rs : List TrailRow) (k : ℕ) (r : TrailRow) (s s' : State) (es es' : List Event) → k < length rs → r ≡ get_or rs k r
     → AreEvents m (take k rs) s es → TakesEvents r s s' es es' → AreEvents m (take (k + 1) rs) s' es'
 answered_more law m rs k r s s' es es' low at_k before taken =
     let longer : take (k + 1) rs ≡ take k rs ++ r ∷ [] = take_more rs k r low ∙ ap (λ (x : TrailRow). take k rs ++ x ∷ []) (sym at_k) in
@@ -57,7 +57,7 @@ answered_more law m rs k r s s' es es' low at_k before taken =
     }
 
 -- before the first
-pub answered_nothing : (m : Market) (s : State) (es : List Event) → s.market ≡ m → es ≡ [] → IsHistory s no_history → AreEvents m [] s es
+abbrev pub answered_nothing : (m : Market) (s : State) (es : List Event) → s.market ≡ m → es ≡ [] → IsHistory s no_history → AreEvents m [] s es
 answered_nothing m s es same none fresh = record { items = []; emitted = tt; stands = record { market = same; history = fresh }; answered = none }
 
 abbrev pub TakesOne : Type 0

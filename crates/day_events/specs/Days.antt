@@ -10,7 +10,9 @@ use Rattle.venue_core.specs.Replay.{AreEmitted, Emits}
 use Rattle.venue_core.specs.State.{State}
 use Rattle.venue_core.specs.Taking.{Stands, Takes}
 use Rattle.venue_core.specs.VenueFacts.{IsHistory}
+use Rattle.day_events.specs.declared.best.Best.{Best}
 use Rattle.day_events.specs.declared.event.Event.{Event}
+use Rattle.day_events.specs.Bests.{bests}
 use Rattle.day_events.specs.Events.{events_at}
 
 -- the message of an input, or none of a tick
@@ -43,3 +45,8 @@ pub record AreEvents (m : Market) (rs : List TrailRow) (s : State) (es : List Ev
   pub emitted : AreEmitted rs items
   pub stands : Stands m items s
   pub answered : es ≡ events m rs items
+
+-- and these are the changes of its best prices
+pub record ArePriced (m : Market) (rs : List TrailRow) (s : State) (es : List Event) (bs : List Best) : Type 0 where
+  pub events : AreEvents m rs s es
+  pub bests : bs ≡ bests m rs events.items

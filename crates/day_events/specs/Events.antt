@@ -66,7 +66,7 @@ reported_what o to (reply.OrderRefused r) = too_recent o to r.order r.cause
 reported_what o to (reply.OrderEntered r) = event o to (what.Entered (record { order = r.order; id = r.id; symbol = r.symbol; side = r.side; left = r.left })) ∷ []
 reported_what o to (reply.OrderFilled r) = event o to (what.Filled (record { trade = r.trade; order = r.order.order; id = r.order.id; side = r.order.side })) ∷ []
 reported_what o to (reply.OrderCancelled r) = event o to (what.Cancelled r.order.order) ∷ []
-reported_what o to (reply.OrderReplaced r) = event o to (what.Replaced r.order.order) ∷ []
+reported_what o to (reply.OrderReplaced r) = event o to (what.Replaced (record { order = r.order.order; id = r.order.id; original_id = r.original_id })) ∷ []
 reported_what o to (reply.RequestSent r) = event o to (what.Asked (record { room = r.room; symbol = r.symbol; side = r.side; quantity = r.quantity })) ∷ []
 reported_what o to (reply.QuoteStatus r) = ended_for_other (to + 1 == o.from) o to r.quote_id r.state
 reported_what o to (reply.QuoteSent r) = event o to (what.Quoted (record { quote = r.quote; bid = r.bid; offer = r.offer; end = r.end })) ∷ []
@@ -96,7 +96,7 @@ is_refusal (reply.MarketDataReject r) = true
 is_refusal (reply.BusinessReject r) = true
 is_refusal _ = false
 
--- a text of at most 64 bytes, as all that the venue writes are
+-- a text of at most 64 bytes; none in the place of a longer one
 abbrev pub short : Option (List ℕ) → Option (List ℕ)
 short None = None
 short (Some text) = if is_text 64 text then Some text else None

@@ -22,7 +22,7 @@ pub struct Day {
 }
 
 /// Has a venue take the input of a row, and adds what its answer says.
-fn take_row(
+pub(crate) fn take_row(
     alloc: Global,
     venue: &mut Venue,
     events: &mut Vec<Event>,

@@ -45,6 +45,16 @@ pub struct FilledOrder {
     pub side: Side,
 }
 
+/// An order that replaced another of the same participant.
+#[derive(Clone, Copy)]
+pub struct Replacement {
+    pub order: Option<u64>,
+    /// 11
+    pub id: Identifier,
+    /// 41, the identifier of the order that it replaced
+    pub original_id: Identifier,
+}
+
 /// A request for quotes, as sent to one recipient.
 #[derive(Clone, Copy)]
 pub struct NewRequest {
@@ -92,8 +102,7 @@ pub enum What {
     Filled(FilledOrder),
     /// the order; none of a held side
     Cancelled(Option<u64>),
-    /// the order that replaced another
-    Replaced(Option<u64>),
+    Replaced(Replacement),
     Asked(NewRequest),
     Shown(ShownPrice),
     Quoted(NewQuote),

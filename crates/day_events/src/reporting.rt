@@ -6,8 +6,8 @@ ghost use Rattle.venue_rules.specs.declared.replies.ReplyBody.TheVariants as bod
 ghost use Rattle.day_events.specs.Events.{event, events_at, named_in, origin_of, own_in, shown_price, reported, reported_what, too_recent};
 
 use crate::event::{
-    Event, FilledOrder, NewOrder, NewQuote, NewRequest, Origin, RecentOrder, RoomTrade, ShownPrice,
-    What,
+    Event, FilledOrder, NewOrder, NewQuote, NewRequest, Origin, RecentOrder, Replacement,
+    RoomTrade, ShownPrice, What,
 };
 use crate::refusing::push_refusal;
 use fix_dictionary::{Amount, App, Identifier, Price, Quantity, Side};
@@ -32,6 +32,7 @@ pub(crate) fn push_event(
     let _entered: Option<NewOrder> = None;
     let _recent: Option<RecentOrder> = None;
     let _filled: Option<FilledOrder> = None;
+    let _replaced: Option<Replacement> = None;
     let _asked: Option<NewRequest> = None;
     let _shown: Option<ShownPrice> = None;
     let _quoted: Option<NewQuote> = None;
@@ -177,7 +178,12 @@ fn push_replaced(
 ) -> Result<(), AllocError>
     ensures { OnOk result (events.new.items ≡ events.old.items ++ reported_what origin.now to (body.OrderReplaced report.now)) }
 {
-    push_event(events, origin, to, What::Replaced(report.order.order))
+    let order = Replacement {
+        order: report.order.order,
+        id: report.order.id,
+        original_id: report.original_id,
+    };
+    push_event(events, origin, to, What::Replaced(order))
 }
 
 fn push_asked(
