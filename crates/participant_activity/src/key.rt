@@ -8,7 +8,7 @@ ghost use Rattle.std.specs.Cmp.Lexicographic.{slice_cmp, nat_list_eq_equiv, nat_
 use fix_dictionary::{Identifier, Text};
 use std::cmp::Ordering;
 
-/// An identifier that is looked up: of a request (131), or an instrument (55).
+/// An identifier that is looked up, as that of a request (131) or of an instrument (55).
 #[derive(Clone, Copy)]
 pub struct Name {
     pub id: Identifier,

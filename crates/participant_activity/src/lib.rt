@@ -19,5 +19,6 @@ mod reports;
 
 pub use fault::ActivityFault;
 pub use form::Form;
+pub use key::Name;
 pub use laws::{activity_is_its_own, ends_are_whole, turns_are_whole};
 pub use printing::print_activity;

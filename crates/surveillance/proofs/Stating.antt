@@ -11,11 +11,11 @@ use Rattle.surveillance.specs.Thresholds.{AreStated, IsFaultOf, IsRefusedIn, Sta
 pub states : (text : List ℕ) (m : Members) (r : Result Thresholds ThresholdsFault) → IsUtf8 text → parse_document text ≡ Some m → IfOk r (AreStated m) → IfOk r (States text)
 states text m r encoded parsed h = IfOk-weaker r _ _ (λ b k. record { document = m; encoded = encoded; parsed = parsed; states = k }) h
 
-fault : (text : List ℕ) (m : Members) (f : ThresholdsFault) → parse_document text ≡ Some m → IsRefusedIn m f → IsFaultOf text f
-fault text m NotToml parsed h = absurd h
-fault text m (UnknownKey key) parsed h = record { document = m; parsed = parsed; refused = h }
-fault text m (BadValue b) parsed h = record { document = m; parsed = parsed; refused = h }
-fault text m NoMemory parsed h = tt
+fault : (text : List ℕ) (m : Members) (f : ThresholdsFault) → IsUtf8 text → parse_document text ≡ Some m → IsRefusedIn m f → IsFaultOf text f
+fault text m NotToml encoded parsed h = absurd h
+fault text m (UnknownKey key) encoded parsed h = record { document = m; encoded = encoded; parsed = parsed; refused = h }
+fault text m (BadValue b) encoded parsed h = record { document = m; encoded = encoded; parsed = parsed; refused = h }
+fault text m NoMemory encoded parsed h = tt
 
-pub refuses : (text : List ℕ) (m : Members) (r : Result Thresholds ThresholdsFault) → parse_document text ≡ Some m → IfErr r (IsRefusedIn m) → IfErr r (IsFaultOf text)
-refuses text m r parsed h = IfErr-weaker r (IsRefusedIn m) (IsFaultOf text) (λ f k. fault text m f parsed k) h
+pub refuses : (text : List ℕ) (m : Members) (r : Result Thresholds ThresholdsFault) → IsUtf8 text → parse_document text ≡ Some m → IfErr r (IsRefusedIn m) → IfErr r (IsFaultOf text)
+refuses text m r encoded parsed h = IfErr-weaker r (IsRefusedIn m) (IsFaultOf text) (λ f k. fault text m f encoded parsed k) h

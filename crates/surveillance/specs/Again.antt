@@ -1,5 +1,5 @@
--- Orders that were refused, since a linked one was too recent (17 CFR 37.9(b)(1)), and were sent again: the next order
--- of the same participant, instrument and side, which enters or is refused again.
+-- The next order of the same participant, instrument and side after one that was refused, since a linked one was too
+-- recent (17 CFR 37.9(b)(1)): it enters or is refused again, whatever its price, size and time.
 use Rattle.std.specs.Prelude.{ℕ, ◌==◌, ◌&&◌, ◌-◌, Bool, List, [], ◌∷◌, ◌++◌, bytes_eq, Option, Some, None, if◌then◌else◌}
 use Rattle.fix_dictionary.specs.declared.values.Side.{Side}
 use Rattle.venue_rules.specs.Book.{is_side}

@@ -2,13 +2,14 @@
 -- each trade, and the best prices that each request was shown.
 use Rattle.std.specs.Prelude.{ℕ, ℤ, ◌==◌, Bool, int_lt, List, [], ◌∷◌, Option, Some, None, unwrap_or, if◌then◌else◌}
 use Rattle.std.specs.BTreeMap.{insert_entry, is_at}
-use Rattle.std.specs.Cmp.Lexicographic.{slice_cmp}
 use Rattle.std.specs.Map.{lookup}
 use Rattle.std.specs.Ordering.{nat_cmp}
-use Rattle.std.specs.declared.cmp.Ordering.{Ordering}
 use Rattle.fix_dictionary.specs.declared.values.Side.{Side}
 use Rattle.fix_dictionary.specs.declared.values.Side.TheVariants.{Buy, Sell}
 use Rattle.venue_rules.specs.Rooms.{printed}
+use Rattle.participant_activity.specs.declared.key.Name.{Name}
+use Rattle.participant_activity.specs.Kept.{name_cmp}
+use Rattle.participant_activity.specs.Noting.{named}
 use Rattle.day_events.specs.declared.event.Event.{Event}
 use Rattle.day_events.specs.declared.event.ShownPrice.{ShownPrice}
 use Rattle.day_events.specs.declared.event.What.{What}
@@ -17,7 +18,8 @@ use Rattle.surveillance.specs.declared.alarm.Place.{Place}
 use Rattle.surveillance.specs.declared.index.Best.{Best}
 use Rattle.surveillance.specs.declared.index.Entry.{Entry}
 use Rattle.surveillance.specs.declared.index.Pair.{Pair}
-use Rattle.surveillance.specs.declared.key.Name.{Name}
+use Rattle.surveillance.specs.declared.own_name.OwnName.{OwnName}
+use Rattle.surveillance.specs.Names.{own, own_cmp}
 
 abbrev pub place : Event → Place
 place e = record { row = e.at.row; moment = e.at.moment }
@@ -34,13 +36,40 @@ put_place ps (Some n) p = insert_entry nat_cmp ps n p
 abbrev pub place_at : Places → ℕ → Option Place
 place_at ps n = lookup (is_at (nat_cmp n)) ps
 
--- Where each order of a day entered, whether at a row of the clock, as a held side of a cross does, and its link (583).
+-- The links (583) of orders that have one, by the order's identifier (11): an order has the link of the message that it
+-- enters with, and one that replaces another has that one's. A participant uses an identifier once.
+
+abbrev pub Links : Type 0
+Links = List (OwnName × List ℕ)
+
+abbrev pub link_at : Links → ℕ → List ℕ → Option (List ℕ)
+link_at ls who id = lookup (is_at (own_cmp (own who id))) ls
+
+-- of the order that enters
+abbrev pub link_of : Links → Event → What → Option (List ℕ)
+link_of ls e (what.Replaced x) = link_at ls e.to x.original_id
+link_of ls e _ = e.at.named
+
+abbrev pub entered_id : What → Option (List ℕ)
+entered_id (what.Entered x) = Some x.id
+entered_id (what.Replaced x) = Some x.id
+entered_id _ = None
+
+abbrev pub put_link_of : Links → ℕ → List ℕ → Option (List ℕ) → Links
+put_link_of ls who id None = ls
+put_link_of ls who id (Some link) = insert_entry own_cmp ls (own who id) link
+
+abbrev pub put_link : Links → ℕ → Option (List ℕ) → Option (List ℕ) → Links
+put_link ls who None link = ls
+put_link ls who (Some id) link = put_link_of ls who id link
+
+-- Where each order of a day entered, whether at a row of the clock, as a held side of a cross does, and its link.
 
 abbrev pub Entries : Type 0
 Entries = List (ℕ × Entry)
 
-abbrev pub entered_at : Event → Entry
-entered_at e = record { at = place e; by_clock = e.at.from == 0; link = e.at.named }
+abbrev pub entered_at : Event → Option (List ℕ) → Entry
+entered_at e link = record { at = place e; by_clock = e.at.from == 0; link = link }
 
 abbrev pub put_entry : Entries → Option ℕ → Entry → Entries
 put_entry ns None x = ns
@@ -52,15 +81,16 @@ entry_at ns n = lookup (is_at (nat_cmp n)) ns
 -- the order that enters, new or in the place of another
 abbrev pub entered_order : What → Option ℕ
 entered_order (what.Entered x) = x.order
-entered_order (what.Replaced order) = order
+entered_order (what.Replaced x) = x.order
 entered_order _ = None
 
-abbrev pub entries_from : Entries → List Event → Entries
-entries_from ns [] = ns
-entries_from ns (e ∷ es) = entries_from (put_entry ns (entered_order e.what) (entered_at e)) es
+abbrev pub entries_from : Entries → Links → List Event → Entries
+entries_from ns ls [] = ns
+entries_from ns ls (e ∷ es) =
+    entries_from (put_entry ns (entered_order e.what) (entered_at e (link_of ls e e.what))) (put_link ls e.to (entered_id e.what) (link_of ls e e.what)) es
 
 abbrev pub entries : List Event → Entries
-entries es = entries_from [] es
+entries es = entries_from [] [] es
 
 -- The orders of each trade in the book.
 
@@ -102,12 +132,6 @@ abbrev pub reports : List Event → Places
 reports es = reports_from [] es
 
 -- The best prices that a request was shown (17 CFR 37.9(a)(3)): what is shown with a quote names its room (131).
-
-abbrev pub name_cmp : Name → Name → Ordering
-name_cmp a b = slice_cmp nat_cmp a.id b.id
-
-abbrev pub named : List ℕ → Name
-named id = record { id = id }
 
 abbrev pub nothing_shown : Best
 nothing_shown = record { bid = None; offer = None }

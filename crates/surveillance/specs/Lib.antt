@@ -1,10 +1,12 @@
 -- the bounds of the alarms, and the file that states them
 pub mod Thresholds
+-- identifiers of participants
+pub mod Names
 -- where orders entered and trades were reported, and the best prices that each request was shown
 pub mod Index
 -- what is counted of each participant
 pub mod Deeds
--- orders that were refused as too recent and sent again
+-- the next order after one that was refused as too recent
 pub mod Again
 -- the alarms
 pub mod Alarms

@@ -3,7 +3,7 @@
 --   As lines:
 --       alarms: 2; cancelled_within_ms 1000, orders_per_trade 20, ..
 --       self-trade with a held side, row 10 at 20250303-14:30:35.000: buyer ALPHA, seller ALPHA, T4
---       sent again, row 13 at 20250303-14:30:41.000: BETA, O9, 1 ms after the refusal in row 12
+--       next order after a refusal, row 13 at 20250303-14:30:41.000: BETA, O9, 1 ms after the refusal in row 12
 --   As a table for a spreadsheet (RFC 4180):
 --       alarm,row,moment_utc,participant,others,trade,order,found,base,threshold
 --       self-trade with a held side,10,20250303-14:30:35.000,ALPHA,ALPHA,T4,,,,
@@ -34,7 +34,7 @@ kind_words kind.OwnWithHeld = codes "self-trade with a held side"
 kind_words kind.RelatedTrade = codes "related trade"
 kind_words kind.CancelledSoon = codes "cancelled soon"
 kind_words kind.LinkedSoon = codes "linked soon"
-kind_words kind.SentAgain = codes "sent again"
+kind_words kind.SentAgain = codes "next order after a refusal"
 kind_words kind.WorseThanShown = codes "worse than the book shown"
 kind_words kind.ManyOrders = codes "many orders"
 kind_words kind.ManyCancels = codes "many cancels"

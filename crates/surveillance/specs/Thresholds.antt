@@ -106,6 +106,7 @@ IsRefusedIn document NoMemory = Unit {0}
 
 pub record IsRefused (text : List ℕ) (fault : ThresholdsFault) : Type 0 where
   pub document : Members
+  pub encoded : IsUtf8 text
   pub parsed : parse_document text ≡ Some document
   pub refused : IsRefusedIn document fault
 

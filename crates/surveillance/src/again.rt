@@ -1,4 +1,5 @@
-//! Orders that were refused, since a linked one was too recent, and were sent again.
+//! The next order of a participant, an instrument and a side after one that was refused, since a linked one was too
+//! recent.
 
 ghost use Rattle.std.specs.Prelude.{◌≡◌, ◌++◌, IfOk, OnOk};
 ghost use Rattle.surveillance.specs.Again.{again_alarm, again_alarms, find_alike, if_refused, is_alike, order_sent, raised, sent_again, sent_by, sent_what, waiting, without};
@@ -161,7 +162,7 @@ fn waiting(
     }
 }
 
-/// Appends the alarms of orders that were refused as too recent and sent again.
+/// Appends the alarms of next orders after one that was refused as too recent.
 pub(crate) fn push_all_again(
     alloc: Global,
     alarms: &mut Vec<Alarm>,

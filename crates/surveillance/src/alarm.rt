@@ -27,7 +27,7 @@ pub enum Kind {
     CancelledSoon,
     /// a trade of two linked orders, of which the second entered soon after the delay
     LinkedSoon,
-    /// an order that was refused since a linked one was too recent, and that was sent again
+    /// a participant's next order of an instrument and side after one refused, since a linked one was too recent
     SentAgain,
     /// a trade in a request at a worse price than the book that was shown with its first quote
     WorseThanShown,

@@ -1,23 +1,23 @@
 //! The alarms of a day.
 
 ghost use Rattle.std.specs.Prelude.{◌≡◌, ◌++◌, length, IfOk, OnOk};
-ghost use Rattle.surveillance.specs.Alarms.{alarms_of, event_alarms, event_alarms_by, events_alarms, looked, people_alarms, trades_alarms};
+ghost use Rattle.surveillance.specs.Alarms.{alarms_of, event_alarms, event_alarms_by, events_alarms, people_alarms};
 ghost use Rattle.surveillance.specs.Again.{again_alarms};
 ghost use Rattle.surveillance.specs.Deeds.{deeds, places_from};
-ghost use Rattle.surveillance.specs.Index.{entries, reports, shown};
+ghost use Rattle.surveillance.specs.Index.{shown};
 
 use crate::again::push_all_again;
 use crate::alarm::Alarm;
 use crate::cancels::push_cancel;
 use crate::deeds::{deeds_of, everybody};
 use crate::index::{Best, Entry, entries, orders, reports, shown};
-use crate::key::Name;
 use crate::people::{Counted, push_people};
 use crate::prices::push_worse;
 use crate::thresholds::Thresholds;
 use crate::trades::{Listed, Looked, push_trades};
 use day_events::{Event, What};
 use instruments::Instruments;
+use participant_activity::Name;
 use participants::Participants;
 use std::alloc::{AllocError, Global};
 use std::collections::BTreeMap;
@@ -66,41 +66,19 @@ fn push_events_alarms(
     Ok(())
 }
 
-/// Appends the alarms of trades.
-fn push_all_trades(
-    alloc: Global,
-    alarms: &mut Vec<Alarm>,
-    bound: u64,
-    listed: &Listed<'_>,
-    trades: &[TradeFact],
-    events: &[Event],
-) -> Result<(), AllocError>
-    ensures { OnOk result (alarms.new.items ≡ alarms.old.items ++ trades_alarms bound (record { participants = listed.now.participants.now; instruments = listed.now.instruments.now }) (looked events.now) trades.now) }
-{
-    let reports = reports(alloc, events)?;
-    let entries = entries(alloc, events)?;
-    let orders = orders(alloc, events)?;
-    let looked = Looked {
-        reports: &reports,
-        entries: &entries,
-        orders: &orders,
-    };
-    push_trades(alarms, bound, listed, &looked, trades)
-}
-
 /// Appends the alarms of events.
 fn push_all_events(
     alloc: Global,
     alarms: &mut Vec<Alarm>,
     bounds: &Thresholds,
+    entries: &BTreeMap<u64, Entry>,
     events: &[Event],
 ) -> Result<(), AllocError>
-    ensures { OnOk result (alarms.new.items ≡ alarms.old.items ++ events_alarms bounds.now (entries events.now) (shown events.now) events.now) }
+    ensures { OnOk result (alarms.new.items ≡ alarms.old.items ++ events_alarms bounds.now entries.now.entries (shown events.now) events.now) }
 {
-    let places = entries(alloc, events)?;
     let prices = shown(alloc, events)?;
     let compared = Compared {
-        entries: &places,
+        entries,
         prices: &prices,
     };
     push_events_alarms(alarms, bounds, &compared, events)
@@ -140,19 +118,26 @@ pub fn alarms_of(
     ensures { IfOk result (λ alarms. alarms.items ≡ alarms_of bounds.now (record { participants = participants.now; instruments = instruments.now }) trades.now events.now) }
 {
     let mut alarms = Vec::new(alloc);
+    let reports = reports(alloc, events)?;
+    let entries = entries(alloc, events)?;
+    let orders = orders(alloc, events)?;
+    let looked = Looked {
+        reports: &reports,
+        entries: &entries,
+        orders: &orders,
+    };
     let listed = Listed {
         participants,
         instruments,
     };
-    push_all_trades(
-        alloc,
+    push_trades(
         &mut alarms,
         bounds.linked_within_ms,
         &listed,
+        &looked,
         trades,
-        events,
     )?;
-    push_all_events(alloc, &mut alarms, bounds, events)?;
+    push_all_events(alloc, &mut alarms, bounds, &entries, events)?;
     push_all_again(alloc, &mut alarms, events)?;
     push_everybody(alloc, &mut alarms, bounds, participants, trades, events)?;
     Ok(alarms)

@@ -1,12 +1,14 @@
 //! What is counted of each participant.
 
 ghost use Rattle.std.specs.Prelude.{◌≡◌, ◌==◌, ◌++◌, ◌∷◌, [], count_by, length, IfOk, OnOk};
-ghost use Rattle.surveillance.specs.Deeds.{asked_by, asked_times, book_trades, cancel_in, deed, deeds, deeds_by, deeds_in, hit_in, is_book_trade, is_deed, is_order, is_same, orders_times, places_from, recipients, sender, times, was_asked};
+ghost use Rattle.surveillance.specs.Deeds.{asked_by, asked_times, book_trades, cancel_in, deed, deeds, deeds_by, hit_in, is_book_trade, is_deed, is_first_in, is_order, is_same, orders_times, places_from, put_quote, put_quote_in, quote_at, quote_deed, recipients, sender, times, was_asked};
 
-use day_events::{Event, What};
+use crate::own_name::{OwnName, own};
+use day_events::{Event, NewQuote, What};
 use fix_dictionary::Identifier;
 use participants::{Participants, Who};
 use std::alloc::{AllocError, Global};
+use std::collections::BTreeMap;
 use venue_rules::TradeFact;
 
 /// What a participant does.
@@ -16,6 +18,7 @@ pub enum Act {
     Replaced,
     Cancelled,
     Asked,
+    /// first in a room
     Quoted,
     Hit,
 }
@@ -66,25 +69,82 @@ fn push_cancel(deeds: &mut Vec<Deed>, order: Option<u64>, who: Who) -> Result<()
     }
 }
 
-#[tactic(auto, unfolding(crate::specs::Deeds::deeds_by))]
-fn push_deeds_by(deeds: &mut Vec<Deed>, from: Who, to: Who, what: &What) -> Result<(), AllocError>
-    ensures { OnOk result (deeds.new.items ≡ deeds.old.items ++ deeds_by from to what.now) }
+fn put_quote_in(
+    quotes: &mut BTreeMap<OwnName, u64>,
+    who: Who,
+    room: &Option<Identifier>,
+    quote: &NewQuote,
+) -> Result<(), AllocError>
+    ensures { OnOk result (quotes.new.entries ≡ put_quote_in quotes.old.entries who room.now quote.now) }
 {
-    match what {
-        What::Entered(_) => push_deed(deeds, Act::Entered, to, to),
-        What::Replaced(_) => push_deed(deeds, Act::Replaced, to, to),
-        What::Cancelled(order) => push_cancel(deeds, *order, to),
-        What::Asked(_) => push_deed(deeds, Act::Asked, from, to),
-        What::Quoted(_) => push_deed(deeds, Act::Quoted, from, to),
-        What::Traded(trade) => push_hit(deeds, &trade.response, to),
+    match room {
+        None => {}
+        Some(room) => {
+            quotes.insert(own(who, *room), quote.quote)?;
+        }
+    }
+    Ok(())
+}
+
+/// Notes a quote.
+#[tactic(auto, unfolding(crate::specs::Deeds::put_quote))]
+fn put_quote(quotes: &mut BTreeMap<OwnName, u64>, event: &Event) -> Result<(), AllocError>
+    ensures { OnOk result (quotes.new.entries ≡ put_quote quotes.old.entries event.now event.now.what) }
+{
+    match &event.what {
+        What::Quoted(quote) => put_quote_in(quotes, sender(event), &event.at.named, quote),
         _ => Ok(()),
     }
 }
 
-fn push_deeds_in(deeds: &mut Vec<Deed>, event: &Event) -> Result<(), AllocError>
-    ensures { OnOk result (deeds.new.items ≡ deeds.old.items ++ deeds_in event.now) }
+fn quote_at(quotes: &BTreeMap<OwnName, u64>, who: Who, room: Identifier) -> Option<u64>
+    ensures { result ≡ quote_at quotes.now.entries who room }
 {
-    push_deeds_by(deeds, sender(event), event.to, &event.what)
+    quotes.get(&own(who, room)).copied()
+}
+
+/// Whether a maker has no quote in a room yet.
+fn is_first_in(quotes: &BTreeMap<OwnName, u64>, who: Who, room: &Option<Identifier>) -> bool
+    ensures { result ≡ is_first_in quotes.now.entries who room.now }
+{
+    match room {
+        None => true,
+        Some(room) => quote_at(quotes, who, *room).is_none(),
+    }
+}
+
+fn push_quote(deeds: &mut Vec<Deed>, is_first: bool, who: Who, other: Who) -> Result<(), AllocError>
+    ensures { OnOk result (deeds.new.items ≡ deeds.old.items ++ quote_deed is_first who other) }
+{
+    if is_first {
+        push_deed(deeds, Act::Quoted, who, other)
+    } else {
+        Ok(())
+    }
+}
+
+/// Appends what a participant did.
+#[tactic(auto, unfolding(crate::specs::Deeds::deeds_by))]
+fn push_deeds_by(
+    deeds: &mut Vec<Deed>,
+    quotes: &BTreeMap<OwnName, u64>,
+    event: &Event,
+) -> Result<(), AllocError>
+    ensures { OnOk result (deeds.new.items ≡ deeds.old.items ++ deeds_by quotes.now.entries event.now event.now.what) }
+{
+    let (from, to) = (sender(event), event.to);
+    match &event.what {
+        What::Entered(_) => push_deed(deeds, Act::Entered, to, to),
+        What::Replaced(_) => push_deed(deeds, Act::Replaced, to, to),
+        What::Cancelled(order) => push_cancel(deeds, *order, to),
+        What::Asked(_) => push_deed(deeds, Act::Asked, from, to),
+        What::Quoted(_) => {
+            let is_first = is_first_in(quotes, from, &event.at.named);
+            push_quote(deeds, is_first, from, to)
+        }
+        What::Traded(trade) => push_hit(deeds, &trade.response, to),
+        _ => Ok(()),
+    }
 }
 
 /// What each participant did on a day.
@@ -92,8 +152,10 @@ pub(crate) fn deeds_of(alloc: Global, events: &[Event]) -> Result<Vec<Deed>, All
     ensures { IfOk result (λ made. made.items ≡ deeds events.now) }
 {
     let mut deeds = Vec::new(alloc);
+    let mut quotes = BTreeMap::new(alloc);
     for event in events {
-        push_deeds_in(&mut deeds, event)?;
+        push_deeds_by(&mut deeds, &quotes, event)?;
+        put_quote(&mut quotes, event)?;
     }
     Ok(deeds)
 }

@@ -2,12 +2,14 @@
 //! the best prices that each request was shown.
 
 ghost use Rattle.std.specs.Prelude.{◌≡◌, IfOk, OnOk};
-ghost use Rattle.surveillance.specs.Index.{best_at, best_in, entered_at, entered_order, entries, entry_at, higher, lower, no_orders, nothing_shown, orders, orders_at, place, place_at, put_entry, put_order, put_place, put_price, put_shown, reported_trade, reports, shown, with_order, with_price};
+ghost use Rattle.surveillance.specs.Index.{best_at, best_in, entered_at, entered_id, entered_order, entries, entry_at, higher, link_at, link_of, lower, no_orders, nothing_shown, orders, orders_at, place, place_at, put_entry, put_link, put_link_of, put_order, put_place, put_price, put_shown, reported_trade, reports, shown, with_order, with_price};
 
 use crate::alarm::Place;
-use crate::key::Name;
+use crate::own_name::{OwnName, own};
 use day_events::{Event, ShownPrice, What};
 use fix_dictionary::{Identifier, Price, Side};
+use participant_activity::Name;
+use participants::Who;
 use sef_moment::Moment;
 use std::alloc::{AllocError, Global};
 use std::collections::BTreeMap;
@@ -70,13 +72,74 @@ pub(crate) fn place_at(places: &BTreeMap<u64, Place>, number: u64) -> Option<Pla
     places.get(&number).copied()
 }
 
-fn entered_at(event: &Event) -> Entry
-    ensures { result ≡ entered_at event.now }
+/// The link of a participant's order that has entered.
+fn link_at(links: &BTreeMap<OwnName, Identifier>, who: Who, id: Identifier) -> Option<Identifier>
+    ensures { result ≡ link_at links.now.entries who id }
+{
+    links.get(&own(who, id)).copied()
+}
+
+/// The link of the order that enters: one that replaces another has that one's.
+#[tactic(auto, unfolding(crate::specs::Index::link_of))]
+fn link_of(links: &BTreeMap<OwnName, Identifier>, event: &Event) -> Option<Identifier>
+    ensures { result ≡ link_of links.now.entries event.now event.now.what }
+{
+    match &event.what {
+        What::Replaced(order) => link_at(links, event.to, order.original_id),
+        _ => event.at.named,
+    }
+}
+
+/// The identifier (11) of the order that enters.
+#[tactic(auto, unfolding(crate::specs::Index::entered_id))]
+fn entered_id(what: &What) -> Option<Identifier>
+    ensures { result ≡ entered_id what.now }
+{
+    match what {
+        What::Entered(order) => Some(order.id),
+        What::Replaced(order) => Some(order.id),
+        _ => None,
+    }
+}
+
+fn put_link_of(
+    links: &mut BTreeMap<OwnName, Identifier>,
+    who: Who,
+    id: Identifier,
+    link: &Option<Identifier>,
+) -> Result<(), AllocError>
+    ensures { OnOk result (links.new.entries ≡ put_link_of links.old.entries who id link.now) }
+{
+    match link {
+        None => {}
+        Some(link) => {
+            links.insert(own(who, id), *link)?;
+        }
+    }
+    Ok(())
+}
+
+fn put_link(
+    links: &mut BTreeMap<OwnName, Identifier>,
+    who: Who,
+    id: &Option<Identifier>,
+    link: &Option<Identifier>,
+) -> Result<(), AllocError>
+    ensures { OnOk result (links.new.entries ≡ put_link links.old.entries who id.now link.now) }
+{
+    match id {
+        None => Ok(()),
+        Some(id) => put_link_of(links, who, *id, link),
+    }
+}
+
+fn entered_at(event: &Event, link: Option<Identifier>) -> Entry
+    ensures { result ≡ entered_at event.now link }
 {
     Entry {
         at: place(event),
         by_clock: event.at.from == 0,
-        link: event.at.named,
+        link,
     }
 }
 
@@ -114,7 +177,7 @@ fn entered_order(what: &What) -> Option<u64>
 {
     match what {
         What::Entered(order) => order.order,
-        What::Replaced(order) => *order,
+        What::Replaced(order) => order.order,
         _ => None,
     }
 }
@@ -124,8 +187,15 @@ pub(crate) fn entries(alloc: Global, events: &[Event]) -> Result<BTreeMap<u64, E
     ensures { IfOk result (λ made. made.entries ≡ entries events.now) }
 {
     let mut places = BTreeMap::new(alloc);
+    let mut links = BTreeMap::new(alloc);
     for event in events {
-        put_entry(&mut places, entered_order(&event.what), entered_at(event))?;
+        let link = link_of(&links, event);
+        put_entry(
+            &mut places,
+            entered_order(&event.what),
+            entered_at(event, link),
+        )?;
+        put_link(&mut links, event.to, &entered_id(&event.what), &link)?;
     }
     Ok(places)
 }

@@ -8,7 +8,7 @@ mod cancels;
 mod deeds;
 mod form;
 mod index;
-mod key;
+mod own_name;
 mod pairs;
 mod people;
 mod prices;

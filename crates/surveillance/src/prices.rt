@@ -5,9 +5,9 @@ ghost use Rattle.surveillance.specs.Alarms.{above, below, better, worse_alarms, 
 
 use crate::alarm::{Alarm, Figure, Kind, Others, push_alarm};
 use crate::index::{Best, best_in, place};
-use crate::key::Name;
 use day_events::{Event, RoomTrade};
 use fix_dictionary::{Identifier, Price, Side};
+use participant_activity::Name;
 use std::alloc::AllocError;
 use std::collections::BTreeMap;
 

@@ -40,7 +40,7 @@ fn kind_words(kind: Kind) -> &'static [u8]
         Kind::RelatedTrade => b"related trade",
         Kind::CancelledSoon => b"cancelled soon",
         Kind::LinkedSoon => b"linked soon",
-        Kind::SentAgain => b"sent again",
+        Kind::SentAgain => b"next order after a refusal",
         Kind::WorseThanShown => b"worse than the book shown",
         Kind::ManyOrders => b"many orders",
         Kind::ManyCancels => b"many cancels",

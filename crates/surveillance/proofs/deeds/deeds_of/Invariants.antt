@@ -1,8 +1,7 @@
-use Rattle.std.proofs.Common.{◌≡◌, take}
-use Rattle.std.specs.List.{flat_map}
-use Rattle.surveillance.specs.Deeds.{deeds_in}
+use Rattle.std.proofs.Common.{◌≡◌, ◌++◌, drop}
+use Rattle.surveillance.specs.Deeds.{deeds, deeds_from}
 use Rattle.surveillance.proofs.deeds.deeds_of.Given as goal
 
--- those of what was looked at so far
+-- those so far, and then those of the other events, are all
 abbrev pub invariant-loop-event : goal.invariant-loop-event
-invariant-loop-event l = l.deeds.items ≡ flat_map deeds_in (take l.event-index l.events)
+invariant-loop-event l = l.deeds.items ++ deeds_from l.quotes.entries (drop l.event-index l.events) ≡ deeds l.events

@@ -6,4 +6,4 @@ pub returns-in-Ok-clause-read : goal.returns-in-Ok-clause-read
 returns-in-Ok-clause-read c = states c.args.text.now (table_view c.in-Ok.table) c.bounds_in.result c.in-Ok.ensures.ok.0 c.in-Ok.ensures.ok.1 c.bounds_in.ensures.read
 
 pub returns-in-Ok-clause-fault : goal.returns-in-Ok-clause-fault
-returns-in-Ok-clause-fault c = refuses c.args.text.now (table_view c.in-Ok.table) c.bounds_in.result c.in-Ok.ensures.ok.1 c.bounds_in.ensures.fault
+returns-in-Ok-clause-fault c = refuses c.args.text.now (table_view c.in-Ok.table) c.bounds_in.result c.in-Ok.ensures.ok.0 c.in-Ok.ensures.ok.1 c.bounds_in.ensures.fault
