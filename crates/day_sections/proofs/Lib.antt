@@ -1,1 +1,4 @@
 pub mod Walks
+pub mod Early
+pub mod Counting
+pub mod ByCause

@@ -3,6 +3,8 @@ pub mod Values
 -- what is counted and picked of a day's events
 pub mod Counts
 pub mod Rooms
+pub mod Keys
+pub mod Numbers
 pub mod Picks
 -- the day in six figures
 pub mod Figures

@@ -1,10 +1,11 @@
 -- Events that belong together, picked from those of a day.
-use Rattle.std.specs.Prelude.{ℕ, ◌==◌, ◌&&◌, Bool, true, false, List, filter, bytes_eq, is_none, Option, Some, None}
+use Rattle.std.specs.Prelude.{ℕ, ◌==◌, ◌&&◌, Bool, true, false, List, filter, nat_le, bytes_eq, is_none, Option, Some, None}
 use Rattle.venue_rules.specs.Rooms.{printed}
 use Rattle.day_events.specs.declared.event.Event.{Event}
 use Rattle.day_events.specs.declared.event.What.{What}
 use Rattle.day_events.specs.declared.event.What.TheVariants as what
-use Rattle.day_sections.specs.Counts.{is_quoted}
+use Rattle.day_sections.specs.Counts.{is_quoted, is_refused}
+use Rattle.day_sections.specs.Keys.{key_of}
 use Rattle.day_sections.specs.declared.picks.Pick.{Pick}
 use Rattle.day_sections.specs.declared.picks.Pick.TheVariants as pick
 
@@ -37,6 +38,10 @@ abbrev pub is_shown : What → Bool
 is_shown (what.Shown x) = true
 is_shown _ = false
 
+-- what may be said of a room up to the 300th
+abbrev pub is_early : Event → Bool
+is_early e = nat_le (key_of e) 300
+
 abbrev pub is_of_cause : Option (List ℕ) → What → Bool
 is_of_cause cause (what.Refused text) = is_same cause text
 is_of_cause cause _ = false
@@ -45,9 +50,11 @@ is_of_cause cause _ = false
 -- room.
 abbrev pub is_picked : Pick → Event → Bool
 is_picked pick.Requests e = is_of_request e.what
+is_picked pick.Early e = is_early e
 is_picked (pick.Asked room) e = is_asked_in room e.what
 is_picked (pick.Shown room) e = is_shown e.what && names_room room e.at.named
 is_picked (pick.Quotes room) e = is_quoted e.what && names_room room e.at.named
+is_picked pick.Refusals e = is_refused e.what
 is_picked (pick.Refused cause) e = is_of_cause cause e.what
 
 -- what is said of requests

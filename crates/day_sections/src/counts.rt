@@ -52,7 +52,7 @@ fn is_cancelled(what: &What) -> bool
 }
 
 #[tactic(auto, unfolding(crate::specs::Counts::is_refused))]
-fn is_refused(what: &What) -> bool
+pub(crate) fn is_refused(what: &What) -> bool
     ensures { result ≡ is_refused what.now }
 {
     match what {
@@ -92,7 +92,7 @@ fn is_asked(what: &What) -> bool
 }
 
 /// Whether an event is of this kind.
-fn is_counted(kind: Kind, what: &What) -> bool
+pub(crate) fn is_counted(kind: Kind, what: &What) -> bool
     ensures { result ≡ is_counted kind what.now }
 {
     match kind {
@@ -107,7 +107,7 @@ fn is_counted(kind: Kind, what: &What) -> bool
 }
 
 /// Whether an event of this kind is of the sender of its row, and not of whom it was sent to.
-fn is_of_sender(kind: Kind) -> bool
+pub(crate) fn is_of_sender(kind: Kind) -> bool
     ensures { result ≡ is_of_sender kind }
 {
     match kind {

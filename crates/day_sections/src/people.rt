@@ -3,10 +3,12 @@
 ghost use Rattle.std.specs.Prelude.{◌≡◌, OnOk, IfOk, length};
 ghost use Rattle.page_text.specs.Parts.{with_part, with_parts};
 ghost use Rattle.day_tables.specs.Parts.{each_from};
+ghost use Rattle.day_sections.specs.Numbers.{AreNumbers};
 ghost use Rattle.day_sections.specs.People.{bought_by, people_parts, person_part, person_parts, sold_by};
 ghost use Rattle.day_sections.specs.Rooms.{rooms};
 
-use crate::counts::{Kind, count, count_sent};
+use crate::counts::count_sent;
+use crate::numbers::{Numbers, numbers_of, times};
 use crate::rooms::{count_made, rooms};
 use crate::template::{PEOPLE, PEOPLE_END, PERSON};
 use day_events::Event;
@@ -43,6 +45,8 @@ pub struct Kept<'a> {
     pub trades: &'a [TradeFact],
     pub events: &'a [Event],
     pub rooms: &'a [Event],
+    /// whom the events are of
+    pub numbers: &'a Numbers,
 }
 
 /// Adds the row of a participant.
@@ -53,22 +57,23 @@ fn add_person(
     kept: &Kept<'_>,
     place: u32,
 ) -> Result<(), AllocError>
+    requires numbers { AreNumbers kept.now.events.now kept.now.numbers.now }
     ensures { OnOk result (page.new ≡ with_parts page.old (person_parts participants.now kept.now.rows.now kept.now.trades.now kept.now.events.now kept.now.rooms.now place)) }
 {
     let only = Some(place);
     let name = name_at(participants, Who::of(place));
     let number = number_text(alloc, u64::from(place) + 1)?;
     let sent = grouped_text(alloc, count_sent(kept.rows, only) as u64)?;
-    let refused = grouped_text(alloc, count(kept.events, Kind::Refused, only) as u64)?;
-    let entered = grouped_text(alloc, count(kept.events, Kind::Entered, only) as u64)?;
-    let replaced = grouped_text(alloc, count(kept.events, Kind::Replaced, only) as u64)?;
-    let cancelled = grouped_text(alloc, count(kept.events, Kind::Cancelled, only) as u64)?;
+    let refused = grouped_text(alloc, times(&kept.numbers.refused, place))?;
+    let entered = grouped_text(alloc, times(&kept.numbers.entered, place))?;
+    let replaced = grouped_text(alloc, times(&kept.numbers.replaced, place))?;
+    let cancelled = grouped_text(alloc, times(&kept.numbers.cancelled, place))?;
     let bought = grouped_text(alloc, bought_by(kept.trades, place) as u64)?;
     let sold = grouped_text(alloc, sold_by(kept.trades, place) as u64)?;
     let made = grouped_text(alloc, count_made(kept.rooms, place) as u64)?;
-    let asked = grouped_text(alloc, count(kept.events, Kind::Asked, only) as u64)?;
-    let quotes = grouped_text(alloc, count(kept.events, Kind::Quotes, only) as u64)?;
-    let hits = grouped_text(alloc, count(kept.events, Kind::Hits, only) as u64)?;
+    let asked = grouped_text(alloc, times(&kept.numbers.asked, place))?;
+    let quotes = grouped_text(alloc, times(&kept.numbers.quotes, place))?;
+    let hits = grouped_text(alloc, times(&kept.numbers.hits, place))?;
     page.add(
         PERSON,
         &[
@@ -85,6 +90,7 @@ fn add_each(
     participants: &Participants,
     kept: &Kept<'_>,
 ) -> Result<(), AllocError>
+    requires numbers { AreNumbers kept.now.events.now kept.now.numbers.now }
     ensures { OnOk result (page.new ≡ with_parts page.old (each_from (person_parts participants.now kept.now.rows.now kept.now.trades.now kept.now.events.now kept.now.rooms.now) 0 (length participants.now.names))) }
 {
     for place in 0..participants.len() {
@@ -105,11 +111,13 @@ pub fn add_people(
     ensures { OnOk result (page.new ≡ with_parts page.old (people_parts participants.now rows.now trades.now events.now)) }
 {
     let rooms = rooms(alloc, events)?;
+    let numbers = numbers_of(alloc, events)?;
     let kept = Kept {
         rows,
         trades,
         events,
         rooms: &rooms,
+        numbers: &numbers,
     };
     let people = grouped_text(alloc, participants.len() as u64)?;
     page.add(PEOPLE, &[&people])?;

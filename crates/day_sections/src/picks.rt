@@ -1,9 +1,10 @@
 //! Events that belong together, picked from those of a day.
 
 ghost use Rattle.std.specs.Prelude.{◌≡◌, IfOk, filter};
-ghost use Rattle.day_sections.specs.Picks.{is_asked_in, is_of_cause, is_of_request, is_picked, is_same, is_shown, names_room};
+ghost use Rattle.day_sections.specs.Picks.{is_asked_in, is_early, is_of_cause, is_of_request, is_picked, is_same, is_shown, names_room};
 
-use crate::counts::is_quoted;
+use crate::counts::{is_quoted, is_refused};
+use crate::near::key_of;
 use crate::rooms::keep;
 use day_events::{Event, What};
 use fix_dictionary::Identifier;
@@ -15,12 +16,16 @@ use venue_rules::printed_identifier;
 pub enum Pick {
     /// what is said of requests, of whatever room
     Requests,
+    /// all that is said of a room up to `LAST_EARLY`, and the end of any quote
+    Early,
     /// a request, as each recipient was asked in this room
     Asked(u64),
     /// the resting orders shown with a quote in this room
     Shown(u64),
     /// the quotes in this room
     Quotes(u64),
+    /// refusals for whatever cause
+    Refusals,
     /// refusals for this cause
     Refused(Option<Identifier>),
 }
@@ -94,14 +99,26 @@ fn is_of_cause(cause: &Option<Identifier>, what: &What) -> bool
     }
 }
 
+/// The last of the rooms that the page of a whole day has.
+pub(crate) const LAST_EARLY: u64 = 300;
+
+/// Whether this may be said of a room up to `LAST_EARLY`.
+fn is_early(event: &Event) -> bool
+    ensures { result ≡ is_early event.now }
+{
+    u64::from(key_of(event)) <= LAST_EARLY
+}
+
 fn is_picked(pick: &Pick, event: &Event) -> bool
     ensures { result ≡ is_picked pick.now event.now }
 {
     match pick {
         Pick::Requests => is_of_request(&event.what),
+        Pick::Early => is_early(event),
         Pick::Asked(room) => is_asked_in(*room, &event.what),
         Pick::Shown(room) => is_shown(&event.what) && names_room(*room, &event.at.named),
         Pick::Quotes(room) => is_quoted(&event.what) && names_room(*room, &event.at.named),
+        Pick::Refusals => is_refused(&event.what),
         Pick::Refused(cause) => is_of_cause(cause, &event.what),
     }
 }

@@ -204,6 +204,7 @@ pub fn add_refusals(
 ) -> Result<(), AllocError>
     ensures { OnOk result (page.new ≡ with_parts page.old (refusals_parts participants.now linked events.now (causes events.now))) }
 {
-    let causes = causes(alloc, events)?;
-    add_by_cause(alloc, page, participants, linked, events, &causes)
+    let refused = picked(alloc, events, &Pick::Refusals)?;
+    let causes = causes(alloc, &refused)?;
+    add_by_cause(alloc, page, participants, linked, &refused, &causes)
 }

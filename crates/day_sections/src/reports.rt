@@ -63,7 +63,7 @@ fn report_at(reports: &[Event], number: u64, at: usize) -> Option<Event>
 }
 
 /// The first report of a trade.
-pub(crate) fn report_of(reports: &[Event], number: u64) -> Option<Event>
+pub fn report_of(reports: &[Event], number: u64) -> Option<Event>
     ensures { result ≡ report_of reports.now number }
 {
     if number == 0 || number > reports.len() as u64 {

@@ -1,16 +1,18 @@
 //! The section of the requests for quotes: of each request whom it asked, what was shown, its quotes and its trade.
 
-ghost use Rattle.std.specs.Prelude.{◌≡◌, OnOk, IfOk, filter, take};
+ghost use Rattle.std.specs.Prelude.{◌≡◌, OnOk, IfOk, cond, filter, map, nat_le, take};
 ghost use Rattle.std.specs.List.{flat_map};
 ghost use Rattle.page_text.specs.Parts.{with_part, with_parts};
 ghost use Rattle.day_sections.specs.declared.picks.Pick.TheVariants as pick;
+ghost use Rattle.day_sections.specs.Keys.{is_near, key_of};
 ghost use Rattle.day_sections.specs.Picks.{is_picked, of_requests};
 ghost use Rattle.day_sections.specs.Requests.{all_quotes, asked_parts, asked_section, fate_part, hit_part, idle_part, if_quote_parts, if_request_parts, if_traded, most_rooms, once_part, opening_parts, optional_price, outcome_part, price_part, quote_part, quote_parts, request_parts, requests_parts, room_part, shown_order_parts, shown_parts, shown_section, side_word, side_words, some_requests, trade_alone, trade_in, trade_link, traded_part, twice_part};
 ghost use Rattle.day_sections.specs.Rooms.{rooms};
 ghost use Rattle.day_sections.specs.Values.{are_shown, last_moment};
 
 use crate::fate::{Fate, Quoted, outcome_of};
-use crate::picks::{Pick, picked};
+use crate::near::{keys_of, near};
+use crate::picks::{LAST_EARLY, Pick, picked};
 use crate::rooms::{many, rooms};
 use crate::template::{
     CELL_END, HIT, HIT_ALONE, LIVE, NAME, NO_REQUEST, NOT_TAKEN, NOTHING_SHOWN, PASSED, QUOTE,
@@ -38,6 +40,16 @@ pub struct Answered<'a> {
     pub linked: bool,
     pub last: Option<Moment>,
     pub events: &'a [Event],
+}
+
+/// The events of a day, those among them that may be of an early room, and the rooms that these may be of.
+#[derive(Clone, Copy)]
+struct Sought<'a> {
+    linked: bool,
+    last: Option<Moment>,
+    events: &'a [Event],
+    early: &'a [Event],
+    keys: &'a [u16],
 }
 
 /// What a request asks for, in words.
@@ -479,18 +491,54 @@ fn add_request(
     add_quotes(alloc, page, participants, answered, room, &quotes)
 }
 
+/// What may be said of a room, among what is said of requests.
+fn said_of(alloc: Global, sought: &Sought<'_>, room: u64) -> Result<Vec<Event>, AllocError>
+    requires keys { sought.now.keys.now ≡ map key_of sought.now.early.now }
+    ensures { IfOk result (λ said. said.items ≡ cond (nat_le room 300) (filter (λ e. is_near room (key_of e)) sought.now.early.now) (of_requests sought.now.events.now)) }
+{
+    if room <= LAST_EARLY {
+        near(alloc, sought.early, sought.keys, room)
+    } else {
+        picked(alloc, sought.events, &Pick::Requests)
+    }
+}
+
+/// Adds a request, by what may be said of its room.
+fn add_sought(
+    alloc: Global,
+    page: &mut Page,
+    participants: &Participants,
+    sought: &Sought<'_>,
+    opened: &Event,
+    request: &NewRequest,
+) -> Result<(), AllocError>
+    requires early { sought.now.early.now ≡ filter (is_picked pick.Early) sought.now.events.now }
+    requires keys { sought.now.keys.now ≡ map key_of sought.now.early.now }
+    ensures { OnOk result (page.new ≡ with_parts page.old (request_parts participants.now sought.now.linked sought.now.last (of_requests sought.now.events.now) opened.now request.now)) }
+{
+    let said = said_of(alloc, sought, request.room)?;
+    let answered = Answered {
+        linked: sought.linked,
+        last: sought.last,
+        events: &said,
+    };
+    add_request(alloc, page, participants, &answered, opened, request)
+}
+
 #[tactic(auto, unfolding(crate::specs::Requests::if_request_parts))]
 fn add_if_request(
     alloc: Global,
     page: &mut Page,
     participants: &Participants,
-    answered: &Answered<'_>,
+    sought: &Sought<'_>,
     event: &Event,
 ) -> Result<(), AllocError>
-    ensures { OnOk result (page.new ≡ with_parts page.old (if_request_parts participants.now answered.now.linked answered.now.last answered.now.events.now event.now event.now.what)) }
+    requires early { sought.now.early.now ≡ filter (is_picked pick.Early) sought.now.events.now }
+    requires keys { sought.now.keys.now ≡ map key_of sought.now.early.now }
+    ensures { OnOk result (page.new ≡ with_parts page.old (if_request_parts participants.now sought.now.linked sought.now.last (of_requests sought.now.events.now) event.now event.now.what)) }
 {
     match &event.what {
-        What::Asked(request) => add_request(alloc, page, participants, answered, event, request),
+        What::Asked(request) => add_sought(alloc, page, participants, sought, event, request),
         _ => Ok(()),
     }
 }
@@ -499,13 +547,15 @@ fn add_each(
     alloc: Global,
     page: &mut Page,
     participants: &Participants,
-    answered: &Answered<'_>,
+    sought: &Sought<'_>,
     rooms: &[Event],
 ) -> Result<(), AllocError>
-    ensures { OnOk result (page.new ≡ with_parts page.old (flat_map (λ e. if_request_parts participants.now answered.now.linked answered.now.last answered.now.events.now e e.what) rooms.now)) }
+    requires early { sought.now.early.now ≡ filter (is_picked pick.Early) sought.now.events.now }
+    requires keys { sought.now.keys.now ≡ map key_of sought.now.early.now }
+    ensures { OnOk result (page.new ≡ with_parts page.old (flat_map (λ e. if_request_parts participants.now sought.now.linked sought.now.last (of_requests sought.now.events.now) e e.what) rooms.now)) }
 {
     for event in rooms {
-        add_if_request(alloc, page, participants, answered, event)?;
+        add_if_request(alloc, page, participants, sought, event)?;
     }
     Ok(())
 }
@@ -527,14 +577,16 @@ fn add_some(
     alloc: Global,
     page: &mut Page,
     participants: &Participants,
-    answered: &Answered<'_>,
+    sought: &Sought<'_>,
     rooms: &[Event],
 ) -> Result<(), AllocError>
-    ensures { OnOk result (page.new ≡ with_parts page.old (some_requests participants.now answered.now.linked answered.now.last answered.now.events.now rooms.now)) }
+    requires early { sought.now.early.now ≡ filter (is_picked pick.Early) sought.now.events.now }
+    requires keys { sought.now.keys.now ≡ map key_of sought.now.early.now }
+    ensures { OnOk result (page.new ≡ with_parts page.old (some_requests participants.now sought.now.linked sought.now.last (of_requests sought.now.events.now) rooms.now)) }
 {
     let count = grouped_text(alloc, rooms.len() as u64)?;
     page.add(REQUESTS, &[&count])?;
-    add_each(alloc, page, participants, answered, first_of(rooms))?;
+    add_each(alloc, page, participants, sought, first_of(rooms))?;
     page.add(SECTION_END, &[])
 }
 
@@ -542,15 +594,17 @@ fn add_rooms(
     alloc: Global,
     page: &mut Page,
     participants: &Participants,
-    answered: &Answered<'_>,
+    sought: &Sought<'_>,
     rooms: &[Event],
 ) -> Result<(), AllocError>
-    ensures { OnOk result (page.new ≡ with_parts page.old (requests_parts participants.now answered.now.linked answered.now.last answered.now.events.now rooms.now)) }
+    requires early { sought.now.early.now ≡ filter (is_picked pick.Early) sought.now.events.now }
+    requires keys { sought.now.keys.now ≡ map key_of sought.now.early.now }
+    ensures { OnOk result (page.new ≡ with_parts page.old (requests_parts participants.now sought.now.linked sought.now.last (of_requests sought.now.events.now) rooms.now)) }
 {
     if rooms.len() == 0 {
         page.add(NO_REQUEST, &[])
     } else {
-        add_some(alloc, page, participants, answered, rooms)
+        add_some(alloc, page, participants, sought, rooms)
     }
 }
 
@@ -565,12 +619,15 @@ pub fn add_requests(
 ) -> Result<(), AllocError>
     ensures { OnOk result (page.new ≡ with_parts page.old (requests_parts participants.now (are_shown rows.now) (last_moment rows.now) (of_requests events.now) (rooms events.now))) }
 {
-    let spoken = picked(alloc, events, &Pick::Requests)?;
-    let answered = Answered {
+    let early = picked(alloc, events, &Pick::Early)?;
+    let keys = keys_of(alloc, &early)?;
+    let sought = Sought {
         linked: are_shown(rows),
         last: last_moment(rows),
-        events: &spoken,
+        events,
+        early: &early,
+        keys: &keys,
     };
     let rooms = rooms(alloc, events)?;
-    add_rooms(alloc, page, participants, &answered, &rooms)
+    add_rooms(alloc, page, participants, &sought, &rooms)
 }

@@ -2,7 +2,7 @@
 
 /// The day in six figures.
 pub(crate) const FIGURES: &[u8] =
-    b"<section id=\"figures\" style=\"padding-top:0\" aria-label=\"The day in six figures\">\n<dl class=\"six\"><div><dt>Application messages taken</dt><dd><a href=\"#rows\">$messages;</a></dd><p>participants: $participants;, rows: $rows;</p></div><div><dt>Orders</dt><dd>$orders;</dd><p>accepted (New reported)</p></div><div><dt>Trades</dt><dd><a href=\"#trades\">$trades;</a></dd><p>in the book: $book;, in requests: $requests;</p></div><div><dt>Quantity traded</dt><dd><a href=\"#bulletin\">$quantity;</a></dd><p>in the book: $book;, in requests: $requests;</p></div><div><dt>Requests</dt><dd>$requests;</dd><p>quotes: $quotes;, hit: $hit;</p></div><div><dt>Refusals</dt><dd>$refusals;</dd><p>a message or a held side each</p></div></dl></section>\n";
+    b"<section id=\"figures\" style=\"padding-top:0\" aria-label=\"The day in six figures\">\n<dl class=\"six\"><div><dt>Application messages taken</dt><dd><a href=\"#rows\">$messages;</a></dd><p>participants: $participants;, rows: $rows;</p></div><div><dt>Orders</dt><dd>$orders;</dd><p>accepted (New reported)</p></div><div><dt>Trades</dt><dd><a href=\"#trades\">$trades;</a></dd><p>in the book: $book;, in requests: $requests;</p></div><div><dt>Quantity traded</dt><dd><a href=\"#bulletin\">$quantity;</a></dd><p>added over all instruments, whatever their units; in the book: $book;, in requests: $requests;</p></div><div><dt>Requests</dt><dd>$requests;</dd><p>quotes: $quotes;, hit: $hit;</p></div><div><dt>Refusals</dt><dd>$refusals;</dd><p>a message or a held side each</p></div></dl></section>\n";
 
 /// The head of the trades.
 pub(crate) const TRADES: &[u8] =
@@ -162,7 +162,7 @@ pub(crate) const PEOPLE_END: &[u8] = b"</tbody></table></div></section>\n";
 
 /// The head of the trades of linked orders.
 pub(crate) const LINKED: &[u8] =
-    b"<section id=\"linked\">\n<h2>Linked orders and crosses<small>$count;</small></h2>\n<p class=\"lead\">Trades in the book of two orders of one participant, of related ones or with one link (583, not followed through replacements), and of both sides of a cross: the second enters the delay after the first, or later (17 CFR 37.9(b)(1)). Of more than 300 trades the first 300 are here.</p>\n<table class=\"cards\"><caption class=\"q\">Linked orders and crosses</caption>\n<thead><tr><th scope=\"col\">Trade</th><th scope=\"col\">Buyer</th><th scope=\"col\">Seller</th><th scope=\"col\">First order</th><th scope=\"col\">Second order</th><th scope=\"col\" class=\"n\">Between, ms</th><th scope=\"col\" class=\"n\">Delay, ms</th><th scope=\"col\" class=\"n\">Their rows</th></tr></thead>\n<tbody>";
+    b"<section id=\"linked\">\n<h2>Linked orders and crosses<small>$count;</small></h2>\n<p class=\"lead\">Trades in the book of two orders of one participant, of related ones or with one link (583, which a replacement keeps), and of both sides of a cross: the second enters the delay after the first, or later (17 CFR 37.9(b)(1)). Of more than 300 trades the first 300 are here.</p>\n<table class=\"cards\"><caption class=\"q\">Linked orders and crosses</caption>\n<thead><tr><th scope=\"col\">Trade</th><th scope=\"col\">Buyer</th><th scope=\"col\">Seller</th><th scope=\"col\">First order</th><th scope=\"col\">Second order</th><th scope=\"col\" class=\"n\">Between, ms</th><th scope=\"col\" class=\"n\">Delay, ms</th><th scope=\"col\" class=\"n\">Their rows</th></tr></thead>\n<tbody>";
 
 /// A trade that is on the page.
 pub(crate) const TRADE_LINK: &[u8] =
@@ -187,15 +187,15 @@ pub(crate) const LINKED_TIMES: &[u8] =
 
 /// A day without such a trade.
 pub(crate) const NO_LINKED: &[u8] =
-    b"<section id=\"linked\">\n<h2>Linked orders and crosses</h2>\n<p class=\"none s\">No two linked orders traded; links (583) of replaced orders are not followed.</p></section>\n";
+    b"<section id=\"linked\">\n<h2>Linked orders and crosses</h2>\n<p class=\"none s\">No two linked orders traded.</p></section>\n";
 
 /// The head of the alarms.
 pub(crate) const ALARMS: &[u8] =
-    b"<section id=\"alarms\">\n<h2>Alarms<small>$count;</small></h2>\n<p class=\"lead\">What surveillance of the day raises (17 CFR 37.203(d), 37.401) by the default thresholds, 1,000 ms, 20 orders a trade, 90 percent and 10 requests: each is something to look at, not a finding. Of more than 300 alarms the first 300 are here: <code>sef_replay --watch</code> prints the others, and with <code>--thresholds</code> those by other thresholds.</p>\n<table class=\"cards\"><caption class=\"q\">Alarms</caption>\n<thead><tr><th scope=\"col\">Alarm</th><th scope=\"col\" class=\"n\">Row</th></tr></thead>\n<tbody>";
+    b"<section id=\"alarms\">\n<h2>Alarms<small>$count;</small></h2>\n<p class=\"lead\">What surveillance of the day raises (17 CFR 37.203(d), 37.401) by the default thresholds, 1,000 ms, 20 orders a trade and 90 percent (from 10 orders, or requests quoted in, on), and 10 requests: each is something to look at, not a finding. Of more than 300 alarms the first 300 are here: <code>sef_replay --watch</code> prints the others, and with <code>--thresholds</code> those by other thresholds.</p>\n<table class=\"cards\"><caption class=\"q\">Alarms</caption>\n<thead><tr><th scope=\"col\">Alarm</th><th scope=\"col\" class=\"n\">Row</th></tr></thead>\n<tbody>";
 
 /// An alarm, up to its row.
 pub(crate) const ALARM: &[u8] = b"<tr><td>$alarm;</td><td class=\"n\" data-l=\"row\">";
 
 /// A day without an alarm.
 pub(crate) const NO_ALARM: &[u8] =
-    b"<section id=\"alarms\">\n<h2>Alarms</h2>\n<p class=\"none s\">None is raised by the default thresholds, 1,000 ms, 20 orders a trade, 90 percent and 10 requests: <code>sef_replay --watch</code> has others.</p></section>\n";
+    b"<section id=\"alarms\">\n<h2>Alarms</h2>\n<p class=\"none s\">None is raised by the default thresholds, 1,000 ms, 20 orders a trade and 90 percent (from 10 orders, or requests quoted in, on), and 10 requests: <code>sef_replay --watch</code> has others.</p></section>\n";

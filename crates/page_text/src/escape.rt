@@ -1,5 +1,5 @@
 //! Escaping.
-ghost use Rattle.std.specs.Prelude.{◌≡◌, ◌++◌, ◌<◌, OnOk};
+ghost use Rattle.std.specs.Prelude.{◌≡◌, ◌++◌, ◌∷◌, [], ◌<◌, OnOk};
 ghost use Rattle.page_text.specs.Escapes.{digit, escaped, escaped_all};
 
 use std::alloc::AllocError;
@@ -16,6 +16,16 @@ fn digit_of(number: u8) -> u8
     }
 }
 
+/// Appends a byte as it is.
+pub(crate) fn push(out: &mut Vec<u8>, byte: u8) -> Result<(), AllocError>
+    ensures { OnOk result (out.new.items ≡ out.old.items ++ byte ∷ []) }
+{
+    match out.push(byte) {
+        Ok(()) => Ok(()),
+        Err(_) => Err(AllocError),
+    }
+}
+
 /// Appends a byte as HTML has it in text and in double-quoted values.
 fn escape(out: &mut Vec<u8>, byte: u8) -> Result<(), AllocError>
     ensures { OnOk result (out.new.items ≡ out.old.items ++ escaped byte) }
@@ -26,7 +36,7 @@ fn escape(out: &mut Vec<u8>, byte: u8) -> Result<(), AllocError>
         b'>' => out.extend_from_slice(b"&gt;"),
         b'"' => out.extend_from_slice(b"&quot;"),
         b'\'' => out.extend_from_slice(b"&#39;"),
-        b' '..=b'~' => out.extend_from_slice(&[byte]),
+        b' '..=b'~' => push(out, byte),
         _ => {
             let digits = [
                 b'&',

@@ -5,7 +5,7 @@ ghost use Rattle.page_text.specs.Parts.{emitted, filled, left, shown};
 ghost use Rattle.page_text.specs.Spots.{after};
 ghost use Rattle.page_text.specs.Texts.{texts};
 
-use crate::escape::escape_all;
+use crate::escape::{escape_all, push};
 use crate::spot::{Reading, Spot, next_of, spot_at};
 use std::alloc::AllocError;
 
@@ -32,7 +32,7 @@ fn emit(out: &mut Vec<u8>, reading: Reading, byte: u8, values: &[&[u8]]) -> Resu
             if byte == b'$' {
                 show(out, spot, values)
             } else {
-                out.extend_from_slice(&[byte])
+                push(out, byte)
             }
         }
         Reading::Name(_) => Ok(()),

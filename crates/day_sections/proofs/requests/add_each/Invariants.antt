@@ -1,9 +1,10 @@
 use Rattle.std.proofs.Common.{◌≡◌, drop}
 use Rattle.std.specs.List.{flat_map}
 use Rattle.page_text.specs.Parts.{with_parts}
+use Rattle.day_sections.specs.Picks.{of_requests}
 use Rattle.day_sections.specs.Requests.{if_request_parts}
 use Rattle.day_sections.proofs.requests.add_each.Given as goal
 
 -- the parts so far, and then those of the others, are all
 abbrev pub invariant-loop-event : goal.invariant-loop-event
-invariant-loop-event l = with_parts l.page (flat_map (λ e. if_request_parts l.participants l.answered.linked l.answered.last l.answered.events.now e e.what) (drop l.event-index l.rooms)) ≡ with_parts l.fn.page (flat_map (λ e. if_request_parts l.participants l.answered.linked l.answered.last l.answered.events.now e e.what) l.rooms)
+invariant-loop-event l = with_parts l.page (flat_map (λ e. if_request_parts l.participants l.sought.linked l.sought.last (of_requests l.sought.events.now) e e.what) (drop l.event-index l.rooms)) ≡ with_parts l.fn.page (flat_map (λ e. if_request_parts l.participants l.sought.linked l.sought.last (of_requests l.sought.events.now) e e.what) l.rooms)
