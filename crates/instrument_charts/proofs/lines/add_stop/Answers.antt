@@ -1,0 +1,12 @@
+use Rattle.std.proofs.Common.{◌∷◌, [], ◌∙◌, ap}
+use Rattle.std.proofs.lemmas.Result.{on_ok_weaker}
+use Rattle.std.specs.Prelude.{decimal}
+use Rattle.page_text.specs.Parts.{with_part}
+use Rattle.instrument_charts.specs.declared.template.TheConstants.{STOP}
+use Rattle.instrument_charts.proofs.lines.add_stop.Goals as goal
+
+pub returns : goal.returns
+returns c =
+    on_ok_weaker c.add.result
+    (λ e. e ∙ (λ j. with_part c.args.page.now (record { template = STOP.now; values = (c.deref.ensures.value ∙ (c.in_ok-x.ensures ∙ ap decimal c.across.ensures)) j ∷ [] })))
+    c.add.ensures.added

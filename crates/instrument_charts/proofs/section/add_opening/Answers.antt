@@ -1,0 +1,13 @@
+use Rattle.std.proofs.Common.{◌∷◌, [], ◌∙◌}
+use Rattle.std.proofs.lemmas.Result.{on_ok_weaker}
+use Rattle.page_text.specs.Parts.{with_part}
+use Rattle.instrument_charts.proofs.section.add_opening.Goals as goal
+
+pub returns : goal.returns
+returns c =
+    on_ok_weaker c.add.result
+    (λ e. e ∙ (λ j. with_part c.args.page.now (record {
+      template = c.opening_template.ensures j;
+      values = c.args.shown.now.symbol.now ∷ (c.deref.ensures.value ∙ c.in_ok-count.ensures) j ∷ [];
+    })))
+    c.add.ensures.added

@@ -1,0 +1,21 @@
+//! The section of the instruments of a day: of each the trades over time, the best prices, and the book at the end.
+#![tactic(auto)]
+
+mod deals;
+mod glyphs;
+mod ladder;
+mod lines;
+mod prices;
+mod rests;
+mod scale;
+mod section;
+mod template;
+mod values;
+
+pub use deals::{Deal, deals_of, first_moment, last_moment};
+pub use ladder::Rest;
+pub use lines::Point;
+pub use prices::Range;
+pub use rests::rests_of;
+pub use scale::Scale;
+pub use section::{Charted, Shown, add_instruments};

@@ -1,0 +1,70 @@
+//! Where a moment and a price are on a chart.
+
+ghost use Rattle.std.specs.Prelude.{◌≡◌};
+ghost use Rattle.instrument_charts.specs.Scales.{across, distance, down, length_of, middle, part_of, passed};
+
+use crate::prices::Range;
+use fix_dictionary::Price;
+use sef_moment::Moment;
+
+/// What a chart spans: the day, from its first row to its last, and a range of prices.
+#[derive(Clone, Copy)]
+pub struct Scale {
+    pub first: Moment,
+    pub last: Moment,
+    pub range: Range,
+}
+
+/// The milliseconds from the first row to the last.
+fn length_of(scale: &Scale) -> u64
+    ensures { result ≡ length_of scale.now }
+{
+    scale.last.ms().saturating_sub(scale.first.ms())
+}
+
+/// And from the first row to a moment.
+fn passed(scale: &Scale, moment: Moment) -> u64
+    ensures { result ≡ passed scale.now moment }
+{
+    moment
+        .ms()
+        .saturating_sub(scale.first.ms())
+        .min(length_of(scale))
+}
+
+/// The place of a moment, in ten thousandths of the width: from 100 to 9900.
+pub(crate) fn across(scale: &Scale, moment: Moment) -> u128
+    ensures { result ≡ across scale.now moment }
+{
+    100 + 9_800 * u128::from(passed(scale, moment)) / u128::from(length_of(scale).max(1))
+}
+
+/// The part of some equal parts of the day in which a moment is, from 0.
+pub(crate) fn part_of(scale: &Scale, parts: u64, moment: Moment) -> u128
+    ensures { result ≡ part_of scale.now parts moment }
+{
+    u128::from(parts) * u128::from(passed(scale, moment)) / (u128::from(length_of(scale)) + 1)
+}
+
+/// Between two prices, in millionths.
+fn distance(one: Price, other: Price) -> u64
+    ensures { result ≡ distance one other }
+{
+    one.get().abs_diff(other.get())
+}
+
+/// The place of a price, in pixels from the top: from 12 at the highest to 192 at the lowest.
+pub(crate) fn down(scale: &Scale, price: Price) -> u128
+    ensures { result ≡ down scale.now price }
+{
+    let below = u128::from(distance(scale.range.high, price));
+    let height = distance(scale.range.high, scale.range.low).max(1);
+    12 + 180 * below / u128::from(height)
+}
+
+/// The moment half way from the first row to the last.
+pub(crate) fn middle(scale: &Scale) -> Moment
+    ensures { result ≡ middle scale.now }
+{
+    scale.first.plus(length_of(scale) / 2)
+}
