@@ -1,8 +1,8 @@
 -- Rows added one after another, and the section of them.
-use Rattle.std.proofs.Common.{◌≡◌, ℕ, ◌+◌, ◌<◌, ◌≤◌, Bool, true, false, nat_le, List, [], ◌∷◌, ◌++◌, length, take, get_or, All, if◌then◌else◌, refl, sym, ap, ◌∙◌, subst, arith}
+use Rattle.std.proofs.Common.{◌≡◌, ℕ, ◌+◌, ◌<◌, Bool, true, false, List, [], ◌∷◌, ◌++◌, length, take, get_or, All, if◌then◌else◌, refl, sym, ap, ◌∙◌, subst, arith}
 use Rattle.std.proofs.lemmas.List.{take_more}
 use Rattle.page_text.specs.Laws.{PartsFollowParts}
-use Rattle.page_text.specs.Parts.{Part, page_of, with_part, with_parts}
+use Rattle.page_text.specs.Parts.{Part, with_part, with_parts}
 use Rattle.participants.specs.ParticipantFile.{ParticipantFile}
 use Rattle.venue_core.specs.Replay.{AreEmitted, Emits, IsItem}
 use Rattle.venue_rules.specs.declared.trail.TrailRow.{TrailRow}
@@ -10,7 +10,7 @@ use Rattle.venue_rules.specs.Run.{Input}
 use Rattle.day_sections.specs.Values.{are_shown}
 use Rattle.day_tables.specs.Parts.{plain_part}
 use Rattle.day_page.specs.declared.template.TheConstants.{COLUMNS, ROWS_END}
-use Rattle.day_page.specs.Rows.{AddsRow, AddsRows, AddsSection, count_part, each_row, fold_part, listed, row_part, rows_parts}
+use Rattle.day_page.specs.Rows.{AddsRow, AddsRows, AddsSection, count_part, each_row, fold_part, listed, row_part}
 
 pub follow : PartsFollowParts
 follow page [] qs = refl

@@ -14,21 +14,20 @@ ghost use Rattle.surveillance.specs.Pairs.{linked_in};
 ghost use Rattle.surveillance.specs.Thresholds.{usual};
 ghost use Rattle.day_sections.specs.Alarms.{alarms_parts};
 ghost use Rattle.day_sections.specs.Linked.{linked_trades_parts};
-ghost use Rattle.day_sections.specs.Reports.{reports};
-ghost use Rattle.day_sections.specs.Trades.{trades_parts};
 ghost use Rattle.day_sections.specs.Values.{are_shown};
 ghost use Rattle.day_page.specs.Printed.{EmitsPage, IsDay, IsPage};
-ghost use Rattle.day_page.specs.Sections.{tables_parts, answered_parts, watched_parts};
+ghost use Rattle.day_page.specs.Sections.{answered_parts, charts_parts, counts_parts, reported_parts, tables_parts, watched_parts};
 
 use crate::head::add_head;
 use crate::rows::add_rows;
 use crate::template::END;
-use day_events::{Event, day_of};
+use day_events::{Event, PricedDay, priced_day_of};
 use day_sections::{
     Reported, add_alarms, add_figures, add_linked, add_people, add_refusals, add_requests,
     add_trades, are_shown, reports_of,
 };
 use day_tables::add_bulletin;
+use instrument_charts::{Charted, add_instruments, deals_of, first_moment, last_moment, rests_of};
 use instruments::Instruments;
 use page_text::Page;
 use participants::Participants;
@@ -51,42 +50,79 @@ fn write_text<W: Write>(text: &[u8], writer: &mut W) -> Result<(), PrintFault>
     }
 }
 
+/// Adds the instruments: of each the trades and the best prices over time, and the book at the end.
+fn add_charts(
+    alloc: Global,
+    page: &mut Page,
+    day: &PricedDay,
+    rows: &[TrailRow],
+    reports: &[Event],
+) -> Result<(), AllocError>
+    ensures { (h : History) → IsHistory day.now.venue h → OnOk result (page.new ≡ with_parts page.old (charts_parts day.now.venue.market rows.now h reports.now day.now.bests.items)) }
+{
+    let venue = &day.venue;
+    let deals = deals_of(alloc, venue.trades(), reports)?;
+    let rests = rests_of(alloc, venue)?;
+    let charted = Charted {
+        first: first_moment(rows),
+        last: last_moment(rows),
+        deals: &deals,
+        bests: &day.bests,
+        rests: &rests,
+    };
+    add_instruments(alloc, page, venue.instruments(), &charted)
+}
+
 /// Adds the trades, each with the row at which it was reported.
 fn add_reported(
     alloc: Global,
     page: &mut Page,
-    participants: &Participants,
-    instruments: &Instruments,
+    venue: &Venue,
     rows: &[TrailRow],
-    trades: &[TradeFact],
-    events: &[Event],
+    reports: &[Event],
 ) -> Result<(), AllocError>
-    ensures { OnOk result (page.new ≡ with_parts page.old (trades_parts participants.now instruments.now (are_shown rows.now) (reports events.now) trades.now)) }
+    ensures { (h : History) → IsHistory venue.now h → OnOk result (page.new ≡ with_parts page.old (reported_parts venue.now.market rows.now h reports.now)) }
 {
-    let reports = reports_of(alloc, events)?;
+    let participants = venue.participants();
+    let instruments = venue.instruments();
+    let trades = venue.trades();
     let reported = Reported {
         linked: are_shown(rows),
-        reports: &reports,
+        reports,
     };
     add_trades(alloc, page, participants, instruments, &reported, trades)
 }
 
-/// Adds the day in six figures, the bulletin and the trades.
-fn add_tables(
+/// Adds the day in six figures and the bulletin.
+fn add_counts(
     alloc: Global,
     page: &mut Page,
     venue: &Venue,
     rows: &[TrailRow],
     events: &[Event],
 ) -> Result<(), AllocError>
-    ensures { (h : History) → IsHistory venue.now h → OnOk result (page.new ≡ with_parts page.old (tables_parts venue.now.market rows.now h events.now)) }
+    ensures { (h : History) → IsHistory venue.now h → OnOk result (page.new ≡ with_parts page.old (counts_parts venue.now.market rows.now h events.now)) }
 {
     let participants = venue.participants();
     let instruments = venue.instruments();
     let trades = venue.trades();
     add_figures(alloc, page, participants, rows, trades, events)?;
-    add_bulletin(alloc, page, instruments, trades)?;
-    add_reported(alloc, page, participants, instruments, rows, trades, events)
+    add_bulletin(alloc, page, instruments, trades)
+}
+
+/// Adds the day in six figures, the bulletin, the instruments and the trades.
+fn add_tables(
+    alloc: Global,
+    page: &mut Page,
+    day: &PricedDay,
+    rows: &[TrailRow],
+) -> Result<(), AllocError>
+    ensures { (h : History) → IsHistory day.now.venue h → OnOk result (page.new ≡ with_parts page.old (tables_parts day.now.venue.market rows.now h day.now.events.items day.now.bests.items)) }
+{
+    let reports = reports_of(alloc, &day.events)?;
+    add_counts(alloc, page, &day.venue, rows, &day.events)?;
+    add_charts(alloc, page, day, rows, &reports)?;
+    add_reported(alloc, page, &day.venue, rows, &reports)
 }
 
 /// Adds the requests for quotes, the refusals and the participants.
@@ -157,23 +193,19 @@ fn add_watched(
     add_raised(alloc, page, participants, instruments, rows, trades, events)
 }
 
-/// The page of a trail, whose rows led to this venue and answered this.
-fn page_made(
-    alloc: Global,
-    venue: &Venue,
-    trail: &Contents,
-    events: &[Event],
-) -> Result<Page, AllocError>
+/// The page of a trail, whose rows led to this day.
+fn page_made(alloc: Global, day: &PricedDay, trail: &Contents) -> Result<Page, AllocError>
     requires kept { All IsItem (trail_of trail.now).rows }
-    ensures { (h : History) → IsHistory venue.now h → IfOk result (λ page. IsPage venue.now.market (trail_of trail.now) h events.now page) }
+    ensures { (h : History) → IsHistory day.now.venue h → IfOk result (λ page. IsPage day.now.venue.market (trail_of trail.now) h day.now.events.items day.now.bests.items page) }
 {
+    let venue = &day.venue;
     let participants = venue.participants();
     let instruments = venue.instruments();
     let mut page = Page::new(alloc);
     add_head(alloc, &mut page, participants, instruments, trail)?;
-    add_tables(alloc, &mut page, venue, trail.rows, events)?;
-    add_answered(alloc, &mut page, venue, trail.rows, events)?;
-    add_watched(alloc, &mut page, venue, trail.rows, events)?;
+    add_tables(alloc, &mut page, day, trail.rows)?;
+    add_answered(alloc, &mut page, venue, trail.rows, &day.events)?;
+    add_watched(alloc, &mut page, venue, trail.rows, &day.events)?;
     add_rows(alloc, &mut page, participants, trail.rows)?;
     page.add(END, &[])?;
     Ok(page)
@@ -191,8 +223,8 @@ fn page_of_day(
     ensures { IfOk result (λ page. IsDay (record { participants = participants; instruments = instruments }) (trail_of trail.now) page) }
 {
     rows_have_their_inputs();
-    let day = day_of(alloc, participants, instruments, trail.rows)?;
-    page_made(alloc, &day.venue, trail, &day.events)
+    let day = priced_day_of(alloc, participants, instruments, trail.rows)?;
+    page_made(alloc, &day, trail)
 }
 
 /// Writes the page of the day in a trail, on a venue of these participants and instruments: one file of HTML, which

@@ -85,6 +85,21 @@ tr:target>*,.rfq:has(>:target)>summary{background:var(--tint)}
 details>summary{cursor:pointer;list-style-position:outside}
 details.fold>summary{font-size:13px;padding:5px 0;color:var(--soft)}
 details.fold>summary b{color:var(--ink)}
+/* charts */
+svg text{font:11px var(--sans);fill:var(--soft);font-variant-numeric:tabular-nums lining-nums}
+.inst{break-inside:avoid}
+.plot{display:grid;grid-template-columns:84px minmax(0,1fr);padding-top:6px}
+.plot svg.x,.plot svg.y{display:block;width:100%;overflow:visible}
+.gl{stroke:var(--hair);stroke-width:1;shape-rendering:crispEdges}
+.ax{stroke:var(--ink);stroke-width:1;shape-rendering:crispEdges}
+.bid,.off,.range{fill:none;stroke:var(--ink);stroke-width:1.2;vector-effect:non-scaling-stroke}
+.bid,.off{stroke-linecap:square}
+.off{stroke-dasharray:2 3}
+.range{stroke:var(--bar);stroke-width:2}
+.dot{fill:var(--ink);stroke:var(--paper);stroke-width:1}
+.dia{fill:var(--accent);stroke:var(--paper);stroke-width:1}
+a:hover .dot,a:hover .dia{stroke:var(--accent);stroke-width:3}
+.lad{width:auto;min-width:400px;margin:4px 0 12px}
 /* requests */
 .rfq{border-top:1px solid var(--rule);padding:7px 0 3px;break-inside:avoid}
 .rfq[open]{padding-bottom:16px}
@@ -107,6 +122,7 @@ footer{padding-top:24px;padding-bottom:40px;color:var(--soft);font-size:12px}
 footer p{border-top:1px solid var(--rule);padding-top:8px;max-width:none}
 /* narrow */
 @media screen and (max-width:760px){
+.range{stroke-width:1}
 main,header,footer,nav{padding-left:15px;padding-right:15px}
 header{padding-top:14px}
 h1{font-size:27px}
@@ -139,6 +155,8 @@ h1{font-size:27px}
 .rfq>summary>b{padding-left:10px}
 .asked{grid-template-columns:1fr}
 .asked dd{margin-bottom:4px}
+.plot{grid-template-columns:64px minmax(0,1fr)}
+.lad{width:100%;min-width:0}
 .ref tr{grid-template-columns:34px minmax(0,1fr)}
 .ref tr>:nth-child(1){grid-area:1/2}
 .ref tr>:nth-child(2){grid-area:1/1}
@@ -176,6 +194,7 @@ td,tbody th,thead th{padding:1.6pt 6pt 1.6pt 0}
 .asked{grid-template-columns:108pt minmax(0,1fr);margin:4pt 0 5pt}
 .facts .l dt{flex-basis:104pt}
 small,.s,caption,dt,thead th,.six p{font-size:7.4pt}
+svg text{font-size:7pt}
 .asked,.asked dd{font-size:8pt}
 code{font-size:6.8pt}
 section{padding-top:16pt}

@@ -1,8 +1,6 @@
 use Rattle.std.proofs.Common.{◌∷◌, [], ◌∙◌, ap}
 use Rattle.std.proofs.lemmas.Result.{on_ok_weaker}
-use Rattle.std.specs.Prelude.{decimal}
 use Rattle.page_text.specs.Parts.{with_part}
-use Rattle.message_words.specs.Visible.{readable}
 use Rattle.day_tables.specs.Values.{date_of}
 use Rattle.day_page.specs.declared.template.TheConstants.{TOP}
 use Rattle.day_page.proofs.head.add_top.Goals as goal

@@ -5,7 +5,7 @@ use Rattle.day_sections.specs.Trades.{trades_parts}
 use Rattle.day_page.proofs.printing.add_reported.Goals as goal
 
 pub returns : goal.returns
-returns c =
+returns c = λ h is.
     on_ok_weaker c.add_trades.result
-    (λ e. e ∙ (λ j. with_parts c.args.page.now (trades_parts c.args.participants.now c.args.instruments.now (c.are_shown.ensures j) ((c.deref.ensures.value ∙ c.in_ok-reports.ensures) j) c.args.trades.now)))
+    (λ e. e ∙ (λ j. with_parts c.args.page.now (trades_parts (c.participants-participants.ensures j) (c.instruments-instruments.ensures j) (c.are_shown.ensures j) c.args.reports.now (c.trades-trades.ensures h is j))))
     c.add_trades.ensures

@@ -1,17 +1,29 @@
-use Rattle.std.proofs.lemmas.Result.{err_from_is_err_and, on_ok_weaker}
-use Rattle.day_page.proofs.Pages.{tables_are}
+use Rattle.std.proofs.Common.{◌∙◌, ap}
+use Rattle.std.proofs.lemmas.Result.{on_ok_weaker}
+use Rattle.page_text.specs.Parts.{with_parts}
+use Rattle.day_sections.specs.Reports.{reports}
+use Rattle.day_page.specs.Sections.{charts_parts, counts_parts, reported_parts}
+use Rattle.day_page.proofs.Pages.{err_says_nothing, tables_are}
 use Rattle.day_page.proofs.printing.add_tables.Goals as goal
 
-pub returns-in_err-add_figures : goal.returns-in_err-add_figures
-returns-in_err-add_figures c = λ h is. let p = err_from_is_err_and c.from_residual.result c.from_residual.ensures.1 in rw (p.1) tt
+pub returns-in_err-reports : goal.returns-in_err-reports
+returns-in_err-reports c = λ h is. err_says_nothing _ c.from_residual.result _ c.from_residual.ensures.1
 
-pub returns-in_err-add_bulletin : goal.returns-in_err-add_bulletin
-returns-in_err-add_bulletin c = λ h is. let p = err_from_is_err_and c.from_residual-in_err-add_bulletin.result c.from_residual-in_err-add_bulletin.ensures.1 in rw (p.1) tt
+pub returns-in_err-add_counts : goal.returns-in_err-add_counts
+returns-in_err-add_counts c = λ h is. err_says_nothing _ c.from_residual-in_err-add_counts.result _ c.from_residual-in_err-add_counts.ensures.1
+
+pub returns-in_err-add_charts : goal.returns-in_err-add_charts
+returns-in_err-add_charts c = λ h is. err_says_nothing _ c.from_residual-in_err-add_charts.result _ c.from_residual-in_err-add_charts.ensures.1
 
 pub returns : goal.returns
 returns c = λ h is.
+    let day = c.args.day.now in
+    let m = day.venue.market in
+    let rs = c.args.rows.now in
     on_ok_weaker c.add_reported.result
-    (tables_are c.args.venue.now.market c.args.rows.now h c.args.events.now c.participants-participants.result.now c.instruments-instruments.result.now c.trades-trades.result.now
-    c.args.page.now c.add_figures.new.page c.add_bulletin.new.page c.add_reported.new.page
-    c.participants-participants.ensures c.instruments-instruments.ensures (c.trades-trades.ensures h is) c.in_ok-add_figures.ensures c.in_ok-add_bulletin.ensures)
-    c.add_reported.ensures
+    (λ e. tables_are m rs h day.events.items c.in_ok-reports.reports.items day.bests.items c.args.page.now c.add_counts.new.page c.add_charts.new.page c.add_reported.new.page
+    (c.in_ok-reports.ensures ∙ ap reports c.deref.ensures.value)
+    (c.in_ok-add_counts.ensures h is ∙ (λ j. with_parts c.args.page.now (counts_parts m rs h (c.deref-2.ensures.value j))))
+    (c.in_ok-add_charts.ensures h is ∙ (λ j. with_parts c.add_counts.new.page (charts_parts m rs h (c.deref-3.ensures.value j) day.bests.items)))
+    (e ∙ (λ j. with_parts c.add_charts.new.page (reported_parts m rs h (c.deref-4.ensures.value j)))))
+    (c.add_reported.ensures h is)

@@ -1,9 +1,9 @@
-use Rattle.std.proofs.lemmas.Result.{err_from_is_err_and, on_ok_weaker}
-use Rattle.day_page.proofs.Pages.{watched_are}
+use Rattle.std.proofs.lemmas.Result.{on_ok_weaker}
+use Rattle.day_page.proofs.Pages.{err_says_nothing, watched_are}
 use Rattle.day_page.proofs.printing.add_watched.Goals as goal
 
 pub returns-in_err-add_pairs : goal.returns-in_err-add_pairs
-returns-in_err-add_pairs c = λ h is. let p = err_from_is_err_and c.from_residual.result c.from_residual.ensures.1 in rw (p.1) tt
+returns-in_err-add_pairs c = λ h is. err_says_nothing _ c.from_residual.result _ c.from_residual.ensures.1
 
 pub returns : goal.returns
 returns c = λ h is.

@@ -1,7 +1,7 @@
 use Rattle.std.proofs.Common.{subst, sym}
 use Rattle.std.proofs.lemmas.List.Elements.{All-get_or}
 use Rattle.venue_core.specs.Replay.{IsItem}
-use Rattle.day_page.proofs.RowByRow.{added_more, added_none}
+use Rattle.day_page.proofs.RowByRow.{added_more}
 use Rattle.day_page.proofs.rows.add_each.Goals as goal
 
 pub add_row-requires : goal.add_row-requires

@@ -1,6 +1,5 @@
 use Rattle.std.proofs.Common.{◌∷◌, [], ◌∙◌}
 use Rattle.std.proofs.lemmas.Result.{on_ok_weaker}
-use Rattle.std.specs.Prelude.{decimal}
 use Rattle.page_text.specs.Parts.{with_part}
 use Rattle.day_page.specs.declared.template.TheConstants.{TICK}
 use Rattle.day_page.proofs.rows.add_tick.Goals as goal
