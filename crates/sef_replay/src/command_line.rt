@@ -63,19 +63,25 @@ pub enum Task {
 enum Mode {
     Day,
     Migrate,
+    Ask(Asked),
+    Against,
+    With,
+    Without,
+    Watch,
+    Compare,
+}
+
+/// A question in words, which needs no second file.
+#[derive(Clone, Copy, PartialEq, Eq)]
+enum Asked {
     Trade,
     Why,
     Answers,
     Book,
     Rests,
-    Against,
     Desk,
-    With,
-    Without,
     Digest,
     Page,
-    Watch,
-    Compare,
 }
 
 /// A word that narrows what is printed, or gives it a form.
@@ -116,36 +122,44 @@ fn mode_word(mode: Mode) -> &'static str {
     match mode {
         Mode::Day => "TRAIL",
         Mode::Migrate => "--migrate",
-        Mode::Trade => "--trade",
-        Mode::Why => "--why",
-        Mode::Answers => "--answers",
-        Mode::Book => "--book",
-        Mode::Rests => "--rests",
+        Mode::Ask(asked) => asked_word(asked),
         Mode::Against => "--against",
-        Mode::Desk => "--desk",
         Mode::With => "--with",
         Mode::Without => "--without",
-        Mode::Digest => "--digest",
-        Mode::Page => "--page",
         Mode::Watch => "--watch",
         Mode::Compare => "--compare",
+    }
+}
+
+fn asked_word(asked: Asked) -> &'static str {
+    match asked {
+        Asked::Trade => "--trade",
+        Asked::Why => "--why",
+        Asked::Answers => "--answers",
+        Asked::Book => "--book",
+        Asked::Rests => "--rests",
+        Asked::Desk => "--desk",
+        Asked::Digest => "--digest",
+        Asked::Page => "--page",
     }
 }
 
 /// Whether a word goes with what is printed.
 fn goes_with(word: Word, mode: Mode) -> bool {
     match word {
-        Word::To => matches!(mode, Mode::Answers | Mode::Rests),
-        Word::From | Word::Order | Word::Room | Word::Json => mode == Mode::Answers,
+        Word::To => matches!(mode, Mode::Ask(Asked::Answers | Asked::Rests)),
+        Word::From | Word::Order | Word::Room | Word::Json => mode == Mode::Ask(Asked::Answers),
         Word::Row => matches!(
             mode,
-            Mode::Answers | Mode::Book | Mode::Rests | Mode::Digest
+            Mode::Ask(Asked::Answers | Asked::Book | Asked::Rests | Asked::Digest)
         ),
         Word::Csv => matches!(
             mode,
-            Mode::Day | Mode::Answers | Mode::Book | Mode::Rests | Mode::Desk | Mode::Watch
+            Mode::Day
+                | Mode::Watch
+                | Mode::Ask(Asked::Answers | Asked::Book | Asked::Rests | Asked::Desk)
         ),
-        Word::Desk => matches!(mode, Mode::Against | Mode::Desk),
+        Word::Desk => matches!(mode, Mode::Against | Mode::Ask(Asked::Desk)),
         Word::Thresholds => mode == Mode::Watch,
         Word::Other => mode == Mode::Compare,
     }
@@ -509,18 +523,26 @@ fn and_mode(so_far: Result<Mode, Misfit>, is_given: bool, mode: Mode) -> Result<
 /// What is printed.
 fn mode_given(given: &ArgMatches<'_>) -> Result<Mode, Misfit> {
     let mode = and_mode(Ok(Mode::Day), given.get_flag("migrate"), Mode::Migrate);
-    let mode = and_mode(mode, given.get_str("trade").is_some(), Mode::Trade);
-    let mode = and_mode(mode, given.get_str("why").is_some(), Mode::Why);
-    let mode = and_mode(mode, given.get_flag("answers"), Mode::Answers);
-    let mode = and_mode(mode, given.get_str("book").is_some(), Mode::Book);
-    let mode = and_mode(mode, given.get_flag("rests"), Mode::Rests);
+    let mode = and_mode(
+        mode,
+        given.get_str("trade").is_some(),
+        Mode::Ask(Asked::Trade),
+    );
+    let mode = and_mode(mode, given.get_str("why").is_some(), Mode::Ask(Asked::Why));
+    let mode = and_mode(mode, given.get_flag("answers"), Mode::Ask(Asked::Answers));
+    let mode = and_mode(
+        mode,
+        given.get_str("book").is_some(),
+        Mode::Ask(Asked::Book),
+    );
+    let mode = and_mode(mode, given.get_flag("rests"), Mode::Ask(Asked::Rests));
     let mode = and_mode(mode, given.get_str("against").is_some(), Mode::Against);
     let is_desk = given.get_str("desk").is_some() && given.get_str("against").is_none();
-    let mode = and_mode(mode, is_desk, Mode::Desk);
+    let mode = and_mode(mode, is_desk, Mode::Ask(Asked::Desk));
     let mode = and_mode(mode, given.get_str("with").is_some(), Mode::With);
     let mode = and_mode(mode, given.get_str("without").is_some(), Mode::Without);
-    let mode = and_mode(mode, given.get_flag("digest"), Mode::Digest);
-    let mode = and_mode(mode, given.get_flag("page"), Mode::Page);
+    let mode = and_mode(mode, given.get_flag("digest"), Mode::Ask(Asked::Digest));
+    let mode = and_mode(mode, given.get_flag("page"), Mode::Ask(Asked::Page));
     let mode = and_mode(mode, given.get_flag("watch"), Mode::Watch);
     and_mode(mode, given.get_flag("compare"), Mode::Compare)
 }
@@ -571,21 +593,15 @@ fn task_at(
     match mode {
         Mode::Day => Ok(day_of(given, path)),
         Mode::Migrate => Ok(Task::Migrate { path }),
+        Mode::Ask(asked) => Ok(Task::Ask {
+            path,
+            words: words_of(alloc, given, asked)?,
+        }),
         Mode::Against => {
             let log = required_word(alloc, given, "against")?;
             let desk = required_word(alloc, given, "desk")?;
             Ok(Task::Against { path, desk, log })
         }
-        Mode::Desk => {
-            let desk = required_word(alloc, given, "desk")?;
-            let words = AskedWords::Activity(desk, activity_form_of(given));
-            Ok(Task::Ask { path, words })
-        }
-        Mode::Watch => Ok(Task::Watch {
-            path,
-            thresholds: word_given(alloc, given, "thresholds")?,
-            form: watch_form_of(given),
-        }),
         Mode::With => Ok(Task::With {
             path,
             file: required_word(alloc, given, "with")?,
@@ -594,39 +610,38 @@ fn task_at(
             path,
             name: required_word(alloc, given, "without")?,
         }),
+        Mode::Watch => Ok(Task::Watch {
+            path,
+            thresholds: word_given(alloc, given, "thresholds")?,
+            form: watch_form_of(given),
+        }),
         Mode::Compare => Ok(Task::Compare {
             path,
             other: required_word(alloc, given, "other")?,
         }),
-        Mode::Book => {
-            let words = AskedWords::Book(book_in(alloc, given)?, book_form_of(given));
-            Ok(Task::Ask { path, words })
-        }
-        Mode::Rests => {
-            let words = AskedWords::Rests(rests_in(alloc, given)?, book_form_of(given));
-            Ok(Task::Ask { path, words })
-        }
-        Mode::Digest => {
-            let words = AskedWords::Digest(word_given(alloc, given, "row")?);
-            Ok(Task::Ask { path, words })
-        }
-        Mode::Page => Ok(Task::Ask {
-            path,
-            words: AskedWords::Page,
-        }),
-        Mode::Trade => {
-            let words = evidence_in(alloc, given)?;
-            Ok(Task::Ask { path, words })
-        }
-        Mode::Why => {
-            let words = AskedWords::Why(required_word(alloc, given, "why")?);
-            Ok(Task::Ask { path, words })
-        }
-        Mode::Answers => {
-            let words = AskedWords::Answers(narrowing_in(alloc, given)?, answers_form_of(given));
-            Ok(Task::Ask { path, words })
-        }
     }
+}
+
+/// The words of a question.
+fn words_of(alloc: Global, given: &ArgMatches<'_>, asked: Asked) -> Result<AskedWords, AllocError> {
+    let words = match asked {
+        Asked::Trade => evidence_in(alloc, given)?,
+        Asked::Why => AskedWords::Why(required_word(alloc, given, "why")?),
+        Asked::Answers => {
+            AskedWords::Answers(narrowing_in(alloc, given)?, answers_form_of(given))
+        }
+        Asked::Book => AskedWords::Book(book_in(alloc, given)?, book_form_of(given)),
+        Asked::Rests => AskedWords::Rests(rests_in(alloc, given)?, book_form_of(given)),
+        Asked::Desk => {
+            AskedWords::Activity(
+                required_word(alloc, given, "desk")?,
+                activity_form_of(given),
+            )
+        }
+        Asked::Digest => AskedWords::Digest(word_given(alloc, given, "row")?),
+        Asked::Page => AskedWords::Page,
+    };
+    Ok(words)
 }
 
 /// The value of an argument that is given.

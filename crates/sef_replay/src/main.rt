@@ -17,6 +17,7 @@ mod reading;
 mod refused;
 mod replaying;
 mod report;
+mod runs;
 mod under;
 mod without;
 

@@ -1,26 +1,25 @@
 //! The rows of a trail under another file, from the bytes of both.
 
-ghost use Rattle.std.specs.Prelude.{◌≡◌, ◌≤◌, ℕ, All, List, length, true, IfErr, IfOk, OnOk};
+ghost use Rattle.std.specs.Prelude.{◌≡◌, ◌≤◌, ◌⊎◌, ℕ, All, List, length, true, IfErr, IfOk, OnOk};
+ghost use Rattle.std.specs.Io.KnownBytes.{Keeps};
 ghost use Rattle.trail_comparison.specs.Comparison.{market_of};
 ghost use Rattle.trail_comparison.specs.Rules.{AreOther, IsRefused};
 ghost use Rattle.trail_comparison.specs.Under.{market_of_rules};
+ghost use Rattle.trail_comparison.specs.declared.fault.ComparisonFault.TheVariants.{Memory};
 ghost use Rattle.venue_core.specs.Plan.{most_items};
 ghost use Rattle.venue_core.specs.Replay.{IsItem};
 ghost use Rattle.sef_replay.specs.Compared.{read_side};
 ghost use Rattle.sef_replay.specs.Day.{AreKept};
-ghost use Rattle.sef_replay.specs.Under.{EmitsSideUnder, EmitsUnderFile, FailsSideUnder, FailsUnderFile, file_failure};
-ghost use Rattle.sef_replay.specs.declared.failure.Stop.TheVariants as stop;
+ghost use Rattle.sef_replay.specs.Under.{BeginsSideUnder, EmitsSideUnder, EmitsUnderFile, FailsSideUnder, FailsUnderFile, file_failure};
 
 use crate::comparing::day_of;
 use crate::copied::Copied;
-use crate::failure::{Failure, Stop};
-use crate::market::market_kept;
+use crate::failure::Failure;
 use crate::reading::ReadDay;
-use crate::replaying::KeptDay;
+use crate::runs::{rules_again, rules_and_rows, write_head};
 use std::alloc::Global;
 use std::io::Write;
-use trail_comparison::{ComparisonFault, OtherRules, Rules, RulesFault, other_rules, print_under};
-use trail_digest::{Contents, DigestFault, HeadForm, print_head};
+use trail_comparison::{ComparisonFault, OtherRules, RulesFault, other_rules, print_under};
 
 /// Why the answers to the rows of a trail are not said to be the same under a file.
 #[derive(Drop)]
@@ -35,21 +34,6 @@ pub enum UnderFailure {
     Memory,
     /// A write failed.
     Output,
-}
-
-/// The rules of a day, read again from its files.
-pub(crate) fn rules_again(alloc: Global, day: &ReadDay) -> Result<Rules, Stop>
-    requires kept { AreKept day.now.files day.now.delays.items day.now.day.participants day.now.day.instruments }
-    ensures same { IfOk result (λ own. market_of_rules own ≡ market_of (read_side day.now)) }
-    ensures memory { IfErr result (λ why. why ≡ stop.Memory) }
-{
-    match market_kept(alloc, &day.files, day.delays.as_slice()) {
-        Ok((participants, instruments)) => Ok(Rules {
-            participants,
-            instruments,
-        }),
-        Err(why) => Err(why),
-    }
 }
 
 /// The rules of a file, for the rows of a day.
@@ -84,49 +68,25 @@ fn file_failure(fault: RulesFault) -> UnderFailure
     }
 }
 
-/// Writes the head of a day, and behind it how the answers to its rows differ under other rules.
+/// Writes the head of a day, and behind it how the answers to its rows differ under other rules. Returns whether all of
+/// these are the same.
+#[tactic(auto, using(crate::proofs::UnderFile::side_emitted, crate::proofs::UnderFile::side_begun))]
 fn print_both<W: Write>(
     alloc: Global,
     day: ReadDay,
     other: OtherRules,
     writer: &mut W,
-) -> Result<(), UnderFailure>
+) -> Result<bool, ComparisonFault>
     requires items { All IsItem day.day.rows.items }
     requires few { length day.day.rows.items ≤ most_items }
-    ensures emitted { (text : List ℕ) → AreOther other.parts text (market_of (read_side day)) (market_of_rules other.rules) → OnOk result (EmitsSideUnder true (read_side day) text (W.contents writer.old) (W.contents writer.new)) }
-    ensures failed { (text : List ℕ) → AreOther other.parts text (market_of (read_side day)) (market_of_rules other.rules) → IfErr result (FailsSideUnder (read_side day) text (W.contents writer.old) (W.contents writer.new)) }
+    ensures emitted { (text : List ℕ) → AreOther other.parts text (market_of (read_side day)) (market_of_rules other.rules) → IfOk result (λ same. EmitsSideUnder same (read_side day) text (W.contents writer.old) (W.contents writer.new)) }
+    ensures begun { (text : List ℕ) → AreOther other.parts text (market_of (read_side day)) (market_of_rules other.rules) → IfErr result (λ fault. fault ≡ Memory → Keeps (W.contents writer.old) (W.contents writer.new) ⊎ BeginsSideUnder (read_side day) text (W.contents writer.old) (W.contents writer.new)) }
 {
-    let ReadDay {
-        files,
-        delays,
-        day: KeptDay {
-            participants,
-            instruments,
-            rows,
-        },
-    } = day;
-    let contents = Contents {
-        participants: files.participants.as_slice(),
-        instruments: files.instruments.as_slice(),
-        delays: delays.as_slice(),
-        rows: rows.as_slice(),
-    };
-    let own = Rules {
-        participants,
-        instruments,
-    };
-    match print_head(alloc, HeadForm::Line, &contents, writer) {
-        Ok(()) => {}
-        Err(DigestFault::Memory) => return Err(UnderFailure::Memory),
-        Err(DigestFault::Output) => return Err(UnderFailure::Output),
-        Err(DigestFault::NoRow) => return Err(UnderFailure::Output),
-    }
-    match print_under(alloc, own, other, rows.as_slice(), writer) {
-        Ok(true) => Ok(()),
-        Ok(false) => Err(UnderFailure::Differ),
-        Err(ComparisonFault::Memory) => Err(UnderFailure::Memory),
-        Err(ComparisonFault::Output) => Err(UnderFailure::Output),
-    }
+    write_head(alloc, &day, writer)?;
+    let (own, rows) = rules_and_rows(day);
+    let printed = print_under(alloc, own, other, rows.as_slice(), writer);
+    drop(rows);
+    printed
 }
 
 /// Writes how the answers to the rows of a day differ under a file.
@@ -143,7 +103,12 @@ fn print_day_under<W: Write>(
     ensures failed { IfErr result (FailsSideUnder (read_side day) text.now (W.contents writer.old) (W.contents writer.new)) }
 {
     match rules_in(alloc, &day, text) {
-        Ok(other) => print_both(alloc, day, other, writer),
+        Ok(other) => match print_both(alloc, day, other, writer) {
+            Ok(true) => Ok(()),
+            Ok(false) => Err(UnderFailure::Differ),
+            Err(ComparisonFault::Memory) => Err(UnderFailure::Memory),
+            Err(ComparisonFault::Output) => Err(UnderFailure::Output),
+        },
         Err(fault) => {
             drop(day);
             Err(file_failure(fault))

@@ -1,26 +1,26 @@
 //! The rows of a trail with and without those of a participant, from the bytes of the trail.
 
-ghost use Rattle.std.specs.Prelude.{◌≡◌, ◌≤◌, ℕ, All, List, Some, length, true, IfErr, OnOk};
+ghost use Rattle.std.specs.Prelude.{◌≡◌, ◌≤◌, ◌⊎◌, ℕ, All, List, Some, length, true, IfErr, IfOk, OnOk};
+ghost use Rattle.std.specs.Io.KnownBytes.{Keeps};
 ghost use Rattle.participants.specs.Relations.{find_participant};
 ghost use Rattle.trail_comparison.specs.Comparison.{market_of};
 ghost use Rattle.trail_comparison.specs.Under.{market_of_rules};
+ghost use Rattle.trail_comparison.specs.declared.fault.ComparisonFault.TheVariants.{Memory};
 ghost use Rattle.venue_core.specs.Plan.{most_items};
 ghost use Rattle.venue_core.specs.Replay.{IsItem};
 ghost use Rattle.sef_replay.specs.Compared.{read_side};
 ghost use Rattle.sef_replay.specs.Day.{AreKept};
-ghost use Rattle.sef_replay.specs.Without.{EmitsSideWithout, EmitsWithoutRows, FailsSideWithout, FailsWithoutRows};
+ghost use Rattle.sef_replay.specs.Without.{BeginsSideWithout, EmitsSideWithout, EmitsWithoutRows, FailsSideWithout, FailsWithoutRows};
 
 use crate::comparing::day_of;
 use crate::copied::Copied;
 use crate::failure::Failure;
 use crate::reading::ReadDay;
-use crate::replaying::KeptDay;
-use crate::under::rules_again;
+use crate::runs::{rules_again, rules_and_rows, write_head};
 use participants::Who;
 use std::alloc::Global;
 use std::io::Write;
 use trail_comparison::{BothRules, ComparisonFault, Rules, print_without};
-use trail_digest::{Contents, DigestFault, HeadForm, print_head};
 
 /// Why the answers to the rows of a trail are not said to be the same without those of a participant.
 #[derive(Drop)]
@@ -38,7 +38,7 @@ pub enum WithoutFailure {
 }
 
 /// Writes the head of a day, and behind it how the answers to its rows differ without those of a participant. The rules
-/// of the day were read again for B.
+/// of the day were read again for B. Returns whether all of these are the same.
 #[tactic(auto, using(crate::proofs::WithoutRows::side_emitted, crate::proofs::WithoutRows::side_begun))]
 fn print_both<W: Write>(
     alloc: Global,
@@ -46,45 +46,19 @@ fn print_both<W: Write>(
     again: Rules,
     who: Who,
     writer: &mut W,
-) -> Result<(), WithoutFailure>
+) -> Result<bool, ComparisonFault>
     requires items { All IsItem day.day.rows.items }
     requires few { length day.day.rows.items ≤ most_items }
     requires same { market_of_rules again ≡ market_of (read_side day) }
-    ensures emitted { (name : List ℕ) → find_participant day.day.participants name ≡ Some who → OnOk result (EmitsSideWithout true (read_side day) name (W.contents writer.old) (W.contents writer.new)) }
-    ensures failed { (name : List ℕ) → find_participant day.day.participants name ≡ Some who → IfErr result (FailsSideWithout (read_side day) name (W.contents writer.old) (W.contents writer.new)) }
+    ensures emitted { (name : List ℕ) → find_participant day.day.participants name ≡ Some who → IfOk result (λ same. EmitsSideWithout same (read_side day) name (W.contents writer.old) (W.contents writer.new)) }
+    ensures begun { (name : List ℕ) → find_participant day.day.participants name ≡ Some who → IfErr result (λ fault. fault ≡ Memory → Keeps (W.contents writer.old) (W.contents writer.new) ⊎ BeginsSideWithout (read_side day) name (W.contents writer.old) (W.contents writer.new)) }
 {
-    let ReadDay {
-        files,
-        delays,
-        day: KeptDay {
-            participants,
-            instruments,
-            rows,
-        },
-    } = day;
-    let contents = Contents {
-        participants: files.participants.as_slice(),
-        instruments: files.instruments.as_slice(),
-        delays: delays.as_slice(),
-        rows: rows.as_slice(),
-    };
-    let own = Rules {
-        participants,
-        instruments,
-    };
-    match print_head(alloc, HeadForm::Line, &contents, writer) {
-        Ok(()) => {}
-        Err(DigestFault::Memory) => return Err(WithoutFailure::Memory),
-        Err(DigestFault::Output) => return Err(WithoutFailure::Output),
-        Err(DigestFault::NoRow) => return Err(WithoutFailure::Output),
-    }
+    write_head(alloc, &day, writer)?;
+    let (own, rows) = rules_and_rows(day);
     let rules = BothRules { a: own, b: again };
-    match print_without(alloc, rules, who, rows.as_slice(), writer) {
-        Ok(true) => Ok(()),
-        Ok(false) => Err(WithoutFailure::Differ),
-        Err(ComparisonFault::Memory) => Err(WithoutFailure::Memory),
-        Err(ComparisonFault::Output) => Err(WithoutFailure::Output),
-    }
+    let printed = print_without(alloc, rules, who, rows.as_slice(), writer);
+    drop(rows);
+    printed
 }
 
 /// Writes how the answers to the rows of a day differ without those of the participant with this name.
@@ -105,7 +79,12 @@ fn print_day_without<W: Write>(
         return Err(WithoutFailure::Nobody);
     };
     match rules_again(alloc, &day) {
-        Ok(again) => print_both(alloc, day, again, who, writer),
+        Ok(again) => match print_both(alloc, day, again, who, writer) {
+            Ok(true) => Ok(()),
+            Ok(false) => Err(WithoutFailure::Differ),
+            Err(ComparisonFault::Memory) => Err(WithoutFailure::Memory),
+            Err(ComparisonFault::Output) => Err(WithoutFailure::Output),
+        },
         // The files of a day were read before: memory alone is missing.
         Err(_) => {
             drop(day);

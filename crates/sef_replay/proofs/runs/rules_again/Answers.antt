@@ -1,5 +1,5 @@
 use Rattle.sef_replay.proofs.Stops.{kept_once, kept_stops}
-use Rattle.sef_replay.proofs.under.rules_again.Goals as goal
+use Rattle.sef_replay.proofs.runs.rules_again.Goals as goal
 
 pub returns-in-Ok-clause-same : goal.returns-in-Ok-clause-same
 returns-in-Ok-clause-same c =
