@@ -43,7 +43,7 @@ pub record Agrees (m : Market) (rs : List TrailRow) (who : ℕ) (log : List ℕ)
   pub each : IsOnce (messages_in m.participants.venue (name_of m.participants who) log) once
   pub same : texts_in log once ≡ owed_texts m who items
 
--- no frame of the log goes from the venue to the participant
+-- no numbered frame of the log goes from the venue to the participant
 abbrev pub HasNone : Market → ℕ → List ℕ → Type 0
 HasNone m who log = numbered_in m.participants.venue (name_of m.participants who) log (bodies_in log) ≡ []
 

@@ -188,8 +188,8 @@ fn compare_any<W: Write>(
 
 /// Prints whether a participant's own FIX log has what the rows of a trail owe it, with these participants and
 /// instruments: the application messages of the log from the venue to it, each once by era and number, in order,
-/// compared with what it is owed. `NoLog` where no frame of the log goes from the venue to it. Nothing is written
-/// unless a write fails.
+/// compared with what it is owed. `NoLog` where no numbered frame of the log goes from the venue to it. Nothing is
+/// written unless a write fails.
 pub fn print_comparison<W: Write>(
     alloc: Global,
     participants: Participants,

@@ -39,7 +39,7 @@ counts count found = joined (
     ∷ decimal (count - bytes_found found)
     ∷ codes " of "
     ∷ decimal count
-    ∷ codes "\nanswered by a new venue with an empty book; each session expects the number of its first frame, 2 where that is a repeat of 1 or has none; each moment is the frame's own (52), or the last; one before the last counts as the last\n"
+    ∷ codes "\nanswered by a new venue with an empty book; each session expects the number of its first frame, 2 where that is a repeat of 1 or has none; each moment is the frame's own (52), or the last; one before the last counts as the last; no clock runs, so a held second side that is due enters at the next frame\n"
     ∷ [])
 
 abbrev pub head : ℕ → List Found → List ℕ

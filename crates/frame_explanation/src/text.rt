@@ -38,7 +38,7 @@ fn append_counts(out: &mut Vec<u8>, log: &[u8], found: &[Found]) -> Result<(), A
             Part::Bytes(b" of "),
             Part::Number(log.len() as u64),
             Part::Bytes(
-                b"\nanswered by a new venue with an empty book; each session expects the number of its first frame, 2 where that is a repeat of 1 or has none; each moment is the frame's own (52), or the last; one before the last counts as the last\n",
+                b"\nanswered by a new venue with an empty book; each session expects the number of its first frame, 2 where that is a repeat of 1 or has none; each moment is the frame's own (52), or the last; one before the last counts as the last; no clock runs, so a held second side that is due enters at the next frame\n",
             ),
         ],
     )

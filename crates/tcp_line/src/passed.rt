@@ -1,4 +1,4 @@
-//! What a gate passed, for contracts alone. Not `ghost_history`: with it a proof that a gate may go to its session's
+//! What a gate answered, for contracts alone. Not `ghost_history`: with it a proof that a gate may go to its session's
 //! thread is past the limit of the prover's search.
 
 ghost use Rattle.std.specs.Prelude.{◌≡◌, [], ◌∷◌, ◌++◌};

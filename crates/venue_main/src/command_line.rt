@@ -73,7 +73,7 @@ const EXAMPLE_OF_SERVE: &str = "Example:
 
 Standard error has each participant's name and port, and then a line for each event. A trail that is there is gone on with; without one
 the rows stay in memory. The venue ends once --stop-file exists, standard input ends (--until-eof), or each thread has made its turns: one
-or two for each message, and ten a second while idle.";
+to three for each message, and ten a second while idle.";
 
 /// A required argument with one value.
 fn needed<'a>(alloc: Global, name: &'a str, value: &'a str, help: &'a str) -> Arg<'a> {
