@@ -1,6 +1,7 @@
 """days.py FOLDER: puts trails into FOLDER: sample, quotes and busy, as tests/cli/check_activity makes them; hostile, a
-day whose participants, instrument and identifiers are spelled like tags of HTML; and long_400 and long_20000,
-invented days of 400 and 20,000 rows. Prints how many requests each of these has."""
+day whose participants, instrument and identifiers are spelled like tags of HTML; charted, a day of thirteen
+instruments, of which one has 401 trades and another ten prices a side; and long_400 and long_20000, invented days of
+400 and 20,000 rows. Prints how many requests each of these has."""
 import importlib.machinery
 import importlib.util
 import os
@@ -26,6 +27,7 @@ ROWS = (
 
 
 LONG = (400, 20000)
+SOH = b"\1"
 
 
 def quoted(text):
@@ -95,18 +97,40 @@ class Invented:
             self.send(who, f"35=AJ|693=h{len(self.rows)}|117=Q{self.quotes - self.random.randrange(len(makers))}|694=1|54=1|")
 
 
-def invented(path, tables, many, names, instruments):
-    day = Invented(many, names, instruments)
+def charted_rows():
+    """A sale and a purchase at one price for each of 401 trades in an instrument, in bursts. Between them, in the next
+    one, offers and bids at eleven prices each, of which one is replaced, one cancelled and three bought at once; and an
+    offer in a third one."""
+    texts = []
+    for k in range(401):
+        price = 2500000 + 2500 * (k // 40 % 7 - k % 3)
+        texts += [(who, f"35=D|11=t{k}|55=I1|54={side}|38=5|40=2|44={price / 1000000:.4f}|") for who, side in ((1, 2), (2, 1))]
+    others = []
+    for k in range(22):
+        price = 2500000 + 2500 * (-k // 2 if k % 2 else 1 + k // 2)
+        others.append((1 + k % 3, f"35=D|11=l{k}|55=I2|54={1 + (k + 1) % 2}|38={20 + k}|40=2|44={price / 1000000:.4f}|"))
+    others += [(1, "35=G|11=g|41=l0|38=15|40=2|44=2.5075|"), (2, "35=F|11=f|41=l1|")]
+    others += [(4, "35=D|11=i|55=I2|54=1|38=500|40=2|44=2.51|59=3|"), (5, "35=D|11=a|55=I3|54=2|38=7|40=2|44=-1|")]
+    for place, text in enumerate(others):
+        texts.insert(31 * place, text)
+    numbers, moment, rows = {}, START, []
+    for n, (who, text) in enumerate(texts, 1):
+        moment += 40000 if n % 50 == 0 else 7
+        numbers[who] = numbers.get(who, 1) + 1
+        rows.append((n, who, numbers[who], moment, text.replace("|", "\1").encode()))
+    return rows
+
+
+def invented(path, tables, rows, names, instruments):
     db = sqlite3.connect(path)
     db.executescript(tables)
     participants = 'venue = "SEF"\n' + "".join(f"[[participant]]\nname = {quoted(name)}\n" for name in names)
     listed = "".join(f"[[instrument]]\nsymbol = {quoted(it)}\ntick = 2500\nleast = 5\nrfq_life = 20\n" for it in instruments)
     db.execute("INSERT INTO head VALUES (1, 3, ?, ?)", (participants.encode(), listed.encode()))
     db.executemany("INSERT INTO delay VALUES (?, 15000)", ((x,) for x in range(1, len(instruments) + 1)))
-    db.executemany("INSERT INTO item VALUES (?, ?, ?, ?, ?)", day.rows)
+    db.executemany("INSERT INTO item VALUES (?, ?, ?, ?, ?)", rows)
     db.commit()
     db.close()
-    return sum(b"35=R\1" in row[4] for row in day.rows)
 
 
 def main(folder):
@@ -117,9 +141,12 @@ def main(folder):
     with open(os.path.join(os.path.dirname(check_activity.DAYS["sample"]), "day.sql"), encoding="utf-8") as file:
         tables = "".join(line for line in file if line.startswith("CREATE TABLE"))
     hostile(os.path.join(folder, "hostile"), tables)
+    names, instruments = check_activity.PARTICIPANTS, list(check_activity.INSTRUMENTS)
+    invented(os.path.join(folder, "charted"), tables, charted_rows(), names, [f"I{k}" for k in range(1, 14)])
     for many in LONG:
-        made = invented(os.path.join(folder, f"long_{many}"), tables, many, check_activity.PARTICIPANTS, list(check_activity.INSTRUMENTS))
-        print(f"long_{many}: {made} requests")
+        rows = Invented(many, names, instruments).rows
+        invented(os.path.join(folder, f"long_{many}"), tables, rows, names, instruments)
+        print(f"long_{many}: {sum(b'35=R' in row[4].split(SOH) for row in rows)} requests")
 
 
 if __name__ == "__main__":

@@ -1,30 +1,35 @@
-"""expected.py TRAIL ANSWERS: prints the page of a day, made of the templates of crates/day_tables and crates/day_page
-by this program alone: of a trail's file, and of what `sef_replay TRAIL --answers` printed of it. Alarms are found as
-tests/cli/check_watch finds them."""
+"""expected.py TRAIL ANSWERS: prints the page of a day, made of the templates of crates/day_tables, day_sections,
+instrument_charts and day_page by this program alone: of a trail's file, and of what `sef_replay TRAIL --answers`
+printed of it. Alarms are found as tests/cli/check_watch finds them; best prices and the book at the end by book.py."""
 import importlib.machinery
 import importlib.util
+import itertools
 import os
 import re
 import sys
 import tomllib
+from datetime import datetime, timedelta
 
 sys.dont_write_bytecode = True
 ROOT = os.path.join(os.path.dirname(os.path.abspath(__file__)), "..", "..")
 sys.path.insert(0, os.path.join(ROOT, "tests", "cli"))
 import check_digest
+from book import Book, millionths, price_text
 
 loader = importlib.machinery.SourceFileLoader("check_watch", os.path.join(ROOT, "tests", "cli", "check_watch"))
 check_watch = importlib.util.module_from_spec(importlib.util.spec_from_loader(loader.name, loader))
 loader.exec_module(check_watch)
 
 SOURCES = (
-    "day_tables/src/template.rt", "day_sections/src/template.rt", "day_page/src/template.rt", "day_page/src/style.rt",
+    "day_tables/src/template.rt", "day_sections/src/template.rt", "instrument_charts/src/template.rt",
+    "day_page/src/template.rt", "day_page/src/style.rt",
 )
 CONSTANT = re.compile(r'const (\w+): &\[u8\] =\s*b"((?:[^"\\]|\\.)*)";', re.S)
 CAME = re.compile(r"row (\d+) at (\S+) from (\S+), sequence number (\d+) in era (\d+): (.*)")
 CLOCK = re.compile(r"row (\d+) at (\S+): the clock")
 REPLY = re.compile(r"row (\d+) to (\S+): (.*)")
 MOST_ROWS, MOST_OPEN, MOST_ROOMS, MOST_NAMED, MOST_ALARMS, MOST_TRADES = 5000, 120, 300, 24, 300, 10000
+MOST_CHARTS, MOST_GLYPHS, MOST_LEVELS, PARTS = 12, 400, 8, 200
 
 
 def templates():
@@ -97,7 +102,7 @@ class Trade:
     def __init__(self, row, one, other):
         self.row, self.number = row, int(value(one[1], "880")[1:])
         self.symbol, self.price = value(one[1], "55"), value(one[1], "31")
-        self.quantity = int(value(one[1], "32"))
+        self.quantity, self.millionths = int(value(one[1], "32")), millionths(self.price)
         place = value(one[1], "37")
         self.room = place[1:] if place.startswith("R") else None
         who = {value(message, "54"): name for name, message in (one, other)}
@@ -168,6 +173,105 @@ def bulletin(page, symbols, trades):
                  *(f"{sum(t.quantity for t in part):,}" for part in (of, book, asked)),
                  *(f"{len(part):,}" for part in (of, book, asked)))
     page.add("BULLETIN_END")
+
+
+class Chart:
+    """The trades and best prices of an instrument over the day; the places on it are whole numbers, cut off."""
+
+    def __init__(self, page, rows, trades, tops):
+        self.page, self.trades, self.tops = page, trades, tops
+        self.first, self.last = (check_watch.milliseconds(rows[k].utc) for k in (0, -1))
+        prices = [t.millionths for t in trades] + [p for _, *top in tops for p in top if p is not None]
+        self.low, self.high = min(prices), max(prices)
+
+    def across(self, utc):
+        """In ten thousandths of the width, of which 100 are left free on each side."""
+        since = min(max(check_watch.milliseconds(utc), self.first), self.last) - self.first
+        return 100 + 9800 * since // max(self.last - self.first, 1)
+
+    def down(self, price):
+        """In pixels from the top: 12 at the highest price, 192 at the lowest."""
+        return 12 + 180 * (self.high - price) // max(self.high - self.low, 1)
+
+    def frame(self, symbol, first, last):
+        middle = datetime(1970, 1, 1) + timedelta(milliseconds=(self.first + self.last) // 2)
+        top, bottom = self.down(self.high), self.down(self.low)
+        self.page.add("CHART", top, price_text(self.high), bottom, price_text(self.low), symbol, f"{len(self.trades):,}",
+                      top, top, bottom, bottom, first[9:], f"{middle:%H:%M:%S.%f}"[:-3], last[9:])
+
+    def line(self, side, end):
+        """A line for each run of changes that have a price; it ends at the change that has none, or at the last row. Of
+        changes within a 2,000th of the width the last one stands."""
+        changes = [(self.across(row.utc), top[side]) for row, *top in self.tops]
+        last_of = {x // 5: (x, price) for x, price in changes}
+        of = [*last_of.values(), (self.across(end), None)]
+        for (_, before), (x, price), (next_x, after) in zip([(0, None)] + of, of, of[1:] + of[-1:]):
+            if price is not None:
+                self.page.add("MOVE" if before is None else "STEP", x, self.down(price))
+                if after is None:
+                    self.page.add("STOP", next_x)
+
+    def lines(self, end):
+        self.page.add("LINES")
+        self.line(0, end)
+        self.page.add("OFFERS")
+        self.line(1, end)
+        self.page.add("LINES_END")
+
+    def glyphs(self):
+        for t in self.trades:
+            x = f"{self.across(t.row.utc):04}"
+            shape = ("b", "dot") if t.room is None else ("r", "dia")
+            self.page.add("GLYPH" if t.number <= MOST_TRADES else "GLYPH_ALONE", t.number, *shape, int(x[:-2]), x[-2], x[-1],
+                          self.down(t.millionths), t.number, t.row.utc[9:], f"{t.quantity:,}", t.price)
+
+    def ranges(self):
+        parts = {}
+        for t in self.trades:
+            since = check_watch.milliseconds(t.row.utc) - self.first
+            parts.setdefault(PARTS * since // (self.last - self.first + 1), []).append(self.down(t.millionths))
+        self.page.add("RANGES")
+        for part, at in sorted(parts.items()):
+            self.page.add("RANGE", 124 + 49 * part, min(at), max(at))
+        self.page.add("RANGES_END")
+
+
+def ladder(page, book, symbol):
+    page.add("LADDER")
+    for side, word in (("1", "bid"), ("2", "offer")):
+        levels = [list(of) for _, of in itertools.groupby(book.resting(symbol, side), lambda order: order.price)]
+        for level in levels[:MOST_LEVELS]:
+            page.add("LEVEL", word, price_text(level[0].price), f"{sum(order.left for order in level):,}", f"{len(level):,}",
+                     level[0].number)
+        if not levels:
+            page.add("NO_SIDE", word + "s")
+        elif len(levels) > MOST_LEVELS:
+            page.add("MORE", word + "s", f"{len(levels) - MOST_LEVELS:,}")
+    page.add("LADDER_END")
+
+
+def charts(page, symbols, rows, trades):
+    book, changes = Book(), {symbol: [] for symbol in symbols}
+    for row in rows:
+        for symbol, bid, offer in book.take(row):
+            changes[symbol].append((row, bid, offer))
+    page.add("INSTRUMENTS", f"{len(symbols):,}")
+    for symbol in symbols:
+        of = [t for t in trades if t.symbol == symbol]
+        if not of and not changes[symbol]:
+            continue
+        chart = Chart(page, rows, of, changes[symbol])
+        page.add("OPEN" if len(symbols) <= MOST_CHARTS else "FOLDED", symbol, f"{len(of):,}")
+        chart.frame(symbol, rows[0].utc, rows[-1].utc)
+        if len(of) > MOST_GLYPHS:
+            chart.ranges()
+        else:
+            chart.lines(rows[-1].utc)
+            chart.glyphs()
+        page.add("CHART_END")
+        ladder(page, book, symbol)
+        page.add("INSTRUMENT_END")
+    page.add("INSTRUMENTS_END")
 
 
 def row_number(page, rows, row):
@@ -354,10 +458,10 @@ def prices(message):
 
 
 def linked(page, rows, day):
-    entered, orders = {}, {}
-    for (n, _, sender, message), _, reply in day.replies:
+    entered, orders, links_of = {}, {}, check_watch.links(day)
+    for (n, _, sender, _), _, reply in day.replies:
         if reply["35"] == "8" and reply["150"] in "05":
-            entered[reply["37"]] = (int(n), sender is None, message.get("583") if message.get("35") == "D" else None)
+            entered[reply["37"]] = (int(n), sender is None, links_of.get(reply["37"]))
         if reply["35"] == "8" and reply["150"] == "F" and reply["37"].startswith("O"):
             orders.setdefault(reply["880"], []).append(entered[reply["37"]])
     found = []
@@ -443,6 +547,7 @@ def main(trail, answers):
     head(page, venue, len(names), symbols, rows, stored)
     figures(page, len(names), rows, trades)
     bulletin(page, symbols, trades)
+    charts(page, symbols, rows, trades)
     trade_list(page, symbols, rows, trades)
     requests(page, rows, trades)
     refusals(page, rows)
