@@ -1,13 +1,12 @@
 -- Parts for each of some things, and things that are picked, one by one.
-use Rattle.std.specs.Prelude.{◌≡◌, ℕ, suc, ◌+◌, ◌-◌, ◌<◌, ◌≤◌, ℤ, Bool, true, false, Option, None, Some, is_some, List, [], ◌∷◌, ◌++◌, length, filter, drop, map, take, refl}
-use Rattle.std.specs.List.{cons_option, filter_map, flat_map, sum_by}
+use Rattle.std.specs.Prelude.{◌≡◌, ℕ, suc, ◌+◌, ◌-◌, ◌<◌, ◌≤◌, ℤ, Bool, true, false, Option, None, Some, is_some, List, [], ◌∷◌, ◌++◌, length, filter, drop, map, refl}
+use Rattle.std.specs.List.{cons_option, filter_map}
 use Rattle.std.proofs.Common.{sym, ◌∙◌, ap, arith, append_assoc, append-nil, get_or}
-use Rattle.std.proofs.lemmas.List.{at_drop_more, at_drop_all, take_all}
-use Rattle.std.proofs.lemmas.List.Sums.{sum_by-cons}
+use Rattle.std.proofs.lemmas.List.{at_drop_more, at_drop_all}
 use Rattle.venue_rules.specs.declared.facts.Fact.{Fact}
-use Rattle.page_text.specs.Laws.{PartsFollowParts}
 use Rattle.page_text.specs.Parts.{Part, with_part, with_parts}
-use Rattle.day_tables.specs.Parts.{each_from, framed}
+pub use Rattle.day_tables.proofs.Walks.{sums_on, sums_out}
+pub use Rattle.day_sections.proofs.Walks.{follow, in_frame, in_turn, goes_on, goes_out, counts_on, counts_out, all_taken}
 use Rattle.instrument_charts.specs.declared.ladder.Rest.{Rest}
 use Rattle.instrument_charts.specs.declared.lines.Point.{Point}
 use Rattle.instrument_charts.specs.declared.scale.Scale.{Scale}
@@ -16,56 +15,9 @@ use Rattle.instrument_charts.specs.Lines.{line_parts, spaced, stands_before, tur
 use Rattle.instrument_charts.specs.Rests.{book_of, rests_from}
 use Rattle.instrument_charts.specs.Values.{kept_if}
 
--- Parts behind parts.
-
-pub follow : PartsFollowParts
-follow page [] qs = refl
-follow page (p ∷ ps) qs = follow (with_part page p) ps qs
-
--- parts between a head and an end
-pub in_frame : (page one more last : List ℕ) (head : Part) (ps : List Part) (end : Part)
-    → one ≡ with_part page head → more ≡ with_parts one ps → last ≡ with_part more end → last ≡ with_parts page (framed head ps end)
-in_frame page one more last head ps end h k l =
-    l ∙ (ap (λ (x : List ℕ). with_part x end) (k ∙ ap (λ (x : List ℕ). with_parts x ps) h) ∙ sym (follow (with_part page head) ps (end ∷ [])))
-
--- some parts, and then others
-pub in_turn : (page one last : List ℕ) (ps qs : List Part) → one ≡ with_parts page ps → last ≡ with_parts one qs → last ≡ with_parts page (ps ++ qs)
-in_turn page one last ps qs h k = k ∙ (ap (λ (x : List ℕ). with_parts x qs) h ∙ sym (follow page ps qs))
-
 -- a part, and then others
 pub in_front : (page one last : List ℕ) (p : Part) (qs : List Part) → one ≡ with_part page p → last ≡ with_parts one qs → last ≡ with_parts page (p ∷ qs)
 in_front page one last p qs h k = k ∙ ap (λ (x : List ℕ). with_parts x qs) h
-
--- a loop over things, each with its parts
-
-pub goes_on : {X : Type 0} (f : X → List Part) (xs : List X) (i : ℕ) (x : X) (page more whole : List ℕ) → i < length xs → x ≡ get_or xs i x → more ≡ with_parts page (f x)
-    → with_parts page (flat_map f (drop i xs)) ≡ whole → with_parts more (flat_map f (drop (i + 1) xs)) ≡ whole
-goes_on {X} f xs i x page more whole below is e h =
-    let F : List X → List ℕ = λ ys. with_parts page (flat_map f ys) in
-    ap (λ (p : List ℕ). with_parts p (flat_map f (drop (i + 1) xs))) e
-    ∙ (sym (follow page (f x) (flat_map f (drop (i + 1) xs)))
-    ∙ (ap (λ (y : X). F (y ∷ drop (i + 1) xs)) is
-    ∙ (sym (at_drop_more F xs i x below) ∙ h)))
-
-pub goes_out : {X : Type 0} (f : X → List Part) (xs : List X) (i : ℕ) (page whole : List ℕ) → length xs ≤ i → with_parts page (flat_map f (drop i xs)) ≡ whole → page ≡ whole
-goes_out {X} f xs i page whole past h =
-    let F : List X → List ℕ = λ ys. with_parts page (flat_map f ys) in
-    sym (at_drop_all F xs i past) ∙ h
-
--- a loop over numbers
-
-pub counts_on : (f : ℕ → List Part) (k n : ℕ) (page more whole : List ℕ) → k < n → more ≡ with_parts page (f k)
-    → with_parts page (each_from f k (n - k)) ≡ whole → with_parts more (each_from f (k + 1) (n - (k + 1))) ≡ whole
-counts_on f k n page more whole below e h =
-    let longer : n - k ≡ suc (n - (k + 1)) = omega arith in
-    ap (λ (p : List ℕ). with_parts p (each_from f (k + 1) (n - (k + 1)))) e
-    ∙ (sym (follow page (f k) (each_from f (k + 1) (n - (k + 1))))
-    ∙ (ap (λ (j : ℕ). with_parts page (each_from f k j)) (sym longer) ∙ h))
-
-pub counts_out : (f : ℕ → List Part) (k n : ℕ) (page whole : List ℕ) → n ≤ k → with_parts page (each_from f k (n - k)) ≡ whole → page ≡ whole
-counts_out f k n page whole past h =
-    let none : n - k ≡ 0 = omega arith in
-    ap (λ (j : ℕ). with_parts page (each_from f k j)) (sym none) ∙ h
 
 -- a loop over the best prices of a side
 
@@ -199,24 +151,3 @@ pub books_out : (facts : List Fact) (k n : ℕ) (made whole : List Rest) → n �
 books_out facts k n made whole past h =
     let none : n - k ≡ 0 = omega arith in
     sym (append-nil made) ∙ (ap (λ (j : ℕ). made ++ rests_from facts k j) (sym none) ∙ h)
-
--- a loop that sums
-
-pub sums_on : {X : Type 0} (f : X → ℕ) (xs : List X) (i : ℕ) (x : X) (total more whole : ℕ) → i < length xs → x ≡ get_or xs i x → more ≡ total + f x
-    → total + sum_by f (drop i xs) ≡ whole → more + sum_by f (drop (i + 1) xs) ≡ whole
-sums_on {X} f xs i x total more whole below is e h =
-    let F : List X → ℕ = λ ys. total + sum_by f ys in
-    let here : total + sum_by f (x ∷ drop (i + 1) xs) ≡ whole = ap (λ (y : X). F (y ∷ drop (i + 1) xs)) is ∙ (sym (at_drop_more F xs i x below) ∙ h) in
-    let parts : sum_by f (x ∷ drop (i + 1) xs) ≡ f x + sum_by f (drop (i + 1) xs) = sum_by-cons f x (drop (i + 1) xs) in
-    omega (arith, here, parts, e)
-
-pub sums_out : {X : Type 0} (f : X → ℕ) (xs : List X) (i : ℕ) (total whole : ℕ) → length xs ≤ i → total + sum_by f (drop i xs) ≡ whole → total ≡ whole
-sums_out {X} f xs i total whole past h =
-    let F : List X → ℕ = λ ys. total + sum_by f ys in
-    let end : total + 0 ≡ whole = sym (at_drop_all F xs i past) ∙ h in
-    omega (arith, end)
-
--- as many as there are, at most
-
-pub all_taken : {X : Type 0} (n : ℕ) (xs : List X) → length xs ≤ n → xs ≡ take n xs
-all_taken n xs few = sym (take_all n xs few)
