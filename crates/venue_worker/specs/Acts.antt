@@ -1,5 +1,5 @@
 -- The acts of a run, turn by turn: each call of a turn, and the effect of a refusal.
-use Rattle.std.specs.Prelude.{◌≡◌, ◌≢◌, ◌⊎◌, ℕ, zero, suc, ◌<◌, ◌%◌, ⊤, Bool, true, false, List, [], ◌∷◌, ◌++◌, length, replicate, max, slice_get, Some, Ok, Err}
+use Rattle.std.specs.Prelude.{◌≡◌, ◌≢◌, ◌⊎◌, ℕ, zero, suc, ◌≤◌, ◌<◌, ◌%◌, ⊤, Bool, true, false, List, [], ◌∷◌, ◌++◌, length, replicate, max, slice_get, Some, Ok, Err}
 use Rattle.std.specs.declared.result.Result.{Result}
 use Rattle.intake_seats.specs.Given.{TakeEnd}
 use Rattle.venue_rules.specs.declared.trail.EventFault.{EventFault}
@@ -138,6 +138,12 @@ abbrev pub IsLast : Result Unit EventFault → ℕ → List ℕ → Work → Wor
 IsLast (Ok u) turns moments old new = (length moments ≡ turns) ⊎ HasFoundNothing old new
 IsLast (Err f) turns moments old new = ⊤
 
+-- a run's turns: at most those that were given, and none only where none was given, without a fault
+pub record AreWithin (turns : ℕ) (result : Result Unit EventFault) (moments : List ℕ) : Type 0 where
+  pub most : length moments ≤ turns
+  pub none : moments ≡ [] → (turns ≡ 0) × (result ≡ Ok tt)
+
 -- one turn at each moment that the clock answered
 abbrev pub HasActedAt : ℕ → Result Unit EventFault → List ℕ → List ℕ → List (TakeEnd Unit) → List (TakeEnd Unit) → Work → Work → Type 0
-HasActedAt turns result answered answered' ends ends' old new = (moments : List ℕ) × (answered' ≡ answered ++ moments) × AreTurns result (IsLast result turns moments) moments ends ends' old new
+HasActedAt turns result answered answered' ends ends' old new =
+    (moments : List ℕ) × (answered' ≡ answered ++ moments) × AreWithin turns result moments × AreTurns result (IsLast result turns moments) moments ends ends' old new
