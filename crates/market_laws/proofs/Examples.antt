@@ -1,4 +1,4 @@
-use Rattle.std.proofs.Common.{◌≡◌, refl, sym, ap, ◌∙◌, inl, inr, ◌+◌, true, List, [], ◌∷◌, Some, None, codes, arith}
+use Rattle.std.proofs.Common.{◌≡◌, refl, sym, ap, ◌∙◌, inl, inr, ◌+◌, true, List, [], ◌∷◌, ◌++◌, Some, None, codes, arith}
 use Rattle.std.specs.Fmt.{digits}
 use Rattle.std.proofs.lemmas.Bool.{true≢false}
 use Rattle.fix_dictionary.specs.declared.values.Side.TheVariants.{Buy, Sell}
@@ -13,11 +13,14 @@ use Rattle.venue_rules.specs.declared.facts.RoomQuote.{RoomQuote}
 use Rattle.venue_rules.specs.declared.trail.Taken.{Taken}
 use Rattle.venue_rules.specs.Book.{Resting, against, is_linked, picture}
 use Rattle.venue_rules.specs.Orders.{order_asked}
+use Rattle.venue_rules.specs.MoreInputs.{answer_after}
 use Rattle.venue_rules.specs.Run.{Input, run}
-use Rattle.venue_rules.proofs.ExampleInputs.{alpha, beta, delta, gamma, epsilon, order, request, sends, start, swap, two_and_a_half, venue}
+use Rattle.venue_rules.proofs.ExampleInputs.{alpha, basis, beta, cancel, delta, gamma, epsilon, order, replace, request, sends, start, swap, two_and_a_half, venue}
 use Rattle.venue_rules.proofs.Members.{In, In-from_Contains}
 use Rattle.market_laws.specs.Hitting.{AsksToTrade}
+use Rattle.market_laws.specs.OneBook.{reported_symbol}
 use Rattle.market_laws.specs.Quoting.{IsValidQuote}
+use Rattle.market_laws.specs.TradeReports.{trade_reports}
 
 -- Cases that meet the premises of the laws, by computation.
 
@@ -94,3 +97,24 @@ order_asks = record {
   no_place = inl refl;
   waited = λ r c h. absurd (unlinked r (In-from_Contains (against facts_then (order_asked venue alpha order_message)) r c) h);
 }
+
+-- an order in the other instrument is reported under its symbol; so the offer that was shown stays
+abbrev pub elsewhere : Input
+elsewhere = sends alpha 4 (order (codes "a1") basis Sell 1 two_and_a_half) (start + 20002)
+
+pub reported_elsewhere : reported_symbol (answer_after venue day elsewhere).replies ≡ Some basis
+reported_elsewhere = refl
+
+pub offer_stays : picture (run venue (day ++ elsewhere ∷ [])).history.facts 0 ≡ record { side = Sell; price = two_and_a_half; left = 70; order = 2 } ∷ []
+offer_stays = refl
+
+-- a replacement and a cancel are reported under the symbol of their order
+pub replacement_reported : reported_symbol (answer_after venue day (sends delta 3 (replace (codes "d2") (codes "d1") 50 two_and_a_half) (start + 20002))).replies ≡ Some swap
+replacement_reported = refl
+
+pub cancel_reported : reported_symbol (answer_after venue day (sends delta 3 (cancel (codes "d2") (codes "d1")) (start + 20002))).replies ≡ Some swap
+cancel_reported = refl
+
+-- the trade of the day, reported to the buyer that entered, and then to the seller
+pub trade_is_reported_twice : trade_reports (run venue day).replies ≡ record { to = gamma; trade = 1 } ∷ record { to = beta; trade = 1 } ∷ []
+trade_is_reported_twice = refl

@@ -24,3 +24,8 @@ mod Renamed
 mod Examples
 -- a renaming: two participants in each other's places
 mod SwapExample
+-- facts that leave the resting orders of an instrument as they are, and the answers of which they are
+mod OneBook
+mod OneBookEach
+-- the reports of the trades of each answer, and of a run
+mod TradeReports

@@ -10,3 +10,7 @@ pub mod Access
 pub mod Hitting
 -- the same participants under other places and other names
 pub mod Renaming
+-- the book that an input changes
+pub mod OneBook
+-- the reports of trades, in their order
+pub mod TradeReports

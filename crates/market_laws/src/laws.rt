@@ -7,7 +7,9 @@ ghost use Rattle.market_laws.specs.Access.{EverybodySeesTheBook};
 ghost use Rattle.market_laws.specs.Asking.{OnlyRecipientsAreAsked, RequestsGoToThree};
 ghost use Rattle.market_laws.specs.BookTrades.{BookTradesAreBetweenOwners};
 ghost use Rattle.market_laws.specs.Hitting.{RestingOrdersTrade, ShownOrdersTrade};
+ghost use Rattle.market_laws.specs.OneBook.{OneBookChanges};
 ghost use Rattle.market_laws.specs.Renaming.{NobodyIsPreferred};
+ghost use Rattle.market_laws.specs.TradeReports.{TradesAreReportedInPairs};
 ghost use Rattle.market_laws.specs.Quoting.{QuotesAreSentOn, RecipientsAreEqual, ValidQuotesAreTaken};
 
 /// Each request for quotes that the venue records, traded or not, went in one answer to each of its recipients and to
@@ -53,4 +55,16 @@ pub fn everybody_may_trade()
 /// the same answers, to the renamed ones (17 CFR 37.3(a)(3), 37.202(a)).
 pub fn nobody_is_preferred()
     ensures { NobodyIsPreferred }
+{}
+
+/// An input changes the resting orders of one instrument alone: of the one that the order report has with which its
+/// answer begins. An answer that begins with no such report changes none.
+pub fn every_input_changes_one_book()
+    ensures { (m : Market) (is : List Input) → OneBookChanges m is }
+{}
+
+/// Each trade is reported twice, once to each party. The two reports follow each other, and come in the order of the
+/// trades, under their numbers: 1, 1, 2, 2 and so on (FIX 5.0 SP2, ExecutionReport).
+pub fn every_trade_is_reported_twice()
+    ensures { (m : Market) (is : List Input) → TradesAreReportedInPairs m is }
 {}

@@ -5,6 +5,7 @@
 mod laws;
 
 pub use laws::{
-    every_book_trade_is_between_its_owners, every_recipient_may_answer,
-    every_request_goes_to_three, everybody_may_trade, everybody_sees_the_book, nobody_is_preferred,
+    every_book_trade_is_between_its_owners, every_input_changes_one_book,
+    every_recipient_may_answer, every_request_goes_to_three, every_trade_is_reported_twice,
+    everybody_may_trade, everybody_sees_the_book, nobody_is_preferred,
 };
