@@ -1,14 +1,17 @@
 -- The best prices of a day, row by row.
-use Rattle.std.specs.Prelude.{◌≡◌, ℕ, zero, suc, ℤ, Bool, false, ◌&&◌, List, [], ◌∷◌, ◌++◌, length, slice_get, Option, None, Some, option_map, is_none, if◌then◌else◌}
+use Rattle.std.specs.Prelude.{◌≡◌, ◌≢◌, ℕ, zero, suc, ◌<◌, ℤ, Bool, false, ◌&&◌, List, [], ◌∷◌, ◌++◌, length, slice_get, position, bytes_eq, Option, None, Some, option_map, is_none, if◌then◌else◌}
 use Rattle.std.specs.Ordering.{int_eq}
 use Rattle.fix_dictionary.specs.declared.values.Side.{Side}
 use Rattle.fix_dictionary.specs.declared.values.Side.TheVariants.{Buy, Sell}
+use Rattle.instruments.specs.declared.instruments.Instrument.{Instrument}
 use Rattle.venue_rules.specs.declared.facts.Fact.{Fact}
+use Rattle.venue_rules.specs.declared.replies.Reply.{Reply}
 use Rattle.venue_rules.specs.declared.trail.TrailRow.{TrailRow}
 use Rattle.venue_rules.specs.Book.{Resting, resting}
 use Rattle.venue_rules.specs.Facts.{History, no_history}
 use Rattle.venue_rules.specs.Market.{Market}
 use Rattle.venue_rules.specs.Run.{Input, after, answer_input}
+use Rattle.market_laws.specs.OneBook.{reported_symbol}
 use Rattle.day_events.specs.declared.best.Best.{Best}
 use Rattle.day_events.specs.declared.best.Top.{Top}
 
@@ -49,6 +52,19 @@ tops facts (suc n) = tops facts n ++ top_of facts n ∷ []
 -- where the best prices before a row were kept, those after it are, and its changes were added
 abbrev pub AddsChanges : TrailRow → List Fact → List Fact → ℕ → List Top → List Top → List Best → List Best → Type 0
 AddsChanges r before now n ts ts' bs bs' = ts ≡ tops before n → (ts' ≡ tops now n) × (bs' ≡ bs ++ changes r before now n)
+
+-- the first instrument with a symbol, by its place
+abbrev pub place_in : List Instrument → Option (List ℕ) → Option ℕ
+place_in file None = None
+place_in file (Some symbol) = position (λ x. bytes_eq symbol x.symbol) file
+
+-- the instrument of the order report with which an answer begins, if it begins with one
+abbrev pub reported_in : List Instrument → List Reply → Option ℕ
+reported_in file replies = place_in file (reported_symbol replies)
+
+-- the best prices of all others are as they were
+abbrev pub OthersStay : Option ℕ → ℕ → List Fact → List Fact → Type 0
+OthersStay reported n before now = (x : ℕ) → x < n → reported ≢ Some x → top_of now x ≡ top_of before x
 
 -- the changes at rows, by the rows from a history on
 abbrev pub bests_from : Market → History → List TrailRow → List Input → List Best

@@ -1,5 +1,5 @@
 -- What the answer to a row says, read off its replies.
-use Rattle.std.specs.Prelude.{ℕ, ◌+◌, ◌==◌, Bool, true, false, List, [], ◌∷◌, ◌++◌, map, Option, None, Some, is_some, if◌then◌else◌}
+use Rattle.std.specs.Prelude.{ℕ, ◌+◌, ◌==◌, Bool, true, false, List, [], ◌∷◌, ◌++◌, Option, None, Some, is_some, if◌then◌else◌}
 use Rattle.std.specs.List.{flat_map}
 use Rattle.fix_dictionary.specs.declared.messages.App.{App}
 use Rattle.fix_dictionary.specs.declared.messages.App.TheVariants.{QuoteRequest, Quote, QuoteResponse, NewOrderSingle, ExecutionReport, OrderCancelReject, QuoteRequestReject, QuoteStatusReport, MarketDataRequestReject, BusinessMessageReject}
@@ -12,7 +12,6 @@ use Rattle.venue_rules.specs.declared.replies.QuoteState.TheVariants as state
 use Rattle.venue_rules.specs.declared.replies.Reply.{Reply}
 use Rattle.venue_rules.specs.declared.replies.ReplyBody.{ReplyBody}
 use Rattle.venue_rules.specs.declared.replies.ReplyBody.TheVariants as reply
-use Rattle.venue_rules.specs.declared.replies.SnapshotEntry.{SnapshotEntry}
 use Rattle.venue_rules.specs.declared.trail.Taken.{Taken}
 use Rattle.venue_rules.specs.declared.trail.TrailRow.{TrailRow}
 use Rattle.venue_rules.specs.Messages.{message}
@@ -42,9 +41,6 @@ origin_of r (Some taken) = record { row = r.n; moment = r.moment; from = r.who; 
 abbrev pub event : Origin → ℕ → What → Event
 event o to w = record { at = o; to = to; what = w }
 
-abbrev pub shown_price : Origin → ℕ → SnapshotEntry → Event
-shown_price o to e = event o to (what.Shown (record { side = e.side; price = e.price; left = e.left; order = e.order }))
-
 -- that a quote ended, by the state that is reported
 abbrev pub ended : Origin → ℕ → Option (List ℕ) → QuoteState → List Event
 ended o to quote state.Withdrawn = event o to (what.Withdrawn quote) ∷ []
@@ -71,7 +67,6 @@ reported_what o to (reply.RequestSent r) = event o to (what.Asked (record { room
 reported_what o to (reply.QuoteStatus r) = ended_for_other (to + 1 == o.from) o to r.quote_id r.state
 reported_what o to (reply.QuoteSent r) = event o to (what.Quoted (record { quote = r.quote; bid = r.bid; offer = r.offer; end = r.end })) ∷ []
 reported_what o to (reply.RoomTraded r) = event o to (what.Traded (record { room = r.room; trade = r.trade; side = r.side; price = r.price; response = r.response_id })) ∷ []
-reported_what o to (reply.BookSnapshot r) = map (shown_price o to) r.entries
 reported_what o to _ = []
 
 abbrev pub reported : Origin → Reply → List Event

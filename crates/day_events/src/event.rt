@@ -65,15 +65,6 @@ pub struct NewRequest {
     pub quantity: Quantity,
 }
 
-/// A resting order, as shown.
-#[derive(Clone, Copy)]
-pub struct ShownPrice {
-    pub side: Side,
-    pub price: Price,
-    pub left: Amount,
-    pub order: u64,
-}
-
 /// A quote, as sent to the requester.
 #[derive(Clone, Copy)]
 pub struct NewQuote {
@@ -104,7 +95,6 @@ pub enum What {
     Cancelled(Option<u64>),
     Replaced(Replacement),
     Asked(NewRequest),
-    Shown(ShownPrice),
     Quoted(NewQuote),
     /// the quote, as the venue names it (117)
     Withdrawn(Option<Identifier>),

@@ -1,13 +1,13 @@
 //! What the replies to a row say.
 
-ghost use Rattle.std.specs.Prelude.{◌≡◌, ◌++◌, ◌∷◌, [], map, OnOk};
+ghost use Rattle.std.specs.Prelude.{◌≡◌, ◌++◌, ◌∷◌, [], OnOk};
 ghost use Rattle.std.specs.List.{flat_map};
 ghost use Rattle.venue_rules.specs.declared.replies.ReplyBody.TheVariants as body;
-ghost use Rattle.day_events.specs.Events.{event, events_at, named_in, origin_of, own_in, shown_price, reported, reported_what, too_recent};
+ghost use Rattle.day_events.specs.Events.{event, events_at, named_in, origin_of, own_in, reported, reported_what, too_recent};
 
 use crate::event::{
     Event, FilledOrder, NewOrder, NewQuote, NewRequest, Origin, RecentOrder, Replacement,
-    RoomTrade, ShownPrice, What,
+    RoomTrade, What,
 };
 use crate::refusing::push_refusal;
 use fix_dictionary::{Amount, App, Identifier, Price, Quantity, Side};
@@ -16,7 +16,7 @@ use sef_moment::Moment;
 use std::alloc::{AllocError, Global};
 use venue_rules::{
     ChangedReport, FilledReport, OrderRefusal, OrderRefused, OrderReport, QuoteSent, QuoteState,
-    QuoteStatus, Reply, ReplyBody, RequestSent, RoomReport, SnapshotEntry, Taken, TrailRow,
+    QuoteStatus, Reply, ReplyBody, RequestSent, RoomReport, Taken, TrailRow,
 };
 
 /// Appends what a reply says.
@@ -34,7 +34,6 @@ pub(crate) fn push_event(
     let _filled: Option<FilledOrder> = None;
     let _replaced: Option<Replacement> = None;
     let _asked: Option<NewRequest> = None;
-    let _shown: Option<ShownPrice> = None;
     let _quoted: Option<NewQuote> = None;
     let _traded: Option<RoomTrade> = None;
     let _side: Option<Side> = None;
@@ -257,27 +256,6 @@ fn push_ended(
     }
 }
 
-/// Appends the resting orders that a snapshot shows.
-fn push_shown(
-    events: &mut Vec<Event>,
-    origin: &Origin,
-    to: Who,
-    entries: &[SnapshotEntry],
-) -> Result<(), AllocError>
-    ensures { OnOk result (events.new.items ≡ events.old.items ++ map (shown_price origin.now to) entries.now) }
-{
-    for entry in entries {
-        let shown = ShownPrice {
-            side: entry.side,
-            price: entry.price,
-            left: entry.left,
-            order: entry.order,
-        };
-        push_event(events, origin, to, What::Shown(shown))?;
-    }
-    Ok(())
-}
-
 /// Appends what a reply says.
 #[tactic(auto, unfolding(crate::specs::Events::reported_what))]
 fn push_reported(events: &mut Vec<Event>, origin: &Origin, reply: &Reply) -> Result<(), AllocError>
@@ -293,9 +271,6 @@ fn push_reported(events: &mut Vec<Event>, origin: &Origin, reply: &Reply) -> Res
         ReplyBody::QuoteStatus(status) => push_ended(events, origin, reply.to, status),
         ReplyBody::QuoteSent(sent) => push_quoted(events, origin, reply.to, sent),
         ReplyBody::RoomTraded(report) => push_traded(events, origin, reply.to, report),
-        ReplyBody::BookSnapshot(shown) => {
-            push_shown(events, origin, reply.to, shown.entries.as_slice())
-        }
         _ => Ok(()),
     }
 }
