@@ -1,2 +1,4 @@
 pub mod Stating
 pub mod Places
+pub mod Showing
+pub mod Numbering

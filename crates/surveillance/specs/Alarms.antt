@@ -16,21 +16,21 @@ use Rattle.day_events.specs.declared.event.Event.{Event}
 use Rattle.day_events.specs.declared.event.RoomTrade.{RoomTrade}
 use Rattle.day_events.specs.declared.event.What.{What}
 use Rattle.day_events.specs.declared.event.What.TheVariants as what
+use Rattle.day_events.specs.declared.shown.ShownPrice.{ShownPrice}
 use Rattle.surveillance.specs.declared.alarm.Alarm.{Alarm}
-use Rattle.surveillance.specs.declared.alarm.Figure.{Figure}
 use Rattle.surveillance.specs.declared.alarm.Figure.TheVariants as figure
 use Rattle.surveillance.specs.declared.alarm.Kind.{Kind}
 use Rattle.surveillance.specs.declared.alarm.Kind.TheVariants as kind
-use Rattle.surveillance.specs.declared.alarm.Place.{Place}
 use Rattle.surveillance.specs.declared.deeds.Act.TheVariants as act
 use Rattle.surveillance.specs.declared.deeds.Deed.{Deed}
 use Rattle.surveillance.specs.declared.alarm.Others.TheVariants.{None as Nobody, One, Three}
-use Rattle.surveillance.specs.declared.index.Best.{Best}
+use Rattle.surveillance.specs.declared.shown.Best.{Best}
 use Rattle.surveillance.specs.declared.index.Entry.{Entry}
 use Rattle.surveillance.specs.declared.thresholds.Thresholds.{Thresholds}
 use Rattle.surveillance.specs.Again.{again_alarms}
 use Rattle.surveillance.specs.Deeds.{asked_by, asked_times, book_trades, deeds, orders_times, places_from, recipients, times}
-use Rattle.surveillance.specs.Index.{BestPrices, Entries, Orders, Places, best_in, entries, entry_at, orders, orders_at, place, place_at, reports, shown}
+use Rattle.surveillance.specs.Index.{Entries, Orders, Places, entries, entry_at, orders, orders_at, place, place_at, reports}
+use Rattle.surveillance.specs.ShownBest.{best_in}
 
 -- what trades are looked up in
 pub record Looked : Type 0 where
@@ -147,21 +147,21 @@ worse_by e t None = []
 worse_by e t (Some price) = record { kind = kind.WorseThanShown; at = Some (place e); who = e.to; others = Nobody; trade = Some t.trade; order = None; found = Some (figure.Price t.price); base = None; bound = Some (figure.Price price) } ∷ []
 
 -- the requester is answered with the identifier of its response (693)
-abbrev pub worse_alarms : BestPrices → Event → RoomTrade → Option (List ℕ) → List Alarm
-worse_alarms prices e t None = []
-worse_alarms prices e t (Some response) = worse_by e t (better t.side t.price (best_in prices t.room))
+abbrev pub worse_alarms : (ℕ → Best) → Event → RoomTrade → Option (List ℕ) → List Alarm
+worse_alarms best_of e t None = []
+worse_alarms best_of e t (Some response) = worse_by e t (better t.side t.price (best_of t.room))
 
--- what an event raises
-abbrev pub event_alarms_by : Thresholds → Entries → BestPrices → Event → What → List Alarm
-event_alarms_by bounds entries prices e (what.Cancelled order) = cancel_alarms bounds.cancelled_within_ms entries e order
-event_alarms_by bounds entries prices e (what.Traded t) = worse_alarms prices e t t.response
-event_alarms_by bounds entries prices e _ = []
+-- what an event raises, by what each room was shown
+abbrev pub event_alarms_by : Thresholds → Entries → (ℕ → Best) → Event → What → List Alarm
+event_alarms_by bounds entries best_of e (what.Cancelled order) = cancel_alarms bounds.cancelled_within_ms entries e order
+event_alarms_by bounds entries best_of e (what.Traded t) = worse_alarms best_of e t t.response
+event_alarms_by bounds entries best_of e _ = []
 
-abbrev pub event_alarms : Thresholds → Entries → BestPrices → Event → List Alarm
-event_alarms bounds entries prices e = event_alarms_by bounds entries prices e e.what
+abbrev pub event_alarms : Thresholds → Entries → (ℕ → Best) → Event → List Alarm
+event_alarms bounds entries best_of e = event_alarms_by bounds entries best_of e e.what
 
-abbrev pub events_alarms : Thresholds → Entries → BestPrices → List Event → List Alarm
-events_alarms bounds entries prices es = flat_map (event_alarms bounds entries prices) es
+abbrev pub events_alarms : Thresholds → Entries → (ℕ → Best) → List Event → List Alarm
+events_alarms bounds entries best_of es = flat_map (event_alarms bounds entries best_of) es
 
 -- A ratio of a participant past its bound.
 
@@ -221,12 +221,12 @@ abbrev pub looked : List Event → Looked
 looked es = record { reports = reports es; entries = entries es; orders = orders es }
 
 -- all of a day
-abbrev pub alarms_of : Thresholds → Market → List TradeFact → List Event → List Alarm
-alarms_of b m ts es =
+abbrev pub alarms_of : Thresholds → Market → List TradeFact → List Event → List ShownPrice → List Alarm
+alarms_of b m ts es ps =
     trades_alarms b.linked_within_ms m (looked es) ts
-    ++ (events_alarms b (entries es) (shown es) es
+    ++ (events_alarms b (entries es) (best_in es ps) es
     ++ (again_alarms es
     ++ people_alarms b m.participants ts (deeds es) (places_from 0 (length m.participants.names))))
 
-abbrev pub alarms : Thresholds → Market → History → List Event → List Alarm
-alarms b m h es = alarms_of b m (trade_facts h.facts) es
+abbrev pub alarms : Thresholds → Market → History → List Event → List ShownPrice → List Alarm
+alarms b m h es ps = alarms_of b m (trade_facts h.facts) es ps

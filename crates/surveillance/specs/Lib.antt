@@ -2,8 +2,13 @@
 pub mod Thresholds
 -- identifiers of participants
 pub mod Names
--- where orders entered and trades were reported, and the best prices that each request was shown
+-- what is kept by number
+pub mod Numbers
+-- where orders entered and trades were reported
 pub mod Index
+-- the best prices that each request was shown
+pub mod ShownBest
+pub mod Kept
 -- what is counted of each participant
 pub mod Deeds
 -- the next order after one that was refused as too recent

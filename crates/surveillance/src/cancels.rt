@@ -2,12 +2,13 @@
 
 ghost use Rattle.std.specs.Prelude.{◌≡◌, ◌++◌, OnOk};
 ghost use Rattle.surveillance.specs.Alarms.{cancel_alarms, soon_after, soon_alarm, soon_by};
+ghost use Rattle.surveillance.specs.Numbers.{held};
 
 use crate::alarm::{Alarm, Figure, Kind, Others, push_alarm};
 use crate::index::{Entry, entry_at, place};
+use crate::numbered::Numbered;
 use day_events::Event;
 use std::alloc::AllocError;
-use std::collections::BTreeMap;
 
 fn soon_alarm(bound: u64, event: &Event, order: u64, ms: u64) -> Alarm
     ensures { result ≡ soon_alarm bound event.now order ms }
@@ -63,11 +64,11 @@ fn push_soon_by(
 pub(crate) fn push_cancel(
     alarms: &mut Vec<Alarm>,
     bound: u64,
-    entries: &BTreeMap<u64, Entry>,
+    entries: &Numbered<Entry>,
     event: &Event,
     order: Option<u64>,
 ) -> Result<(), AllocError>
-    ensures { OnOk result (alarms.new.items ≡ alarms.old.items ++ cancel_alarms bound entries.now.entries event.now order) }
+    ensures { OnOk result (alarms.new.items ≡ alarms.old.items ++ cancel_alarms bound (held entries.now) event.now order) }
 {
     match order {
         None => Ok(()),

@@ -148,7 +148,7 @@ fn push_deeds_by(
 }
 
 /// What each participant did on a day.
-pub(crate) fn deeds_of(alloc: Global, events: &[Event]) -> Result<Vec<Deed>, AllocError>
+pub fn deeds_of(alloc: Global, events: &[Event]) -> Result<Vec<Deed>, AllocError>
     ensures { IfOk result (λ made. made.items ≡ deeds events.now) }
 {
     let mut deeds = Vec::new(alloc);
@@ -182,7 +182,7 @@ fn is_deed(act: Act, who: Who, deed: &Deed) -> bool
 }
 
 /// How often a participant did this.
-pub(crate) fn times(act: Act, who: Who, deeds: &[Deed]) -> u64
+pub fn times(act: Act, who: Who, deeds: &[Deed]) -> u64
     ensures { result ≡ times act who deeds.now }
 {
     deeds.iter().filter(|deed| is_deed(act, who, deed)).count() as u64
@@ -196,7 +196,7 @@ fn is_order(who: Who, deed: &Deed) -> bool
 }
 
 /// How many orders and replacements a participant sent.
-pub(crate) fn orders_times(who: Who, deeds: &[Deed]) -> u64
+pub fn orders_times(who: Who, deeds: &[Deed]) -> u64
     ensures { result ≡ orders_times who deeds.now }
 {
     deeds.iter().filter(|deed| is_order(who, deed)).count() as u64
@@ -210,7 +210,7 @@ fn is_book_trade(who: Who, trade: &TradeFact) -> bool
 }
 
 /// How often it traded in the book.
-pub(crate) fn book_trades(who: Who, trades: &[TradeFact]) -> u64
+pub fn book_trades(who: Who, trades: &[TradeFact]) -> u64
     ensures { result ≡ book_trades who trades.now }
 {
     trades

@@ -1,19 +1,19 @@
-//! What is looked up of a day's events: where orders entered and trades were reported, the orders of each trade, and
-//! the best prices that each request was shown.
+//! What is looked up of a day's events: where orders entered and trades were reported, and the orders of each trade.
 
 ghost use Rattle.std.specs.Prelude.{◌≡◌, IfOk, OnOk};
-ghost use Rattle.surveillance.specs.Index.{best_at, best_in, entered_at, entered_id, entered_order, entries, entry_at, higher, link_at, link_of, lower, no_orders, nothing_shown, orders, orders_at, place, place_at, put_entry, put_link, put_link_of, put_order, put_place, put_price, put_shown, reported_trade, reports, shown, with_order, with_price};
+ghost use Rattle.surveillance.specs.Index.{entered_at, entered_id, entered_order, entries, entry_at, link_at, link_of, no_orders, orders, orders_at, place, place_at, put_entry, put_link, put_link_of, put_order, put_place, reported_trade, reports, with_order};
+ghost use Rattle.surveillance.specs.Alarms.{looked};
+ghost use Rattle.surveillance.specs.Numbers.{held};
 
 use crate::alarm::Place;
+use crate::numbered::{Numbered, found_at, no_number, put};
 use crate::own_name::{OwnName, own};
-use day_events::{Event, ShownPrice, What};
-use fix_dictionary::{Identifier, Price, Side};
-use participant_activity::Name;
+use day_events::{Event, What};
+use fix_dictionary::{Identifier, Side};
 use participants::Who;
 use sef_moment::Moment;
 use std::alloc::{AllocError, Global};
 use std::collections::BTreeMap;
-use venue_rules::printed_identifier;
 
 /// Where an order entered.
 #[derive(Clone, Copy)]
@@ -32,11 +32,12 @@ pub struct Pair {
     pub sell: Option<u64>,
 }
 
-/// The highest bid and the lowest offer that were shown.
-#[derive(Clone, Copy)]
-pub struct Best {
-    pub bid: Option<Price>,
-    pub offer: Option<Price>,
+/// Where the trades of a day were reported, where its orders entered, and the orders of each trade in the book.
+#[derive(Drop)]
+pub(crate) struct Indexes {
+    pub reports: Numbered<Place>,
+    pub entries: Numbered<Entry>,
+    pub orders: Numbered<Pair>,
 }
 
 /// The row and moment of an event.
@@ -50,26 +51,26 @@ pub(crate) fn place(event: &Event) -> Place
 }
 
 fn put_place(
-    places: &mut BTreeMap<u64, Place>,
+    places: &mut Numbered<Place>,
     number: Option<u64>,
     place: Place,
 ) -> Result<(), AllocError>
-    ensures { OnOk result (places.new.entries ≡ put_place places.old.entries number place) }
+    ensures { OnOk result (held places.new ≡ put_place (held places.old) number place) }
 {
     match number {
         None => {}
         Some(number) => {
-            places.insert(number, place)?;
+            put(places, number, place)?;
         }
     }
     Ok(())
 }
 
 /// The place of what has this number.
-pub(crate) fn place_at(places: &BTreeMap<u64, Place>, number: u64) -> Option<Place>
-    ensures { result ≡ place_at places.now.entries number }
+pub(crate) fn place_at(places: &Numbered<Place>, number: u64) -> Option<Place>
+    ensures { result ≡ place_at (held places.now) number }
 {
-    places.get(&number).copied()
+    found_at(places, number)
 }
 
 /// The link of a participant's order that has entered.
@@ -144,11 +145,11 @@ fn entered_at(event: &Event, link: Option<Identifier>) -> Entry
 }
 
 fn put_entry(
-    entries: &mut BTreeMap<u64, Entry>,
+    entries: &mut Numbered<Entry>,
     number: Option<u64>,
     entry: Entry,
 ) -> Result<(), AllocError>
-    ensures { OnOk result (entries.new.entries ≡ put_entry entries.old.entries number entry) }
+    ensures { OnOk result (held entries.new ≡ put_entry (held entries.old) number entry) }
 {
     // Types of an entry's content, named here because the proof of the insertion needs each.
     let _place: Option<Place> = None;
@@ -157,17 +158,17 @@ fn put_entry(
     match number {
         None => {}
         Some(number) => {
-            entries.insert(number, entry)?;
+            put(entries, number, entry)?;
         }
     }
     Ok(())
 }
 
 /// Where an order entered.
-pub(crate) fn entry_at(entries: &BTreeMap<u64, Entry>, order: u64) -> Option<Entry>
-    ensures { result ≡ entry_at entries.now.entries order }
+pub(crate) fn entry_at(entries: &Numbered<Entry>, order: u64) -> Option<Entry>
+    ensures { result ≡ entry_at (held entries.now) order }
 {
-    entries.get(&order).copied()
+    found_at(entries, order)
 }
 
 /// The order that enters, new or in the place of another.
@@ -183,10 +184,10 @@ fn entered_order(what: &What) -> Option<u64>
 }
 
 /// Where each order of a day entered.
-pub(crate) fn entries(alloc: Global, events: &[Event]) -> Result<BTreeMap<u64, Entry>, AllocError>
-    ensures { IfOk result (λ made. made.entries ≡ entries events.now) }
+pub(crate) fn entries(alloc: Global, events: &[Event]) -> Result<Numbered<Entry>, AllocError>
+    ensures { IfOk result (λ made. held made ≡ entries events.now) }
 {
-    let mut places = BTreeMap::new(alloc);
+    let mut places = no_number(alloc);
     let mut links = BTreeMap::new(alloc);
     for event in events {
         let link = link_of(&links, event);
@@ -210,11 +211,11 @@ fn no_orders() -> Pair
 }
 
 /// The orders of a trade in the book.
-pub(crate) fn orders_at(orders: &BTreeMap<u64, Pair>, trade: u64) -> Pair
-    ensures { result ≡ orders_at orders.now.entries trade }
+pub(crate) fn orders_at(orders: &Numbered<Pair>, trade: u64) -> Pair
+    ensures { result ≡ orders_at (held orders.now) trade }
 {
-    match orders.get(&trade) {
-        Some(pair) => *pair,
+    match found_at(orders, trade) {
+        Some(pair) => pair,
         None => no_orders(),
     }
 }
@@ -235,24 +236,23 @@ fn with_order(pair: Pair, side: Side, order: Option<u64>) -> Pair
 }
 
 #[tactic(auto, unfolding(crate::specs::Index::put_order))]
-fn put_order(orders: &mut BTreeMap<u64, Pair>, what: &What) -> Result<(), AllocError>
-    ensures { OnOk result (orders.new.entries ≡ put_order orders.old.entries what.now) }
+fn put_order(orders: &mut Numbered<Pair>, what: &What) -> Result<(), AllocError>
+    ensures { OnOk result (held orders.new ≡ put_order (held orders.old) what.now) }
 {
     match what {
         What::Filled(filled) => {
             let pair = with_order(orders_at(orders, filled.trade), filled.side, filled.order);
-            orders.insert(filled.trade, pair)?;
-            Ok(())
+            put(orders, filled.trade, pair)
         }
         _ => Ok(()),
     }
 }
 
 /// The orders of each trade of a day in the book.
-pub(crate) fn orders(alloc: Global, events: &[Event]) -> Result<BTreeMap<u64, Pair>, AllocError>
-    ensures { IfOk result (λ made. made.entries ≡ orders events.now) }
+pub(crate) fn orders(alloc: Global, events: &[Event]) -> Result<Numbered<Pair>, AllocError>
+    ensures { IfOk result (λ made. held made ≡ orders events.now) }
 {
-    let mut pairs = BTreeMap::new(alloc);
+    let mut pairs = no_number(alloc);
     for event in events {
         put_order(&mut pairs, &event.what)?;
     }
@@ -271,120 +271,23 @@ fn reported_trade(what: &What) -> Option<u64>
 }
 
 /// Where each trade of a day was reported.
-pub(crate) fn reports(alloc: Global, events: &[Event]) -> Result<BTreeMap<u64, Place>, AllocError>
-    ensures { IfOk result (λ places. places.entries ≡ reports events.now) }
+pub(crate) fn reports(alloc: Global, events: &[Event]) -> Result<Numbered<Place>, AllocError>
+    ensures { IfOk result (λ places. held places ≡ reports events.now) }
 {
-    let mut places = BTreeMap::new(alloc);
+    let mut places = no_number(alloc);
     for event in events {
         put_place(&mut places, reported_trade(&event.what), place(event))?;
     }
     Ok(places)
 }
 
-fn nothing_shown() -> Best
-    ensures { result ≡ nothing_shown }
+/// All of these of a day.
+pub(crate) fn indexes_of(alloc: Global, events: &[Event]) -> Result<Indexes, AllocError>
+    ensures { IfOk result (λ made. record { reports = held made.reports; entries = held made.entries; orders = held made.orders } ≡ looked events.now) }
 {
-    Best {
-        bid: None,
-        offer: None,
-    }
-}
-
-fn higher(best: Option<Price>, price: Price) -> Option<Price>
-    ensures { result ≡ higher best price }
-{
-    match best {
-        None => Some(price),
-        Some(best) => if best.get() < price.get() {
-            Some(price)
-        } else {
-            Some(best)
-        },
-    }
-}
-
-fn lower(best: Option<Price>, price: Price) -> Option<Price>
-    ensures { result ≡ lower best price }
-{
-    match best {
-        None => Some(price),
-        Some(best) => if price.get() < best.get() {
-            Some(price)
-        } else {
-            Some(best)
-        },
-    }
-}
-
-fn with_price(best: Best, side: Side, price: Price) -> Best
-    ensures { result ≡ with_price best side price }
-{
-    match side {
-        Side::Buy => Best {
-            bid: higher(best.bid, price),
-            offer: best.offer,
-        },
-        Side::Sell => Best {
-            bid: best.bid,
-            offer: lower(best.offer, price),
-        },
-    }
-}
-
-fn best_at(prices: &BTreeMap<Name, Best>, id: Identifier) -> Best
-    ensures { result ≡ best_at prices.now.entries id }
-{
-    match prices.get(&Name { id }) {
-        Some(best) => *best,
-        None => nothing_shown(),
-    }
-}
-
-fn put_price(
-    prices: &mut BTreeMap<Name, Best>,
-    id: &Option<Identifier>,
-    shown: &ShownPrice,
-) -> Result<(), AllocError>
-    ensures { OnOk result (prices.new.entries ≡ put_price prices.old.entries id.now shown.now) }
-{
-    match id {
-        None => {}
-        Some(id) => {
-            let best = with_price(best_at(prices, *id), shown.side, shown.price);
-            prices.insert(Name { id: *id }, best)?;
-        }
-    }
-    Ok(())
-}
-
-#[tactic(auto, unfolding(crate::specs::Index::put_shown))]
-fn put_shown(
-    prices: &mut BTreeMap<Name, Best>,
-    id: &Option<Identifier>,
-    what: &What,
-) -> Result<(), AllocError>
-    ensures { OnOk result (prices.new.entries ≡ put_shown prices.old.entries id.now what.now) }
-{
-    match what {
-        What::Shown(shown) => put_price(prices, id, shown),
-        _ => Ok(()),
-    }
-}
-
-/// What each request of a day was shown.
-pub(crate) fn shown(alloc: Global, events: &[Event]) -> Result<BTreeMap<Name, Best>, AllocError>
-    ensures { IfOk result (λ prices. prices.entries ≡ shown events.now) }
-{
-    let mut prices = BTreeMap::new(alloc);
-    for event in events {
-        put_shown(&mut prices, &event.at.named, &event.what)?;
-    }
-    Ok(prices)
-}
-
-/// What a room was shown, by the venue's identifier of it, as R1.
-pub(crate) fn best_in(prices: &BTreeMap<Name, Best>, room: u64) -> Best
-    ensures { result ≡ best_in prices.now.entries room }
-{
-    best_at(prices, printed_identifier(b'R', room))
+    Ok(Indexes {
+        reports: reports(alloc, events)?,
+        entries: entries(alloc, events)?,
+        orders: orders(alloc, events)?,
+    })
 }

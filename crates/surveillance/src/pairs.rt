@@ -1,13 +1,12 @@
 //! The trades of two linked orders, with the time between them.
 
 ghost use Rattle.std.specs.Prelude.{◌≡◌, ◌++◌, ◌∷◌, [], IfOk, OnOk};
-ghost use Rattle.surveillance.specs.Alarms.{looked};
 ghost use Rattle.surveillance.specs.Pairs.{in_order, linked_at, linked_in, linked_of, linked_trade};
+ghost use Rattle.surveillance.specs.Numbers.{held};
 
 use crate::alarm::Place;
-use crate::index::{Entry, entries, orders, reports};
+use crate::index::Entry;
 use crate::trades::{Listed, Looked, are_linked, delay_at, orders_of};
-use day_events::Event;
 use instruments::Instruments;
 use participants::{Participants, Who};
 use sef_moment::Moment;
@@ -99,48 +98,24 @@ fn push_linked_at(
     looked: &Looked<'_>,
     trade: &TradeFact,
 ) -> Result<(), AllocError>
-    ensures { OnOk result (linked.new.items ≡ linked.old.items ++ linked_at (record { participants = listed.now.participants.now; instruments = listed.now.instruments.now }) (record { reports = looked.now.reports.now.entries; entries = looked.now.entries.now.entries; orders = looked.now.orders.now.entries }) trade.now) }
+    ensures { OnOk result (linked.new.items ≡ linked.old.items ++ linked_at (record { participants = listed.now.participants.now; instruments = listed.now.instruments.now }) (record { reports = held looked.now.reports.now; entries = held looked.now.entries.now; orders = held looked.now.orders.now }) trade.now) }
 {
     let orders = orders_of(looked, trade.number);
     push_linked_of(linked, listed, trade, &orders)
 }
 
-fn linked_in(
+/// The trades of two linked orders.
+pub(crate) fn linked_in(
     alloc: Global,
     listed: &Listed<'_>,
     looked: &Looked<'_>,
     trades: &[TradeFact],
 ) -> Result<Vec<LinkedTrade>, AllocError>
-    ensures { IfOk result (λ linked. linked.items ≡ linked_in (record { participants = listed.now.participants.now; instruments = listed.now.instruments.now }) (record { reports = looked.now.reports.now.entries; entries = looked.now.entries.now.entries; orders = looked.now.orders.now.entries }) trades.now) }
+    ensures { IfOk result (λ linked. linked.items ≡ linked_in (record { participants = listed.now.participants.now; instruments = listed.now.instruments.now }) (record { reports = held looked.now.reports.now; entries = held looked.now.entries.now; orders = held looked.now.orders.now }) trades.now) }
 {
     let mut linked = Vec::new(alloc);
     for trade in trades {
         push_linked_at(&mut linked, listed, looked, trade)?;
     }
     Ok(linked)
-}
-
-/// The trades of two linked orders, by a day's trades and by what its answers say.
-pub fn linked_trades(
-    alloc: Global,
-    participants: &Participants,
-    instruments: &Instruments,
-    trades: &[TradeFact],
-    events: &[Event],
-) -> Result<Vec<LinkedTrade>, AllocError>
-    ensures { IfOk result (λ linked. linked.items ≡ linked_in (record { participants = participants.now; instruments = instruments.now }) (looked events.now) trades.now) }
-{
-    let reports = reports(alloc, events)?;
-    let entries = entries(alloc, events)?;
-    let orders = orders(alloc, events)?;
-    let looked = Looked {
-        reports: &reports,
-        entries: &entries,
-        orders: &orders,
-    };
-    let listed = Listed {
-        participants,
-        instruments,
-    };
-    linked_in(alloc, &listed, &looked, trades)
 }

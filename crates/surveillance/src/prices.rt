@@ -2,14 +2,14 @@
 
 ghost use Rattle.std.specs.Prelude.{◌≡◌, ◌++◌, OnOk};
 ghost use Rattle.surveillance.specs.Alarms.{above, below, better, worse_alarms, worse_by};
+ghost use Rattle.surveillance.specs.Kept.{kept_in};
 
 use crate::alarm::{Alarm, Figure, Kind, Others, push_alarm};
-use crate::index::{Best, best_in, place};
+use crate::index::place;
+use crate::shown::{Best, Prices, best_in};
 use day_events::{Event, RoomTrade};
 use fix_dictionary::{Identifier, Price, Side};
-use participant_activity::Name;
 use std::alloc::AllocError;
-use std::collections::BTreeMap;
 
 fn below(offer: Option<Price>, price: Price) -> Option<Price>
     ensures { result ≡ below offer price }
@@ -77,12 +77,12 @@ fn push_worse_by(
 /// Appends the alarm of a trade in a request at a worse price than was shown.
 pub(crate) fn push_worse(
     alarms: &mut Vec<Alarm>,
-    prices: &BTreeMap<Name, Best>,
+    prices: &Prices,
     event: &Event,
     trade: &RoomTrade,
     response: &Option<Identifier>,
 ) -> Result<(), AllocError>
-    ensures { OnOk result (alarms.new.items ≡ alarms.old.items ++ worse_alarms prices.now.entries event.now trade.now response.now) }
+    ensures { OnOk result (alarms.new.items ≡ alarms.old.items ++ worse_alarms (kept_in prices.now.rows.entries prices.now.bests.entries) event.now trade.now response.now) }
 {
     match response {
         None => Ok(()),

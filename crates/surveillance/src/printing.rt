@@ -11,18 +11,18 @@ ghost use Rattle.surveillance.specs.Alarms.{alarms};
 ghost use Rattle.surveillance.specs.Printed.{EmitsWatch, IsWatch};
 ghost use Rattle.surveillance.specs.Texts.{watch_text};
 
-use crate::alarms::alarms_of;
+use crate::alarms::Watched;
+use crate::findings::findings_of;
 use crate::form::Form;
 use crate::texts::watch_text;
 use crate::thresholds::Thresholds;
-use day_events::{Event, day_of};
+use day_events::{Day, day_of};
 use instruments::Instruments;
 use participants::Participants;
 use row_replay::rows_have_their_inputs;
 use std::alloc::{AllocError, Global};
 use std::io::Write;
 use trade_blotter::PrintFault;
-use venue_core::Venue;
 use venue_rules::TrailRow;
 
 fn write_text<W: Write>(text: &[u8], writer: &mut W) -> Result<(), PrintFault>
@@ -35,27 +35,19 @@ fn write_text<W: Write>(text: &[u8], writer: &mut W) -> Result<(), PrintFault>
     }
 }
 
-/// The text of the alarms of a day that led to this venue, with what its answers say.
-fn text_of(
-    alloc: Global,
-    form: Form,
-    bounds: &Thresholds,
-    venue: &Venue,
-    events: &[Event],
-) -> Result<Vec<u8>, AllocError>
-    ensures { (h : History) → IsHistory venue.now h → IfOk result (λ text. text.items ≡ watch_text form bounds.now venue.now.market.participants (alarms bounds.now venue.now.market h events.now)) }
+/// The text of the alarms of a day.
+fn text_of(alloc: Global, form: Form, bounds: &Thresholds, day: &Day) -> Result<Vec<u8>, AllocError>
+    ensures { (h : History) → IsHistory day.now.venue h → IfOk result (λ text. text.items ≡ watch_text form bounds.now day.now.venue.market.participants (alarms bounds.now day.now.venue.market h day.now.events.items day.now.shown.items)) }
 {
-    let participants = venue.participants();
-    let instruments = venue.instruments();
-    let alarms = alarms_of(
-        alloc,
-        bounds,
-        participants,
-        instruments,
-        venue.trades(),
-        events,
-    )?;
-    watch_text(alloc, form, bounds, participants, &alarms)
+    let participants = day.venue.participants();
+    let instruments = day.venue.instruments();
+    let watched = Watched {
+        trades: day.venue.trades(),
+        events: &day.events,
+        shown: &day.shown,
+    };
+    let found = findings_of(alloc, bounds, participants, instruments, &watched)?;
+    watch_text(alloc, form, bounds, participants, &found.alarms)
 }
 
 /// The text of the alarms of a day, on a venue of these participants and instruments.
@@ -73,7 +65,7 @@ fn watch_of(
 {
     rows_have_their_inputs();
     let day = day_of(alloc, participants, instruments, rows)?;
-    text_of(alloc, form, bounds, &day.venue, &day.events)
+    text_of(alloc, form, bounds, &day)
 }
 
 /// Prints the alarms of the day in these rows, on a venue of these participants and instruments. Where an allocation

@@ -2,22 +2,23 @@
 
 ghost use Rattle.std.specs.Prelude.{◌≡◌, ◌++◌, OnOk};
 ghost use Rattle.surveillance.specs.Alarms.{are_linked, between, both, delay_at, entry_of, has_held, is_same_link, is_second_held, linked_after, linked_alarm, linked_by, orders_of, own_kind, parties_alarm, party_alarms, trade_alarms, trades_alarms};
+ghost use Rattle.surveillance.specs.Numbers.{held};
 
 use crate::alarm::{Alarm, Figure, Kind, Others, Place, push_alarm};
 use crate::index::{Entry, Pair, entry_at, orders_at, place_at};
+use crate::numbered::Numbered;
 use fix_dictionary::Identifier;
 use instruments::Instruments;
 use participants::Participants;
 use std::alloc::AllocError;
-use std::collections::BTreeMap;
 use venue_rules::TradeFact;
 
 /// What trades are looked up in.
 #[derive(Clone, Copy)]
 pub(crate) struct Looked<'a> {
-    pub reports: &'a BTreeMap<u64, Place>,
-    pub entries: &'a BTreeMap<u64, Entry>,
-    pub orders: &'a BTreeMap<u64, Pair>,
+    pub reports: &'a Numbered<Place>,
+    pub entries: &'a Numbered<Entry>,
+    pub orders: &'a Numbered<Pair>,
 }
 
 /// Who trades what, on a venue.
@@ -39,8 +40,8 @@ fn both(buy: Option<Entry>, sell: Option<Entry>) -> Option<(Entry, Entry)>
     }
 }
 
-fn entry_of(entries: &BTreeMap<u64, Entry>, order: Option<u64>) -> Option<Entry>
-    ensures { result ≡ entry_of entries.now.entries order }
+fn entry_of(entries: &Numbered<Entry>, order: Option<u64>) -> Option<Entry>
+    ensures { result ≡ entry_of (held entries.now) order }
 {
     match order {
         None => None,
@@ -50,7 +51,7 @@ fn entry_of(entries: &BTreeMap<u64, Entry>, order: Option<u64>) -> Option<Entry>
 
 /// Both orders of a trade.
 pub(crate) fn orders_of(looked: &Looked<'_>, trade: u64) -> Option<(Entry, Entry)>
-    ensures { result ≡ orders_of (record { reports = looked.now.reports.now.entries; entries = looked.now.entries.now.entries; orders = looked.now.orders.now.entries }) trade }
+    ensures { result ≡ orders_of (record { reports = held looked.now.reports.now; entries = held looked.now.entries.now; orders = held looked.now.orders.now }) trade }
 {
     let pair = orders_at(looked.orders, trade);
     both(
@@ -69,8 +70,8 @@ fn has_held(orders: &Option<(Entry, Entry)>) -> bool
     }
 }
 
-fn parties_alarm(kind: Kind, reports: &BTreeMap<u64, Place>, trade: &TradeFact) -> Alarm
-    ensures { result ≡ parties_alarm kind reports.now.entries trade.now }
+fn parties_alarm(kind: Kind, reports: &Numbered<Place>, trade: &TradeFact) -> Alarm
+    ensures { result ≡ parties_alarm kind (held reports.now) trade.now }
 {
     Alarm {
         kind,
@@ -102,7 +103,7 @@ fn push_party(
     looked: &Looked<'_>,
     trade: &TradeFact,
 ) -> Result<(), AllocError>
-    ensures { OnOk result (alarms.new.items ≡ alarms.old.items ++ party_alarms participants.now (record { reports = looked.now.reports.now.entries; entries = looked.now.entries.now.entries; orders = looked.now.orders.now.entries }) trade.now) }
+    ensures { OnOk result (alarms.new.items ≡ alarms.old.items ++ party_alarms participants.now (record { reports = held looked.now.reports.now; entries = held looked.now.entries.now; orders = held looked.now.orders.now }) trade.now) }
 {
     if trade.buyer.place() == trade.seller.place() {
         let kind = own_kind(has_held(&orders_of(looked, trade.number)));
@@ -170,12 +171,12 @@ fn is_second_held(a: &Entry, b: &Entry) -> bool
 
 fn linked_alarm(
     bound: u64,
-    reports: &BTreeMap<u64, Place>,
+    reports: &Numbered<Place>,
     trade: &TradeFact,
     delay: u64,
     ms: u64,
 ) -> Alarm
-    ensures { result ≡ linked_alarm bound reports.now.entries trade.now delay ms }
+    ensures { result ≡ linked_alarm bound (held reports.now) trade.now delay ms }
 {
     Alarm {
         kind: Kind::LinkedSoon,
@@ -193,12 +194,12 @@ fn linked_alarm(
 fn push_linked_after(
     alarms: &mut Vec<Alarm>,
     bound: u64,
-    reports: &BTreeMap<u64, Place>,
+    reports: &Numbered<Place>,
     trade: &TradeFact,
     delay: u64,
     ms: u64,
 ) -> Result<(), AllocError>
-    ensures { OnOk result (alarms.new.items ≡ alarms.old.items ++ linked_after bound reports.now.entries trade.now delay ms) }
+    ensures { OnOk result (alarms.new.items ≡ alarms.old.items ++ linked_after bound (held reports.now) trade.now delay ms) }
 {
     if delay <= ms && ms.saturating_sub(delay) <= bound {
         push_alarm(alarms, linked_alarm(bound, reports, trade, delay, ms))
@@ -212,11 +213,11 @@ fn push_linked(
     alarms: &mut Vec<Alarm>,
     bound: u64,
     listed: &Listed<'_>,
-    reports: &BTreeMap<u64, Place>,
+    reports: &Numbered<Place>,
     trade: &TradeFact,
     orders: &Option<(Entry, Entry)>,
 ) -> Result<(), AllocError>
-    ensures { OnOk result (alarms.new.items ≡ alarms.old.items ++ linked_by bound (record { participants = listed.now.participants.now; instruments = listed.now.instruments.now }) reports.now.entries trade.now orders.now) }
+    ensures { OnOk result (alarms.new.items ≡ alarms.old.items ++ linked_by bound (record { participants = listed.now.participants.now; instruments = listed.now.instruments.now }) (held reports.now) trade.now orders.now) }
 {
     let Some((buy, sell)) = orders else {
         return Ok(());
@@ -236,7 +237,7 @@ fn push_trade(
     looked: &Looked<'_>,
     trade: &TradeFact,
 ) -> Result<(), AllocError>
-    ensures { OnOk result (alarms.new.items ≡ alarms.old.items ++ trade_alarms bound (record { participants = listed.now.participants.now; instruments = listed.now.instruments.now }) (record { reports = looked.now.reports.now.entries; entries = looked.now.entries.now.entries; orders = looked.now.orders.now.entries }) trade.now) }
+    ensures { OnOk result (alarms.new.items ≡ alarms.old.items ++ trade_alarms bound (record { participants = listed.now.participants.now; instruments = listed.now.instruments.now }) (record { reports = held looked.now.reports.now; entries = held looked.now.entries.now; orders = held looked.now.orders.now }) trade.now) }
 {
     push_party(alarms, listed.participants, looked, trade)?;
     let orders = orders_of(looked, trade.number);
@@ -251,7 +252,7 @@ pub(crate) fn push_trades(
     looked: &Looked<'_>,
     trades: &[TradeFact],
 ) -> Result<(), AllocError>
-    ensures { OnOk result (alarms.new.items ≡ alarms.old.items ++ trades_alarms bound (record { participants = listed.now.participants.now; instruments = listed.now.instruments.now }) (record { reports = looked.now.reports.now.entries; entries = looked.now.entries.now.entries; orders = looked.now.orders.now.entries }) trades.now) }
+    ensures { OnOk result (alarms.new.items ≡ alarms.old.items ++ trades_alarms bound (record { participants = listed.now.participants.now; instruments = listed.now.instruments.now }) (record { reports = held looked.now.reports.now; entries = held looked.now.entries.now; orders = held looked.now.orders.now }) trades.now) }
 {
     for trade in trades {
         push_trade(alarms, bound, listed, looked, trade)?;

@@ -10,6 +10,6 @@ returns c = λ h is.
     let p = c.participants-participants.result.now in
     IfOk-weaker c.watch_text.result _ _
     (λ text. λ e. e
-    ∙ (ap (λ (l : List Alarm). watch_text c.args.form c.args.bounds.now p l) (c.deref.ensures.value ∙ c.in_ok-alarms.ensures)
-    ∙ (λ j. watch_text c.args.form c.args.bounds.now (c.participants-participants.ensures j) (alarms_of c.args.bounds.now (record { participants = c.participants-participants.ensures j; instruments = c.instruments-instruments.ensures j }) (c.trades.ensures h is j) c.args.events.now))))
+    ∙ (ap (λ (l : List Alarm). watch_text c.args.form c.args.bounds.now p l) (c.deref-3.ensures.value ∙ c.in_ok-found.ensures.alarms)
+    ∙ (λ j. watch_text c.args.form c.args.bounds.now (c.participants-participants.ensures j) (alarms_of c.args.bounds.now (record { participants = c.participants-participants.ensures j; instruments = c.instruments-instruments.ensures j }) (c.trades.ensures h is j) (c.deref.ensures.value j) (c.deref-2.ensures.value j)))))
     c.watch_text.ensures
