@@ -1,0 +1,3 @@
+-- what is counted, and the section
+pub mod Counts
+pub mod Rules
