@@ -2,7 +2,6 @@
 use Rattle.std.specs.Prelude.{◌≡◌, ℕ, ◌==◌, Bool, true, false, List, [], ◌∷◌, filter, length, Option, if◌then◌else◌, refl}
 use Rattle.std.specs.List.{flat_map}
 use Rattle.std.proofs.Common.{◌∙◌, ap}
-use Rattle.page_text.specs.Parts.{Part}
 use Rattle.participants.specs.ParticipantFile.{ParticipantFile}
 use Rattle.day_events.specs.declared.event.Event.{Event}
 use Rattle.day_events.specs.declared.event.What.{What}
@@ -13,7 +12,7 @@ use Rattle.day_sections.specs.declared.template.TheConstants.{NO_REFUSAL, TABLE_
 use Rattle.day_sections.specs.Counts.{is_refused}
 use Rattle.day_sections.specs.Picks.{is_of_cause, is_picked}
 use Rattle.day_sections.specs.Refusals.{cause_parts, cause_parts_of, causes, causes_from, count_part, refusals_parts, seen_with}
-use Rattle.day_sections.proofs.Early.{skipped}
+use Rattle.day_sections.proofs.Walks.{skipped}
 
 not_seen : (seen : List (Option (List ℕ))) (w : What) → is_refused w ≡ false → seen_with seen w ≡ seen
 not_seen seen (what.Entered x) other = refl
@@ -22,7 +21,6 @@ not_seen seen (what.Filled x) other = refl
 not_seen seen (what.Cancelled x) other = refl
 not_seen seen (what.Replaced x) other = refl
 not_seen seen (what.Asked x) other = refl
-not_seen seen (what.Shown x) other = refl
 not_seen seen (what.Quoted x) other = refl
 not_seen seen (what.Withdrawn x) other = refl
 not_seen seen what.Passed other = refl
@@ -46,7 +44,6 @@ not_of_cause cause (what.Filled x) other = refl
 not_of_cause cause (what.Cancelled x) other = refl
 not_of_cause cause (what.Replaced x) other = refl
 not_of_cause cause (what.Asked x) other = refl
-not_of_cause cause (what.Shown x) other = refl
 not_of_cause cause (what.Quoted x) other = refl
 not_of_cause cause (what.Withdrawn x) other = refl
 not_of_cause cause what.Passed other = refl

@@ -1,12 +1,12 @@
 -- Numbers that are counted in the place of events.
-use Rattle.std.specs.Prelude.{◌≡◌, ℕ, suc, ◌+◌, ◌<◌, ◌≤◌, ◌==◌, ◌&&◌, Bool, true, false, List, [], ◌∷◌, ◌++◌, cond, count_by, length, take, Some, if◌then◌else◌, refl}
+use Rattle.std.specs.Prelude.{◌≡◌, ℕ, ◌+◌, ◌<◌, ◌==◌, ◌&&◌, Bool, true, false, List, [], ◌∷◌, ◌++◌, cond, count_by, length, take, Some, if◌then◌else◌, refl}
 use Rattle.std.proofs.Common.{sym, ◌∙◌, ap, arith, get_or}
 use Rattle.std.proofs.lemmas.Bool.Decides.{nat_tests}
 use Rattle.std.proofs.lemmas.List.Sums.{count_by_more_no, count_by_more_yes, sum_by-append}
 use Rattle.day_events.specs.declared.event.Event.{Event}
 use Rattle.day_sections.specs.declared.counts.Kind.{Kind}
 use Rattle.day_sections.specs.Counts.{counts, is_counted, is_of_sender}
-use Rattle.day_sections.specs.Numbers.{AreOf, number_in, numbers_in}
+use Rattle.day_sections.specs.Numbers.{AreOf, numbers_in}
 
 count_more_by : {X : Type 0} (test : X → Bool) (xs : List X) (i : ℕ) (x : X) (is : Bool) → test (get_or xs i x) ≡ is → i < length xs
     → count_by test (take (i + 1) xs) ≡ count_by test (take i xs) + cond is 1 0

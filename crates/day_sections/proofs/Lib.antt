@@ -1,4 +1,7 @@
 pub mod Walks
-pub mod Early
 pub mod Counting
 pub mod ByCause
+-- each trade has a report at its place
+mod Found
+-- folds leave nothing out
+mod Whole

@@ -1,7 +1,9 @@
 -- Parts for each of some things, added one by one.
-use Rattle.std.specs.Prelude.{◌≡◌, ℕ, zero, suc, ◌+◌, ◌-◌, ◌<◌, ◌≤◌, Bool, true, false, List, [], ◌∷◌, ◌++◌, length, filter, drop, take, refl}
+use Rattle.std.specs.Prelude.{◌≡◌, ℕ, suc, ◌+◌, ◌-◌, ◌<◌, ◌≤◌, Bool, true, false, List, [], ◌∷◌, ◌++◌, length, filter, drop, take, cond, nat_le, if◌then◌else◌, refl}
 use Rattle.std.specs.List.{flat_map}
-use Rattle.std.proofs.Common.{sym, ◌∙◌, ap, subst, arith, append_assoc, get_or}
+use Rattle.std.proofs.lemmas.Bool.Decides.{nat_tests}
+use Rattle.std.proofs.Common.{sym, ◌∙◌, ap, arith, append_assoc, get_or}
+use Rattle.std.proofs.lemmas.Bool.Decides.{nat_tests}
 use Rattle.std.proofs.lemmas.List.{at_drop_more, at_drop_all, take_all}
 use Rattle.page_text.specs.Laws.{PartsFollowParts}
 use Rattle.page_text.specs.Parts.{Part, with_part, with_parts}
@@ -88,3 +90,23 @@ rooms_on es i e last next is kept more whole below at_i n test k h =
 
 pub all_taken : {X : Type 0} (n : ℕ) (xs : List X) → length xs ≤ n → xs ≡ take n xs
 all_taken n xs few = sym (take_all n xs few)
+
+-- What is picked of what is kept, where nothing else would be picked.
+
+skip_step : (p k : Event → Bool) (e : Event) (es : List Event) (is : Bool) → k e ≡ is → (k e ≡ false → p e ≡ false) → filter p (filter k es) ≡ filter p es
+    → filter p (filter k (e ∷ es)) ≡ filter p (e ∷ es)
+skip_step p k e es true kept skips same = rw kept (ap (λ (l : List Event). cond (p e) (e ∷ l) l) same)
+skip_step p k e es false late skips same = rw (late, skips late) same
+
+pub skipped : (p k : Event → Bool) → ((e : Event) → k e ≡ false → p e ≡ false) → (es : List Event) → filter p (filter k es) ≡ filter p es
+skipped p k skips [] = refl
+skipped p k skips (e ∷ es) = skip_step p k e es (k e) refl (skips e) (skipped p k skips es)
+
+-- a choice by a number that is above a bound
+
+chosen : {X : Type 0} (is : Bool) (a b : X) → is ≡ false → b ≡ (if is then a else b)
+chosen true a b h = cc
+chosen false a b h = refl
+
+pub above : {X : Type 0} (n most : ℕ) (a b : X) → most < n → b ≡ (if nat_le n most then a else b)
+above n most a b more = chosen (nat_le n most) a b (grind (arith, nat_tests))

@@ -3,17 +3,15 @@ pub mod Values
 -- what is counted and picked of a day's events
 pub mod Counts
 pub mod Rooms
-pub mod Keys
 pub mod Numbers
 pub mod Picks
+-- long lists in folds
+pub mod Folds
 -- the day in six figures
 pub mod Figures
 -- trades, by their reports
 pub mod Reports
 pub mod Trades
--- requests for quotes, and what became of a quote
-pub mod Fate
-pub mod Requests
 -- refusals by cause
 pub mod Refusals
 -- participants
@@ -22,3 +20,7 @@ pub mod People
 pub mod Linked
 -- alarms
 pub mod Alarms
+-- each trade has a report at its place
+pub mod Found
+-- folds leave nothing out
+pub mod Whole

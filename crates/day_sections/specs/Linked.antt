@@ -1,19 +1,17 @@
--- The section of the trades of linked orders (`surveillance`).
-use Rattle.std.specs.Prelude.{ℕ, ◌==◌, Bool, true, false, List, [], ◌∷◌, length, take, decimal, if◌then◌else◌}
+-- The section of the trades of linked orders (`surveillance`): up to 200 in one table; above, in folds of 200, up to
+-- 10,000.
+use Rattle.std.specs.Prelude.{ℕ, ◌-◌, ◌==◌, Bool, true, false, List, [], ◌∷◌, length, nat_le, take, decimal, if◌then◌else◌}
 use Rattle.std.specs.List.{flat_map}
 use Rattle.page_text.specs.Parts.{Part}
 use Rattle.participants.specs.ParticipantFile.{ParticipantFile}
 use Rattle.participants.specs.Relations.{name_of}
 use Rattle.sef_moment.specs.Utc.{utc_text}
 use Rattle.surveillance.specs.declared.pairs.LinkedTrade.{LinkedTrade}
-use Rattle.day_sections.specs.declared.template.TheConstants.{BY_CLOCK, BY_MESSAGE, CELL_END, LINKED, LINKED_TIMES, LINKED_TRADE, NO_LINKED, TABLE_END, TRADE_ALONE, TRADE_LINK}
+use Rattle.day_sections.specs.declared.template.TheConstants.{BY_CLOCK, BY_MESSAGE, CELL_END, LINKED, LIST_END, LINKED_TIMES, LINKED_TRADE, MORE_LINKED, NO_LINKED, SECTION_END, TABLE_OF_LINKED, TRADE_ALONE, TRADE_LINK}
+use Rattle.day_sections.specs.Folds.{most_folded, whole_or_folded}
 use Rattle.day_sections.specs.Values.{is_listed, row_part}
 use Rattle.day_tables.specs.Parts.{framed, plain_part}
 use Rattle.day_tables.specs.Values.{grouped, time_in}
-
--- the most trades that have their part
-abbrev pub most_linked : ℕ
-most_linked = 300
 
 -- its number: a link, if it is on the page
 
@@ -44,8 +42,19 @@ linked_parts file shown t = trade_part t.trade ∷ pair_part file t ∷ held_par
 abbrev pub count_part : List LinkedTrade → Part
 count_part ts = record { template = LINKED.now; values = grouped (length ts) ∷ [] }
 
+-- a table of some
+abbrev pub table_parts : ParticipantFile → Bool → List LinkedTrade → List Part
+table_parts file shown ts = framed (plain_part TABLE_OF_LINKED.now) (flat_map (linked_parts file shown) ts) (plain_part LIST_END.now)
+
+-- the end of the section: whether all are there, or how many more there are
+abbrev pub more_part : ℕ → Part
+more_part more = record { template = MORE_LINKED.now; values = grouped more ∷ [] }
+
+abbrev pub end_part : ℕ → Part
+end_part n = if nat_le n most_folded then plain_part SECTION_END.now else more_part (n - most_folded)
+
 abbrev pub some_linked : ParticipantFile → Bool → List LinkedTrade → List Part
-some_linked file shown ts = framed (count_part ts) (flat_map (linked_parts file shown) (take most_linked ts)) (plain_part TABLE_END.now)
+some_linked file shown ts = framed (count_part ts) (whole_or_folded (table_parts file shown) (take most_folded ts)) (end_part (length ts))
 
 abbrev pub linked_trades_parts : ParticipantFile → Bool → List LinkedTrade → List Part
 linked_trades_parts file shown ts = if length ts == 0 then plain_part NO_LINKED.now ∷ [] else some_linked file shown ts

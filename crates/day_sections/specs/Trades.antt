@@ -1,5 +1,6 @@
--- The section of the trades.
-use Rattle.std.specs.Prelude.{ℕ, Bool, List, [], ◌∷◌, ◌++◌, length, decimal, take, Option, Some, None}
+-- The section of the trades: up to 500 in one table; above, by the hour (UTC), a fold each. The first 10,000 have their
+-- part; an hour without any of these is a line.
+use Rattle.std.specs.Prelude.{ℕ, Bool, true, false, List, [], ◌∷◌, length, decimal, map, nat_le, slice_get, take, Option, Some, None, ◌-◌, ◌==◌, if◌then◌else◌}
 use Rattle.std.specs.List.{flat_map}
 use Rattle.fix_fields.specs.Forms.{price_text}
 use Rattle.instruments.specs.declared.instruments.Instrument.{Instrument}
@@ -12,7 +13,11 @@ use Rattle.venue_rules.specs.declared.trail.TradeFact.{TradeFact}
 use Rattle.day_events.specs.declared.event.Event.{Event}
 use Rattle.day_tables.specs.Parts.{framed, plain_part}
 use Rattle.day_tables.specs.Values.{grouped, time_in}
-use Rattle.day_sections.specs.declared.template.TheConstants.{CELL_END, DEAL, IN_BOOK, IN_ROOM, NO_ROW, TRADE, TRADES, TRADES_END}
+use Rattle.day_sections.specs.declared.template.TheConstants.{CELL_END, DEAL, FOLD_END, HOUR, HOUR_END_MORE, HOUR_LINE, IN_BOOK, IN_ROOM, NO_ROW, NO_TRADE, TABLE_OF_TRADES, TRADE, TRADES, TRADES_END, LIST_END}
+use Rattle.day_tables.specs.declared.bulletin.Place.TheVariants.{Anywhere}
+use Rattle.day_tables.specs.Bulletin.{quantity}
+use Rattle.day_sections.specs.declared.folds.Fold.{Fold}
+use Rattle.day_sections.specs.Folds.{folds, hour_of, within}
 use Rattle.day_sections.specs.Reports.{report_of}
 use Rattle.day_sections.specs.Values.{most_trades, row_part}
 
@@ -28,7 +33,7 @@ head_part file t report = record { template = TRADE.now; values = decimal t.numb
 -- where it was made: in the book, or in a request for quotes
 
 abbrev pub room_part : ℕ → Part
-room_part room = record { template = IN_ROOM.now; values = decimal room ∷ [] }
+room_part room = record { template = IN_ROOM.now; values = decimal room ∷ decimal room ∷ [] }
 
 abbrev pub place_part : Option ℕ → Part
 place_part None = plain_part IN_BOOK.now
@@ -49,8 +54,82 @@ trade_by file xs linked t report = head_part xs t report ∷ place_part t.room �
 abbrev pub trade_parts : ParticipantFile → List Instrument → Bool → List Event → TradeFact → List Part
 trade_parts file xs linked rs t = trade_by file xs linked t (report_of rs t.number)
 
+-- a table of some trades
+abbrev pub table_parts : ParticipantFile → List Instrument → Bool → List Event → List TradeFact → List Part
+table_parts file xs linked rs ts = framed (plain_part TABLE_OF_TRADES.now) (flat_map (trade_parts file xs linked rs) ts) (plain_part LIST_END.now)
+
+-- By the hour.
+
+-- the hour of what is reported
+abbrev pub hour_at : Option Event → ℕ
+hour_at None = 0
+hour_at (Some e) = hour_of e.at.moment
+
+abbrev pub hours : List Event → List TradeFact → List ℕ
+hours rs ts = map (λ t. hour_at (report_of rs t.number)) ts
+
+-- its date and hour, as 20250303-14
+abbrev pub hour_text : Option Event → List ℕ
+hour_text None = []
+hour_text (Some e) = take 11 (utc_text e.at.moment)
+
+abbrev pub number_of : Option TradeFact → List ℕ
+number_of None = []
+number_of (Some t) = decimal t.number
+
+abbrev pub first_of : List TradeFact → Option TradeFact
+first_of ts = slice_get ts 0
+
+abbrev pub last_of : List TradeFact → Option TradeFact
+last_of ts = slice_get ts (length ts - 1)
+
+abbrev pub first_report : List Event → Option TradeFact → Option Event
+first_report rs None = None
+first_report rs (Some t) = report_of rs t.number
+
+-- the hour of some trades; how many they are, the first and the last of them, and their quantity
+abbrev pub hour_part : List ℕ → List Event → List TradeFact → Part
+hour_part template rs ts = record {
+  template = template;
+  values = hour_text (first_report rs (first_of ts)) ∷ grouped (length ts) ∷ number_of (first_of ts) ∷ number_of (last_of ts) ∷ grouped (quantity None Anywhere ts) ∷ [];
+}
+
+-- the end of its fold: whether all of its trades are there, or how many
+
+abbrev pub more_part : ℕ → Part
+more_part listed = record { template = HOUR_END_MORE.now; values = grouped listed ∷ [] }
+
+abbrev pub end_by : Bool → ℕ → Part
+end_by true listed = plain_part FOLD_END.now
+end_by false listed = more_part listed
+
+abbrev pub end_part : ℕ → ℕ → Part
+end_part all listed = end_by (all == listed) listed
+
+-- all trades of an hour, and those of them that have their part
+
+abbrev pub some_of_hour : ParticipantFile → List Instrument → Bool → List Event → List TradeFact → List TradeFact → List Part
+some_of_hour file xs linked rs all listed = framed (hour_part HOUR.now rs all) (table_parts file xs linked rs listed) (end_part (length all) (length listed))
+
+abbrev pub hour_parts : ParticipantFile → List Instrument → Bool → List Event → List TradeFact → List TradeFact → List Part
+hour_parts file xs linked rs all listed = if length listed == 0 then hour_part HOUR_LINE.now rs all ∷ [] else some_of_hour file xs linked rs all listed
+
+abbrev pub fold_parts : ParticipantFile → List Instrument → Bool → List Event → List TradeFact → List TradeFact → Fold → List Part
+fold_parts file xs linked rs all listed f = hour_parts file xs linked rs (within f all) (within f listed)
+
+abbrev pub by_hour : ParticipantFile → List Instrument → Bool → List Event → List TradeFact → List Part
+by_hour file xs linked rs ts = flat_map (fold_parts file xs linked rs ts (take most_trades ts)) (folds (hours rs ts))
+
+-- The section.
+
 abbrev pub count_part : List TradeFact → Part
 count_part ts = record { template = TRADES.now; values = grouped (length ts) ∷ [] }
 
+abbrev pub listed_parts : ParticipantFile → List Instrument → Bool → List Event → List TradeFact → List Part
+listed_parts file xs linked rs ts = if nat_le (length ts) 500 then table_parts file xs linked rs ts else by_hour file xs linked rs ts
+
+abbrev pub some_trades : ParticipantFile → List Instrument → Bool → List Event → List TradeFact → List Part
+some_trades file xs linked rs ts = framed (count_part ts) (listed_parts file xs linked rs ts) (plain_part TRADES_END.now)
+
 abbrev pub trades_parts : ParticipantFile → List Instrument → Bool → List Event → List TradeFact → List Part
-trades_parts file xs linked rs ts = framed (count_part ts) (flat_map (trade_parts file xs linked rs) (take most_trades ts)) (plain_part TRADES_END.now)
+trades_parts file xs linked rs ts = if length ts == 0 then plain_part NO_TRADE.now ∷ [] else some_trades file xs linked rs ts

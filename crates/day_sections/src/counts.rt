@@ -62,7 +62,7 @@ pub(crate) fn is_refused(what: &What) -> bool
 }
 
 #[tactic(auto, unfolding(crate::specs::Counts::is_quoted))]
-pub(crate) fn is_quoted(what: &What) -> bool
+pub fn is_quoted(what: &What) -> bool
     ensures { result ≡ is_quoted what.now }
 {
     match what {

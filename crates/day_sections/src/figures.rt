@@ -5,7 +5,7 @@ ghost use Rattle.page_text.specs.Parts.{with_part};
 ghost use Rattle.day_sections.specs.Figures.{figures_part};
 
 use crate::counts::{Kind, count, count_sent};
-use crate::rooms::{many, rooms};
+use crate::rooms::{many, rooms_of};
 use crate::template::FIGURES;
 use day_events::Event;
 use day_tables::{Place, grouped_text, number, quantity, wide_text};
@@ -35,7 +35,7 @@ pub fn add_figures(
     let volume = wide_text(alloc, quantity(trades, None, Place::Anywhere))?;
     let in_book = wide_text(alloc, quantity(trades, None, Place::Book))?;
     let in_requests = wide_text(alloc, quantity(trades, None, Place::Request))?;
-    let asked = rooms(alloc, events)?;
+    let asked = rooms_of(alloc, events)?;
     let requests = grouped_text(alloc, many(&asked))?;
     let quotes = grouped_text(alloc, count(events, Kind::Quotes, None) as u64)?;
     let hits = grouped_text(alloc, count(events, Kind::Hits, None) as u64)?;

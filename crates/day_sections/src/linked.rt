@@ -1,15 +1,18 @@
 //! The section of the trades of linked orders.
 
-ghost use Rattle.std.specs.Prelude.{◌≡◌, IfOk, OnOk, take};
+ghost use Rattle.std.specs.Prelude.{◌≡◌, IfOk, OnOk, length};
 ghost use Rattle.std.specs.List.{flat_map};
 ghost use Rattle.sef_moment.specs.Utc.{utc_text};
 ghost use Rattle.page_text.specs.Parts.{with_part, with_parts};
+ghost use Rattle.day_tables.specs.Parts.{each_from};
 ghost use Rattle.day_tables.specs.Values.{time_in};
-ghost use Rattle.day_sections.specs.Linked.{held_part, linked_parts, linked_trades_parts, most_linked, pair_part, some_linked, times_part, trade_alone, trade_link, trade_part};
+ghost use Rattle.day_sections.specs.Folds.{folded, folds_200, whole_or_folded};
+ghost use Rattle.day_sections.specs.Linked.{end_part, held_part, linked_parts, linked_trades_parts, more_part, pair_part, some_linked, table_parts, times_part, trade_alone, trade_link, trade_part};
 
+use crate::folds::{MOST_FOLDED, add_fold_head, folds_200, of_200, up_to};
 use crate::template::{
-    BY_CLOCK, BY_MESSAGE, CELL_END, LINKED, LINKED_TIMES, LINKED_TRADE, NO_LINKED, TABLE_END,
-    TRADE_ALONE, TRADE_LINK,
+    BY_CLOCK, BY_MESSAGE, CELL_END, FOLD_END, LINKED, LINKED_TIMES, LINKED_TRADE, LIST_END,
+    MORE_LINKED, NO_LINKED, SECTION_END, TABLE_OF_LINKED, TRADE_ALONE, TRADE_LINK,
 };
 use crate::values::{add_row_number, is_listed};
 use day_tables::{grouped_text, name_at, number_text, time_in};
@@ -18,9 +21,6 @@ use participants::Participants;
 use sef_moment::{Moment, print_utc};
 use std::alloc::{AllocError, Global};
 use surveillance::LinkedTrade;
-
-/// The most trades that have their part.
-const MOST_LINKED: usize = 300;
 
 fn time_of(alloc: Global, moment: Moment) -> Result<Vec<u8>, AllocError>
     ensures { IfOk result (λ text. text.items ≡ time_in (utc_text moment)) }
@@ -126,15 +126,87 @@ fn add_each(
     Ok(())
 }
 
-/// The first of some trades.
-fn first_of(trades: &[LinkedTrade]) -> &[LinkedTrade]
-    ensures { result.now ≡ take most_linked trades.now }
+/// Adds a table of some trades.
+fn add_table(
+    alloc: Global,
+    page: &mut Page,
+    participants: &Participants,
+    shown: bool,
+    trades: &[LinkedTrade],
+) -> Result<(), AllocError>
+    ensures { OnOk result (page.new ≡ with_parts page.old (table_parts participants.now shown trades.now)) }
 {
-    if trades.len() > MOST_LINKED {
-        let (first, _) = trades.split_at(MOST_LINKED);
-        first
+    page.add(TABLE_OF_LINKED, &[])?;
+    add_each(alloc, page, participants, shown, trades)?;
+    page.add(LIST_END, &[])
+}
+
+/// Adds a fold of 200 trades.
+fn add_fold(
+    alloc: Global,
+    page: &mut Page,
+    participants: &Participants,
+    shown: bool,
+    trades: &[LinkedTrade],
+    number: usize,
+) -> Result<(), AllocError>
+    ensures { OnOk result (page.new ≡ with_parts page.old (folded (table_parts participants.now shown) trades.now number)) }
+{
+    let some = of_200(trades, number);
+    add_fold_head(alloc, page, number, some.len())?;
+    add_table(alloc, page, participants, shown, some)?;
+    page.add(FOLD_END, &[])
+}
+
+/// Adds all folds.
+fn add_folds(
+    alloc: Global,
+    page: &mut Page,
+    participants: &Participants,
+    shown: bool,
+    trades: &[LinkedTrade],
+) -> Result<(), AllocError>
+    ensures { OnOk result (page.new ≡ with_parts page.old (each_from (folded (table_parts participants.now shown) trades.now) 0 (folds_200 (length trades.now)))) }
+{
+    for number in 0..folds_200(trades.len()) {
+        add_fold(alloc, page, participants, shown, trades, number)?;
+    }
+    Ok(())
+}
+
+/// Adds trades whole, or in folds.
+fn add_listed(
+    alloc: Global,
+    page: &mut Page,
+    participants: &Participants,
+    shown: bool,
+    trades: &[LinkedTrade],
+) -> Result<(), AllocError>
+    ensures { OnOk result (page.new ≡ with_parts page.old (whole_or_folded (table_parts participants.now shown) trades.now)) }
+{
+    if trades.len() <= 200 {
+        add_table(alloc, page, participants, shown, trades)
     } else {
-        trades
+        add_folds(alloc, page, participants, shown, trades)
+    }
+}
+
+/// Adds the end of the section, and how many more there are.
+fn add_more(alloc: Global, page: &mut Page, more: usize) -> Result<(), AllocError>
+    ensures { OnOk result (page.new ≡ with_part page.old (more_part more)) }
+{
+    let count = grouped_text(alloc, more as u64)?;
+    page.add(MORE_LINKED, &[&count])
+}
+
+/// Adds the end of the section: whether all are there, or how many more there are.
+fn add_end(alloc: Global, page: &mut Page, count: usize) -> Result<(), AllocError>
+    ensures { OnOk result (page.new ≡ with_part page.old (end_part count)) }
+{
+    if count <= MOST_FOLDED {
+        page.add(SECTION_END, &[])
+    } else {
+        add_more(alloc, page, count - MOST_FOLDED)
     }
 }
 
@@ -150,8 +222,8 @@ fn add_some(
 {
     let count = grouped_text(alloc, trades.len() as u64)?;
     page.add(LINKED, &[&count])?;
-    add_each(alloc, page, participants, shown, first_of(trades))?;
-    page.add(TABLE_END, &[])
+    add_listed(alloc, page, participants, shown, up_to(trades, MOST_FOLDED))?;
+    add_end(alloc, page, trades.len())
 }
 
 /// Adds the section of the trades of linked orders; each with links to the rows of its orders, if the rows are on the

@@ -82,7 +82,7 @@ fn is_at(place: u32, number: u64) -> bool
 }
 
 /// How often the participant at this place is among some.
-pub(crate) fn times(numbers: &[u64], place: u32) -> u64
+pub(crate) fn repeats(numbers: &[u64], place: u32) -> u64
     ensures { result ≡ count_by (λ n. n == place + 1) numbers.now }
 {
     numbers

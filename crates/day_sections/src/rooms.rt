@@ -4,8 +4,7 @@ ghost use Rattle.std.specs.Prelude.{◌≡◌, ◌++◌, IfOk, OnOk, count_by, l
 ghost use Rattle.day_sections.specs.Rooms.{asked_room, is_first_asked, is_made, kept_if, room_after, rooms_from};
 
 use day_events::{
-    Event, FilledOrder, NewOrder, NewQuote, NewRequest, Origin, RecentOrder, RoomTrade, ShownPrice,
-    What,
+    Event, FilledOrder, NewOrder, NewQuote, NewRequest, Origin, RecentOrder, RoomTrade, What,
 };
 use fix_dictionary::{Amount, Identifier, Price, Quantity, Side};
 use participants::Who;
@@ -24,7 +23,7 @@ fn asked_room(what: &What) -> u64
 }
 
 /// Appends an event, if it is kept.
-pub(crate) fn keep(events: &mut Vec<Event>, event: &Event, kept: bool) -> Result<(), AllocError>
+pub fn keep(events: &mut Vec<Event>, event: &Event, kept: bool) -> Result<(), AllocError>
     ensures { OnOk result (events.new.items ≡ events.old.items ++ kept_if kept event.now) }
 {
     // Types of an event's content, named here because the proof of the push needs each.
@@ -35,7 +34,6 @@ pub(crate) fn keep(events: &mut Vec<Event>, event: &Event, kept: bool) -> Result
     let _recent: Option<RecentOrder> = None;
     let _filled: Option<FilledOrder> = None;
     let _asked: Option<NewRequest> = None;
-    let _shown: Option<ShownPrice> = None;
     let _quoted: Option<NewQuote> = None;
     let _traded: Option<RoomTrade> = None;
     let _side: Option<Side> = None;
@@ -54,7 +52,7 @@ pub(crate) fn keep(events: &mut Vec<Event>, event: &Event, kept: bool) -> Result
 }
 
 /// How many events there are.
-pub(crate) fn many(events: &[Event]) -> u64
+pub fn many(events: &[Event]) -> u64
     ensures { result ≡ length events.now }
 {
     events.len() as u64
@@ -77,7 +75,7 @@ fn room_after(last: u64, what: &What) -> u64
 }
 
 /// The requests: of each room the first event that asks in it.
-pub(crate) fn rooms(alloc: Global, events: &[Event]) -> Result<Vec<Event>, AllocError>
+pub fn rooms_of(alloc: Global, events: &[Event]) -> Result<Vec<Event>, AllocError>
     ensures { IfOk result (λ rooms. rooms.items ≡ rooms_from 0 events.now) }
 {
     let mut rooms = Vec::new(alloc);

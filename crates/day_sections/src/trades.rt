@@ -1,16 +1,22 @@
 //! The section of the trades.
 
-ghost use Rattle.std.specs.Prelude.{◌≡◌, OnOk, IfOk, take};
+ghost use Rattle.std.specs.Prelude.{◌≡◌, OnOk, IfOk, option_copied};
 ghost use Rattle.std.specs.List.{flat_map};
 ghost use Rattle.page_text.specs.Parts.{with_part, with_parts};
-ghost use Rattle.day_sections.specs.Values.{most_trades};
-ghost use Rattle.day_sections.specs.Trades.{deal_part, head_part, place_part, room_part, row_of_part, time_text, trade_parts, trades_parts};
+ghost use Rattle.day_sections.specs.Folds.{folds};
+ghost use Rattle.day_sections.specs.Trades.{by_hour, deal_part, end_by, end_part, first_report, head_part, hour_at, hour_part, hour_parts, hour_text, hours, fold_parts, listed_parts, more_part, number_of, place_part, room_part, row_of_part, some_of_hour, some_trades, table_parts, time_text, trade_parts, trades_parts};
 
+use crate::folds::{Fold, folds_of, hour_of, up_to, within};
 use crate::reports::report_of;
-use crate::template::{CELL_END, DEAL, IN_BOOK, IN_ROOM, NO_ROW, TRADE, TRADES, TRADES_END};
+use crate::template::{
+    CELL_END, DEAL, FOLD_END, HOUR, HOUR_END_MORE, HOUR_LINE, IN_BOOK, IN_ROOM, LIST_END, NO_ROW,
+    NO_TRADE, TABLE_OF_TRADES, TRADE, TRADES, TRADES_END,
+};
 use crate::values::{MOST_TRADES, add_row_number};
 use day_events::Event;
-use day_tables::{grouped_text, name_at, number_text, price_bytes, symbol_at, time_in};
+use day_tables::{
+    Place, grouped_text, name_at, number_text, price_bytes, quantity, symbol_at, time_in, wide_text,
+};
 use instruments::Instruments;
 use page_text::Page;
 use participants::Participants;
@@ -59,7 +65,7 @@ fn add_room(alloc: Global, page: &mut Page, room: u64) -> Result<(), AllocError>
     ensures { OnOk result (page.new ≡ with_part page.old (room_part room)) }
 {
     let number = number_text(alloc, room)?;
-    page.add(IN_ROOM, &[&number])
+    page.add(IN_ROOM, &[&number, &number])
 }
 
 /// Adds where it was made.
@@ -139,16 +145,264 @@ fn add_each(
     Ok(())
 }
 
-/// The first of some trades.
-fn first_of(trades: &[TradeFact]) -> &[TradeFact]
-    ensures { result.now ≡ take most_trades trades.now }
+/// Adds a table of some trades.
+fn add_table(
+    alloc: Global,
+    page: &mut Page,
+    participants: &Participants,
+    instruments: &Instruments,
+    reported: &Reported<'_>,
+    trades: &[TradeFact],
+) -> Result<(), AllocError>
+    ensures { OnOk result (page.new ≡ with_parts page.old (table_parts participants.now instruments.now reported.now.linked reported.now.reports.now trades.now)) }
 {
-    if trades.len() > MOST_TRADES {
-        let (first, _) = trades.split_at(MOST_TRADES);
-        first
-    } else {
-        trades
+    page.add(TABLE_OF_TRADES, &[])?;
+    add_each(alloc, page, participants, instruments, reported, trades)?;
+    page.add(LIST_END, &[])
+}
+
+/// The hour of what is reported.
+fn hour_at(report: &Option<Event>) -> u64
+    ensures { result ≡ hour_at report.now }
+{
+    match report {
+        None => 0,
+        Some(report) => hour_of(report.at.moment),
     }
+}
+
+/// The hours of trades.
+fn hours_of(alloc: Global, reports: &[Event], trades: &[TradeFact]) -> Result<Vec<u64>, AllocError>
+    ensures { IfOk result (λ made. made.items ≡ hours reports.now trades.now) }
+{
+    let mut hours = Vec::new(alloc);
+    for trade in trades {
+        hours.push(hour_at(&report_of(reports, trade.number)))?;
+    }
+    Ok(hours)
+}
+
+/// The date and hour of what is reported, as 20250303-14.
+fn hour_text(alloc: Global, report: &Option<Event>) -> Result<Vec<u8>, AllocError>
+    ensures { IfOk result (λ text. text.items ≡ hour_text report.now) }
+{
+    match report {
+        None => Ok(Vec::new(alloc)),
+        Some(report) => {
+            let moment = print_utc(report.at.moment);
+            Vec::from_slice(alloc, up_to(&moment, 11))
+        }
+    }
+}
+
+fn text_of(alloc: Global, trade: Option<&TradeFact>) -> Result<Vec<u8>, AllocError>
+    ensures { IfOk result (λ text. text.items ≡ number_of (option_copied trade.entry)) }
+{
+    match trade {
+        None => Ok(Vec::new(alloc)),
+        Some(trade) => number_text(alloc, trade.number),
+    }
+}
+
+fn first_report(reports: &[Event], trade: Option<&TradeFact>) -> Option<Event>
+    ensures { result ≡ first_report reports.now (option_copied trade.entry) }
+{
+    match trade {
+        None => None,
+        Some(trade) => report_of(reports, trade.number),
+    }
+}
+
+/// Adds the hour of some trades; how many they are, the first and the last of them, and their quantity.
+fn add_hour_head(
+    alloc: Global,
+    page: &mut Page,
+    template: &'static [u8],
+    reports: &[Event],
+    trades: &[TradeFact],
+) -> Result<(), AllocError>
+    ensures { OnOk result (page.new ≡ with_part page.old (hour_part template.now reports.now trades.now)) }
+{
+    let hour = hour_text(alloc, &first_report(reports, trades.first()))?;
+    let count = grouped_text(alloc, trades.len() as u64)?;
+    let first = text_of(alloc, trades.first())?;
+    let last = text_of(alloc, trades.last())?;
+    let quantity = wide_text(alloc, quantity(trades, None, Place::Anywhere))?;
+    page.add(template, &[&hour, &count, &first, &last, &quantity])
+}
+
+/// Adds the end of an hour of which some trades are left out: how many are there.
+fn add_more(alloc: Global, page: &mut Page, listed: usize) -> Result<(), AllocError>
+    ensures { OnOk result (page.new ≡ with_part page.old (more_part listed)) }
+{
+    let count = grouped_text(alloc, listed as u64)?;
+    page.add(HOUR_END_MORE, &[&count])
+}
+
+/// Adds the end of an hour: whether it has all trades, or how many.
+fn add_end_by(
+    alloc: Global,
+    page: &mut Page,
+    is_whole: bool,
+    listed: usize,
+) -> Result<(), AllocError>
+    ensures { OnOk result (page.new ≡ with_part page.old (end_by is_whole listed)) }
+{
+    if is_whole {
+        page.add(FOLD_END, &[])
+    } else {
+        add_more(alloc, page, listed)
+    }
+}
+
+/// Adds the end of an hour.
+fn add_end(alloc: Global, page: &mut Page, all: usize, listed: usize) -> Result<(), AllocError>
+    ensures { OnOk result (page.new ≡ with_part page.old (end_part all listed)) }
+{
+    add_end_by(alloc, page, all == listed, listed)
+}
+
+/// All trades of an hour, and those of them that have their part.
+#[derive(Clone, Copy)]
+struct Hour<'a> {
+    all: &'a [TradeFact],
+    listed: &'a [TradeFact],
+}
+
+/// Adds an hour with trades that have their part.
+fn add_some_of_hour(
+    alloc: Global,
+    page: &mut Page,
+    participants: &Participants,
+    instruments: &Instruments,
+    reported: &Reported<'_>,
+    hour: &Hour<'_>,
+) -> Result<(), AllocError>
+    ensures { OnOk result (page.new ≡ with_parts page.old (some_of_hour participants.now instruments.now reported.now.linked reported.now.reports.now hour.now.all.now hour.now.listed.now)) }
+{
+    add_hour_head(alloc, page, HOUR, reported.reports, hour.all)?;
+    add_table(
+        alloc,
+        page,
+        participants,
+        instruments,
+        reported,
+        hour.listed,
+    )?;
+    add_end(alloc, page, hour.all.len(), hour.listed.len())
+}
+
+/// Adds an hour: its line, if none of its trades has its part.
+fn add_hour(
+    alloc: Global,
+    page: &mut Page,
+    participants: &Participants,
+    instruments: &Instruments,
+    reported: &Reported<'_>,
+    hour: &Hour<'_>,
+) -> Result<(), AllocError>
+    ensures { OnOk result (page.new ≡ with_parts page.old (hour_parts participants.now instruments.now reported.now.linked reported.now.reports.now hour.now.all.now hour.now.listed.now)) }
+{
+    if hour.listed.len() == 0 {
+        add_hour_head(alloc, page, HOUR_LINE, reported.reports, hour.all)
+    } else {
+        add_some_of_hour(alloc, page, participants, instruments, reported, hour)
+    }
+}
+
+/// The folds of trades by the hour.
+fn folds_by_hour(
+    alloc: Global,
+    reports: &[Event],
+    trades: &[TradeFact],
+) -> Result<Vec<Fold>, AllocError>
+    ensures { IfOk result (λ made. made.items ≡ folds (hours reports.now trades.now)) }
+{
+    let hours = hours_of(alloc, reports, trades)?;
+    folds_of(alloc, &hours)
+}
+
+/// The trades of a day, those of them that have their part, and the folds of both.
+#[derive(Clone, Copy)]
+struct Day<'a> {
+    all: &'a [TradeFact],
+    listed: &'a [TradeFact],
+    folds: &'a [Fold],
+}
+
+/// Adds each of these hours.
+fn add_each_hour(
+    alloc: Global,
+    page: &mut Page,
+    participants: &Participants,
+    instruments: &Instruments,
+    reported: &Reported<'_>,
+    day: &Day<'_>,
+) -> Result<(), AllocError>
+    ensures { OnOk result (page.new ≡ with_parts page.old (flat_map (fold_parts participants.now instruments.now reported.now.linked reported.now.reports.now day.now.all.now day.now.listed.now) day.now.folds.now)) }
+{
+    for fold in day.folds {
+        let all = within(day.all, *fold);
+        let listed = within(day.listed, *fold);
+        let hour = Hour { all, listed };
+        add_hour(alloc, page, participants, instruments, reported, &hour)?;
+    }
+    Ok(())
+}
+
+/// Adds trades by the hour, a fold each.
+fn add_by_hour(
+    alloc: Global,
+    page: &mut Page,
+    participants: &Participants,
+    instruments: &Instruments,
+    reported: &Reported<'_>,
+    trades: &[TradeFact],
+) -> Result<(), AllocError>
+    ensures { OnOk result (page.new ≡ with_parts page.old (by_hour participants.now instruments.now reported.now.linked reported.now.reports.now trades.now)) }
+{
+    let folds = folds_by_hour(alloc, reported.reports, trades)?;
+    let day = Day {
+        all: trades,
+        listed: up_to(trades, MOST_TRADES),
+        folds: &folds,
+    };
+    add_each_hour(alloc, page, participants, instruments, reported, &day)
+}
+
+/// Adds the trades: a table, or the hours.
+fn add_listed(
+    alloc: Global,
+    page: &mut Page,
+    participants: &Participants,
+    instruments: &Instruments,
+    reported: &Reported<'_>,
+    trades: &[TradeFact],
+) -> Result<(), AllocError>
+    ensures { OnOk result (page.new ≡ with_parts page.old (listed_parts participants.now instruments.now reported.now.linked reported.now.reports.now trades.now)) }
+{
+    if trades.len() <= 500 {
+        add_table(alloc, page, participants, instruments, reported, trades)
+    } else {
+        add_by_hour(alloc, page, participants, instruments, reported, trades)
+    }
+}
+
+/// Adds the section of a day with trades.
+fn add_some(
+    alloc: Global,
+    page: &mut Page,
+    participants: &Participants,
+    instruments: &Instruments,
+    reported: &Reported<'_>,
+    trades: &[TradeFact],
+) -> Result<(), AllocError>
+    ensures { OnOk result (page.new ≡ with_parts page.old (some_trades participants.now instruments.now reported.now.linked reported.now.reports.now trades.now)) }
+{
+    let count = grouped_text(alloc, trades.len() as u64)?;
+    page.add(TRADES, &[&count])?;
+    add_listed(alloc, page, participants, instruments, reported, trades)?;
+    page.add(TRADES_END, &[])
 }
 
 /// Adds the section of the trades, each with the row at which it was reported.
@@ -162,9 +416,9 @@ pub fn add_trades(
 ) -> Result<(), AllocError>
     ensures { OnOk result (page.new ≡ with_parts page.old (trades_parts participants.now instruments.now reported.now.linked reported.now.reports.now trades.now)) }
 {
-    let count = grouped_text(alloc, trades.len() as u64)?;
-    page.add(TRADES, &[&count])?;
-    let listed = first_of(trades);
-    add_each(alloc, page, participants, instruments, reported, listed)?;
-    page.add(TRADES_END, &[])
+    if trades.len() == 0 {
+        page.add(NO_TRADE, &[])
+    } else {
+        add_some(alloc, page, participants, instruments, reported, trades)
+    }
 }

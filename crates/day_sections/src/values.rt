@@ -13,14 +13,14 @@ use std::alloc::{AllocError, Global};
 use venue_rules::TrailRow;
 
 /// The text of an identifier.
-pub(crate) fn id_text(alloc: Global, id: &Identifier) -> Result<Vec<u8>, AllocError>
+pub fn id_text(alloc: Global, id: &Identifier) -> Result<Vec<u8>, AllocError>
     ensures { IfOk result (λ text. text.items ≡ id.now) }
 {
     Vec::from_slice(alloc, id.as_slice())
 }
 
 /// The text of an identifier; empty where there is none.
-pub(crate) fn text_or_empty(alloc: Global, id: &Option<Identifier>) -> Result<Vec<u8>, AllocError>
+pub fn text_or_empty(alloc: Global, id: &Option<Identifier>) -> Result<Vec<u8>, AllocError>
     ensures { IfOk result (λ text. text.items ≡ or_empty id.now) }
 {
     match id {
@@ -30,7 +30,7 @@ pub(crate) fn text_or_empty(alloc: Global, id: &Option<Identifier>) -> Result<Ve
 }
 
 /// The name of the sender of a row, by its place plus 1; empty for the clock.
-pub(crate) fn sender_at(participants: &Participants, from: u32) -> &[u8]
+pub fn sender_at(participants: &Participants, from: u32) -> &[u8]
     ensures { result.now ≡ sender_of participants.now from }
 {
     if from == 0 {
@@ -57,7 +57,7 @@ fn add_row_alone(alloc: Global, page: &mut Page, row: u64) -> Result<(), AllocEr
 }
 
 /// Adds the number of a row: a link, if the rows are on the page.
-pub(crate) fn add_row_number(
+pub fn add_row_number(
     alloc: Global,
     page: &mut Page,
     linked: bool,
@@ -83,7 +83,7 @@ pub fn are_shown(rows: &[TrailRow]) -> bool
 pub(crate) const MOST_TRADES: usize = 10_000;
 
 /// Whether a trade is on the page.
-pub(crate) fn is_listed(trade: u64) -> bool
+pub fn is_listed(trade: u64) -> bool
     ensures { result ≡ is_listed trade }
 {
     trade <= MOST_TRADES as u64
@@ -99,7 +99,7 @@ fn moment_of(row: Option<&TrailRow>) -> Option<Moment>
 }
 
 /// The moment of the last row.
-pub(crate) fn last_moment(rows: &[TrailRow]) -> Option<Moment>
+pub fn last_moment(rows: &[TrailRow]) -> Option<Moment>
     ensures { result ≡ last_moment rows.now }
 {
     moment_of(rows.last())

@@ -1,4 +1,4 @@
-use Rattle.std.proofs.Common.{ℕ, ◌+◌, List, ap, subst}
+use Rattle.std.proofs.Common.{◌+◌, List, ap, subst}
 use Rattle.std.specs.Prelude.{◌==◌, count_by}
 use Rattle.std.proofs.lemmas.List.{take_all}
 use Rattle.day_events.specs.declared.event.Event.{Event}

@@ -1,5 +1,4 @@
 use Rattle.std.proofs.Common.{◌≡◌, ◌++◌, drop, filter}
-use Rattle.day_events.specs.declared.event.Event.{Event}
 use Rattle.day_sections.specs.Picks.{is_picked}
 use Rattle.day_sections.proofs.picks.picked.Given as goal
 

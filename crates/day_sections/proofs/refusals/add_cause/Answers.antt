@@ -1,11 +1,10 @@
-use Rattle.std.proofs.Common.{◌∷◌, [], ◌∙◌, ap, sym, List, ℕ, length}
+use Rattle.std.proofs.Common.{◌∷◌, [], ◌∙◌, ap, List, ℕ, length}
 use Rattle.std.proofs.lemmas.Result.{on_ok_weaker}
 use Rattle.page_text.specs.Parts.{Part, with_part, with_parts}
 use Rattle.std.specs.List.{flat_map}
 use Rattle.std.specs.Prelude.{filter, take}
-use Rattle.day_tables.specs.Parts.{plain_part}
 use Rattle.day_sections.proofs.Walks.{in_frame}
-use Rattle.day_tables.specs.Values.{grouped, time_in}
+use Rattle.day_tables.specs.Values.{grouped}
 use Rattle.day_events.specs.declared.event.Event.{Event}
 use Rattle.day_sections.specs.declared.picks.Pick.TheVariants as pick
 use Rattle.day_sections.specs.declared.template.TheConstants.{CAUSE}

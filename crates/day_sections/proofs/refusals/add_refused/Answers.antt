@@ -1,6 +1,6 @@
-use Rattle.std.proofs.Common.{◌∷◌, [], ◌∙◌, ap, sym, List, ℕ, length}
+use Rattle.std.proofs.Common.{◌∷◌, [], ◌∙◌, ap, List, ℕ}
 use Rattle.std.proofs.lemmas.Result.{on_ok_weaker}
-use Rattle.page_text.specs.Parts.{with_part, with_parts}
+use Rattle.page_text.specs.Parts.{with_part}
 use Rattle.day_sections.specs.declared.template.TheConstants.{REFUSED}
 use Rattle.day_sections.specs.Values.{row_part}
 use Rattle.day_sections.proofs.refusals.add_refused.Goals as goal

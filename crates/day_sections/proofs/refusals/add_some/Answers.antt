@@ -1,11 +1,9 @@
-use Rattle.std.proofs.Common.{◌∷◌, [], ◌∙◌, ap, sym, List, ℕ, length}
+use Rattle.std.proofs.Common.{◌∷◌, [], ◌∙◌}
 use Rattle.std.proofs.lemmas.Result.{on_ok_weaker}
-use Rattle.page_text.specs.Parts.{with_part, with_parts}
+use Rattle.page_text.specs.Parts.{with_part}
 use Rattle.std.specs.List.{flat_map}
-use Rattle.std.specs.Prelude.{filter, take}
 use Rattle.day_tables.specs.Parts.{plain_part}
 use Rattle.day_sections.proofs.Walks.{in_frame}
-use Rattle.day_tables.specs.Values.{grouped, time_in}
 use Rattle.day_sections.specs.declared.template.TheConstants.{REFUSALS, TABLE_END}
 use Rattle.day_sections.specs.Refusals.{cause_parts, count_part}
 use Rattle.day_sections.proofs.refusals.add_some.Goals as goal

@@ -1,6 +1,6 @@
-use Rattle.std.proofs.Common.{◌∷◌, [], ◌∙◌, ap, sym, List, ℕ, length}
+use Rattle.std.proofs.Common.{◌∷◌, [], ◌∙◌, ap}
 use Rattle.std.proofs.lemmas.Result.{on_ok_weaker}
-use Rattle.page_text.specs.Parts.{with_part, with_parts}
+use Rattle.page_text.specs.Parts.{with_part}
 use Rattle.day_sections.specs.declared.template.TheConstants.{DEAL}
 use Rattle.day_tables.specs.Values.{grouped}
 use Rattle.day_sections.proofs.trades.add_deal.Goals as goal

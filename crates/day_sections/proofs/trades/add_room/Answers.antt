@@ -1,6 +1,6 @@
-use Rattle.std.proofs.Common.{◌∷◌, [], ◌∙◌, ap, sym, List, ℕ, length}
+use Rattle.std.proofs.Common.{◌∷◌, [], ◌∙◌}
 use Rattle.std.proofs.lemmas.Result.{on_ok_weaker}
-use Rattle.page_text.specs.Parts.{with_part, with_parts}
+use Rattle.page_text.specs.Parts.{with_part}
 use Rattle.day_sections.specs.declared.template.TheConstants.{IN_ROOM}
 use Rattle.day_sections.proofs.trades.add_room.Goals as goal
 
@@ -9,6 +9,6 @@ returns c =
     on_ok_weaker c.add.result
     (λ e. e ∙ (λ j. with_part c.args.page.now (record {
       template = IN_ROOM.now;
-      values = (c.deref.ensures.value ∙ c.in_ok-number.ensures) j ∷ [];
+      values = (c.deref.ensures.value ∙ c.in_ok-number.ensures) j ∷ (c.deref-2.ensures.value ∙ c.in_ok-number.ensures) j ∷ [];
     })))
     c.add.ensures.added

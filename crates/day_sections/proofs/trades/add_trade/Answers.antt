@@ -1,11 +1,11 @@
-use Rattle.std.proofs.Common.{◌∷◌, [], ◌∙◌, ap, sym, List, ℕ, length}
+use Rattle.std.proofs.Common.{◌∙◌, ap, List, ℕ}
 use Rattle.std.proofs.lemmas.Result.{on_ok_weaker}
 use Rattle.page_text.specs.Parts.{with_part, with_parts}
 use Rattle.std.proofs.Common.{Option}
 use Rattle.day_events.specs.declared.event.Event.{Event}
 use Rattle.day_tables.specs.Parts.{plain_part}
 use Rattle.day_sections.specs.declared.template.TheConstants.{CELL_END}
-use Rattle.day_sections.specs.Trades.{deal_part, head_part, place_part, row_of_part, trade_by}
+use Rattle.day_sections.specs.Trades.{deal_part, place_part, row_of_part, trade_by}
 use Rattle.day_sections.proofs.trades.add_trade.Goals as goal
 
 pub returns : goal.returns

@@ -1,6 +1,6 @@
-use Rattle.std.proofs.Common.{◌∷◌, [], ◌∙◌, ap, sym, List, ℕ, length}
+use Rattle.std.proofs.Common.{◌∷◌, [], ◌∙◌}
 use Rattle.std.proofs.lemmas.Result.{on_ok_weaker}
-use Rattle.page_text.specs.Parts.{with_part, with_parts}
+use Rattle.page_text.specs.Parts.{with_part}
 use Rattle.day_sections.specs.declared.template.TheConstants.{ROW_ALONE}
 use Rattle.day_sections.proofs.values.add_row_alone.Goals as goal
 

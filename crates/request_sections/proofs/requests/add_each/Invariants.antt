@@ -1,0 +1,9 @@
+use Rattle.std.proofs.Common.{◌≡◌, drop}
+use Rattle.std.specs.List.{flat_map}
+use Rattle.page_text.specs.Parts.{with_parts}
+use Rattle.request_sections.specs.Requests.{if_request_parts, sheet_of}
+use Rattle.request_sections.proofs.requests.add_each.Given as goal
+
+-- the parts so far, and then those of the others, are all
+abbrev pub invariant-loop-event : goal.invariant-loop-event
+invariant-loop-event l = with_parts l.page (flat_map (λ e. if_request_parts l.participants (sheet_of l.day) e e.what) (drop l.event-index l.rooms)) ≡ with_parts l.fn.page (flat_map (λ e. if_request_parts l.participants (sheet_of l.day) e e.what) l.rooms)
