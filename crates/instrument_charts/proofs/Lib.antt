@@ -1,1 +1,4 @@
+pub mod Making
 pub mod Walks
+-- each trade is charted
+mod EachTrade

@@ -1,6 +1,5 @@
 -- The trades on a chart: a glyph each, or of many the lowest to the highest price in each part of the day.
 use Rattle.std.specs.Prelude.{ℕ, ◌+◌, ◌*◌, ◌/◌, ◌%◌, ◌==◌, Bool, List, [], ◌∷◌, codes, decimal, Option, Some, None, if◌then◌else◌}
-use Rattle.fix_fields.specs.Forms.{price_text}
 use Rattle.page_text.specs.Parts.{Part}
 use Rattle.sef_moment.specs.Utc.{utc_text}
 use Rattle.day_sections.specs.Values.{is_listed}
@@ -12,6 +11,7 @@ use Rattle.instrument_charts.specs.declared.scale.Scale.{Scale}
 use Rattle.instrument_charts.specs.declared.template.TheConstants.{GLYPH, GLYPH_ALONE, RANGE, RANGES, RANGES_END}
 use Rattle.instrument_charts.specs.Prices.{covered}
 use Rattle.instrument_charts.specs.Scales.{across, down, part_of}
+use Rattle.instrument_charts.specs.Values.{price_in}
 
 -- with a link, if the trade is among those on the page
 abbrev pub glyph_template : ℕ → List ℕ
@@ -30,7 +30,7 @@ glyph_part s d = record {
   template = glyph_template d.number;
   values = decimal d.number ∷ shape_of d.is_request ∷ class_of d.is_request
       ∷ decimal (across s d.moment / 100) ∷ decimal (across s d.moment / 10 % 10) ∷ decimal (across s d.moment % 10) ∷ decimal (down s d.price)
-      ∷ decimal d.number ∷ time_in (utc_text d.moment) ∷ grouped d.quantity ∷ price_text d.price ∷ [];
+      ∷ decimal d.number ∷ time_in (utc_text d.moment) ∷ grouped d.quantity ∷ price_in s.tick d.price ∷ [];
 }
 
 abbrev pub glyph_parts : Scale → Deal → List Part

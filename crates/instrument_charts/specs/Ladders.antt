@@ -4,14 +4,13 @@ use Rattle.std.specs.List.{flat_map}
 use Rattle.std.specs.Ordering.{int_eq}
 use Rattle.fix_dictionary.specs.declared.values.Side.{Side}
 use Rattle.fix_dictionary.specs.declared.values.Side.TheVariants.{Buy, Sell}
-use Rattle.fix_fields.specs.Forms.{price_text}
 use Rattle.page_text.specs.Parts.{Part}
 use Rattle.venue_rules.specs.Book.{is_side}
 use Rattle.day_tables.specs.Parts.{plain_part}
 use Rattle.day_tables.specs.Values.{grouped}
 use Rattle.instrument_charts.specs.declared.ladder.Rest.{Rest}
 use Rattle.instrument_charts.specs.declared.template.TheConstants.{LADDER, LADDER_END, LEVEL, MORE, NO_SIDE}
-use Rattle.instrument_charts.specs.Values.{kept_if, quoted_side, sides_of}
+use Rattle.instrument_charts.specs.Values.{kept_if, price_in, quoted_side, sides_of}
 
 abbrev pub is_at : ℕ → Side → Rest → Bool
 is_at x side r = r.instrument == x && is_side r.side side
@@ -46,14 +45,14 @@ orders_at p rs = count_by (λ r. int_eq r.price p) rs
 abbrev pub most_levels : ℕ
 most_levels = 8
 
-abbrev pub level_part : Side → List Rest → Rest → Part
-level_part side rs r = record {
+abbrev pub level_part : ℕ → Side → List Rest → Rest → Part
+level_part tick side rs r = record {
   template = LEVEL.now;
-  values = quoted_side side ∷ price_text r.price ∷ grouped (quantity_at r.price rs) ∷ grouped (orders_at r.price rs) ∷ decimal r.order ∷ [];
+  values = quoted_side side ∷ price_in tick r.price ∷ grouped (quantity_at r.price rs) ∷ grouped (orders_at r.price rs) ∷ decimal r.order ∷ [];
 }
 
-abbrev pub level_parts : Side → List Rest → Rest → List Part
-level_parts side rs r = level_part side rs r ∷ []
+abbrev pub level_parts : ℕ → Side → List Rest → Rest → List Part
+level_parts tick side rs r = level_part tick side rs r ∷ []
 
 abbrev pub more_part : Side → ℕ → Part
 more_part side n = record { template = MORE.now; values = sides_of side ∷ grouped (n - most_levels) ∷ [] }
@@ -64,12 +63,12 @@ no_part side = record { template = NO_SIDE.now; values = sides_of side ∷ [] }
 abbrev pub end_parts : Side → ℕ → List Part
 end_parts side n = if n == 0 then no_part side ∷ [] else (if nat_lt most_levels n then more_part side n ∷ [] else [])
 
-abbrev pub side_parts : Side → List Rest → List Part
-side_parts side rs = flat_map (level_parts side rs) (take most_levels (firsts None rs)) ++ end_parts side (length (firsts None rs))
+abbrev pub side_parts : ℕ → Side → List Rest → List Part
+side_parts tick side rs = flat_map (level_parts tick side rs) (take most_levels (firsts None rs)) ++ end_parts side (length (firsts None rs))
 
-abbrev pub ladder_parts : ℕ → List Rest → List Part
-ladder_parts x rs =
+abbrev pub ladder_parts : ℕ → ℕ → List Rest → List Part
+ladder_parts tick x rs =
     plain_part LADDER.now
-    ∷ (side_parts Buy (rests_in x Buy rs)
-    ++ (side_parts Sell (rests_in x Sell rs)
+    ∷ (side_parts tick Buy (rests_in x Buy rs)
+    ++ (side_parts tick Sell (rests_in x Sell rs)
     ++ plain_part LADDER_END.now ∷ []))

@@ -6,7 +6,11 @@ pub mod Scales
 pub mod Values
 -- the parts of a chart and of a book, and the section
 pub mod Glyphs
+pub mod Ticks
+pub mod Volumes
 pub mod Lines
 pub mod Ladders
 pub mod Rests
 pub mod Instruments
+-- each trade is charted
+pub mod EachTrade

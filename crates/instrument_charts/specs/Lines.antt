@@ -10,7 +10,7 @@ use Rattle.day_tables.specs.Parts.{plain_part}
 use Rattle.instrument_charts.specs.declared.lines.Point.{Point}
 use Rattle.instrument_charts.specs.declared.scale.Scale.{Scale}
 use Rattle.instrument_charts.specs.declared.template.TheConstants.{LINES, LINES_END, MOVE, OFFERS, STEP, STOP}
-use Rattle.instrument_charts.specs.Scales.{across, down}
+use Rattle.instrument_charts.specs.Scales.{across, height_text}
 
 abbrev pub price_at : Side → Best → Option ℤ
 price_at Buy b = b.bid
@@ -24,10 +24,10 @@ abbrev pub points_in : ℕ → Side → List Best → List Point
 points_in x side bs = filter_map (point_at x side) bs
 
 abbrev pub move_part : Scale → ℕ → ℤ → Part
-move_part s t p = record { template = MOVE.now; values = decimal (across s t) ∷ decimal (down s p) ∷ [] }
+move_part s t p = record { template = MOVE.now; values = decimal (across s t) ∷ height_text s p ∷ [] }
 
 abbrev pub step_part : Scale → ℕ → ℤ → Part
-step_part s t p = record { template = STEP.now; values = decimal (across s t) ∷ decimal (down s p) ∷ [] }
+step_part s t p = record { template = STEP.now; values = decimal (across s t) ∷ height_text s p ∷ [] }
 
 abbrev pub stop_part : Scale → ℕ → Part
 stop_part s t = record { template = STOP.now; values = decimal (across s t) ∷ [] }

@@ -1,7 +1,8 @@
 -- Where a moment and a price are on a chart: in ten thousandths of its width from the left, and in pixels from the
 -- top.
-use Rattle.std.specs.Prelude.{ℕ, ◌+◌, ◌-◌, ◌*◌, ◌/◌, min, max, ℤ, ◌-ℤ◌, unsigned_abs}
+use Rattle.std.specs.Prelude.{ℕ, ◌+◌, ◌-◌, ◌*◌, ◌/◌, min, max, ℤ, int_lt, List, codes, decimal, if◌then◌else◌}
 use Rattle.instrument_charts.specs.declared.scale.Scale.{Scale}
+use Rattle.instrument_charts.specs.Prices.{distance}
 
 -- milliseconds from the first row to the last
 abbrev pub length_of : Scale → ℕ
@@ -19,14 +20,10 @@ across s t = 100 + 9800 * passed s t / max 1 (length_of s)
 abbrev pub part_of : Scale → ℕ → ℕ → ℕ
 part_of s n t = n * passed s t / (length_of s + 1)
 
--- between two prices
-abbrev pub distance : ℤ → ℤ → ℕ
-distance p q = unsigned_abs (p -ℤ q)
-
 -- from 12 at the highest price to 192 at the lowest
 abbrev pub down : Scale → ℤ → ℕ
 down s p = 12 + 180 * distance s.range.high p / max 1 (distance s.range.high s.range.low)
 
--- half way from the first row to the last
-abbrev pub middle : Scale → ℕ
-middle s = min (s.first + length_of s / 2) 253_402_300_799_999
+-- of a price beyond the range a place outside the frame, which cuts its line
+abbrev pub height_text : Scale → ℤ → List ℕ
+height_text s p = if int_lt s.range.high p then codes "-9" else (if int_lt p s.range.low then codes "213" else decimal (down s p))

@@ -1,17 +1,18 @@
 //! The trades on a chart: each at its price, or of many the lowest to the highest.
 
-ghost use Rattle.std.specs.Prelude.{◌≡◌, ◌≤◌, OnOk};
+ghost use Rattle.std.specs.Prelude.{◌≡◌, ◌≤◌, IfOk, OnOk, None};
 ghost use Rattle.std.specs.List.{flat_map};
 ghost use Rattle.page_text.specs.Parts.{with_part, with_parts};
 ghost use Rattle.day_tables.specs.Parts.{each_from};
-ghost use Rattle.instrument_charts.specs.Glyphs.{class_of, in_part, glyph_part, glyph_parts, glyph_template, most_parts, range_in, range_part, range_parts, ranges_parts, shape_of};
+ghost use Rattle.instrument_charts.specs.Glyphs.{class_of, glyph_part, glyph_parts, glyph_template, most_parts, range_in, range_or_none, range_part, range_parts, ranges_parts, shape_of};
+ghost use Rattle.instrument_charts.specs.Values.{HasEach};
 
 use crate::deals::Deal;
 use crate::prices::{Range, covered};
 use crate::scale::{Scale, across, down, part_of};
 use crate::template::{GLYPH, GLYPH_ALONE, RANGE, RANGES, RANGES_END};
-use crate::values::{time_of, wide_number};
-use day_tables::{grouped_text, number_text, price_bytes};
+use crate::values::{price_in, time_of, wide_number};
+use day_tables::{grouped_text, number_text};
 use page_text::Page;
 use std::alloc::{AllocError, Global};
 
@@ -55,7 +56,7 @@ fn add_glyph(alloc: Global, page: &mut Page, scale: &Scale, deal: &Deal) -> Resu
     let y = wide_number(alloc, down(scale, deal.price))?;
     let time = time_of(alloc, deal.moment)?;
     let quantity = grouped_text(alloc, deal.quantity.get())?;
-    let price = price_bytes(alloc, deal.price)?;
+    let price = price_in(alloc, scale.tick, deal.price)?;
     page.add(
         glyph_template(deal.number),
         &[
@@ -89,26 +90,17 @@ pub(crate) fn add_glyphs(
     Ok(())
 }
 
-/// The range of the trades in a part of the day, with this trade before them.
-fn in_part(scale: &Scale, part: u64, deal: &Deal, later: Option<Range>) -> Option<Range>
-    ensures { result ≡ in_part scale.now part deal.now later }
+/// The range of the trades in each part of the day.
+fn ranges_of(alloc: Global, scale: &Scale, deals: &[Deal]) -> Result<Vec<Option<Range>>, AllocError>
+    ensures { IfOk result (λ ranges. HasEach None (λ k. range_in scale.now k deals.now) most_parts ranges.items) }
 {
-    if part_of(scale, PARTS, deal.moment) == u128::from(part) {
-        Some(covered(deal.price, later))
-    } else {
-        later
-    }
-}
-
-/// The range of the trades in a part of the day.
-fn range_in(scale: &Scale, deals: &[Deal], part: u64) -> Option<Range>
-    ensures { result ≡ range_in scale.now part deals.now }
-{
-    let mut range = None;
+    let mut ranges: Vec<Option<Range>> = vec![in alloc; None; 200]?;
     for at in (0..deals.len()).rev() {
-        range = in_part(scale, part, &deals[at], range);
+        let deal = &deals[at];
+        let part = part_of(scale, PARTS, deal.moment) as usize;
+        ranges[part] = Some(covered(deal.price, ranges[part]));
     }
-    range
+    Ok(ranges)
 }
 
 fn add_range(
@@ -132,13 +124,13 @@ fn add_part(
     alloc: Global,
     page: &mut Page,
     scale: &Scale,
-    deals: &[Deal],
     part: u64,
+    range: Option<Range>,
 ) -> Result<(), AllocError>
     requires { part ≤ 200 }
-    ensures { OnOk result (page.new ≡ with_parts page.old (range_parts scale.now deals.now part)) }
+    ensures { OnOk result (page.new ≡ with_parts page.old (range_or_none scale.now part range)) }
 {
-    match range_in(scale, deals, part) {
+    match range {
         None => Ok(()),
         Some(range) => add_range(alloc, page, scale, part, &range),
     }
@@ -152,8 +144,9 @@ fn add_each_part(
 ) -> Result<(), AllocError>
     ensures { OnOk result (page.new ≡ with_parts page.old (each_from (range_parts scale.now deals.now) 0 most_parts)) }
 {
+    let ranges = ranges_of(alloc, scale, deals)?;
     for part in 0..PARTS {
-        add_part(alloc, page, scale, deals, part)?;
+        add_part(alloc, page, scale, part, ranges[part as usize])?;
     }
     Ok(())
 }

@@ -7,8 +7,8 @@ ghost use Rattle.instrument_charts.specs.Ladders.{end_parts, firsts, is_at, is_n
 ghost use Rattle.instrument_charts.specs.Values.{kept_if};
 
 use crate::template::{LADDER, LADDER_END, LEVEL, MORE, NO_SIDE};
-use crate::values::{quoted_side, sides_of};
-use day_tables::{grouped_text, number_text, price_bytes, wide_text};
+use crate::values::{price_in, quoted_side, sides_of};
+use day_tables::{grouped_text, number_text, wide_text};
 use fix_dictionary::{Amount, Price, Side};
 use page_text::Page;
 use std::alloc::{AllocError, Global};
@@ -22,6 +22,14 @@ pub struct Rest {
     pub price: Price,
     pub left: Amount,
     pub order: u64,
+}
+
+/// A side of a book: the tick of its instrument, and its orders.
+#[derive(Clone, Copy)]
+struct Half<'a> {
+    tick: u64,
+    side: Side,
+    rests: &'a [Rest],
 }
 
 /// The most prices of a side.
@@ -125,19 +133,18 @@ fn orders_at(rests: &[Rest], price: Price) -> usize
 fn add_level(
     alloc: Global,
     page: &mut Page,
-    side: Side,
-    rests: &[Rest],
+    book: &Half<'_>,
     first: &Rest,
 ) -> Result<(), AllocError>
-    ensures { OnOk result (page.new ≡ with_part page.old (level_part side rests.now first.now)) }
+    ensures { OnOk result (page.new ≡ with_part page.old (level_part book.now.tick book.now.side book.now.rests.now first.now)) }
 {
-    let price = price_bytes(alloc, first.price)?;
-    let quantity = wide_text(alloc, quantity_at(rests, first.price))?;
-    let orders = grouped_text(alloc, orders_at(rests, first.price) as u64)?;
+    let price = price_in(alloc, book.tick, first.price)?;
+    let quantity = wide_text(alloc, quantity_at(book.rests, first.price))?;
+    let orders = grouped_text(alloc, orders_at(book.rests, first.price) as u64)?;
     let order = number_text(alloc, first.order)?;
     page.add(
         LEVEL,
-        &[quoted_side(side), &price, &quantity, &orders, &order],
+        &[quoted_side(book.side), &price, &quantity, &orders, &order],
     )
 }
 
@@ -145,14 +152,13 @@ fn add_level(
 fn add_levels(
     alloc: Global,
     page: &mut Page,
-    side: Side,
-    rests: &[Rest],
+    book: &Half<'_>,
     levels: &[Rest],
 ) -> Result<(), AllocError>
-    ensures { OnOk result (page.new ≡ with_parts page.old (flat_map (level_parts side rests.now) levels.now)) }
+    ensures { OnOk result (page.new ≡ with_parts page.old (flat_map (level_parts book.now.tick book.now.side book.now.rests.now) levels.now)) }
 {
     for first in levels {
-        add_level(alloc, page, side, rests, first)?;
+        add_level(alloc, page, book, first)?;
     }
     Ok(())
 }
@@ -197,27 +203,38 @@ fn count_of(levels: &[Rest]) -> usize
 }
 
 /// Adds the prices of a side's orders.
-fn add_side(alloc: Global, page: &mut Page, side: Side, rests: &[Rest]) -> Result<(), AllocError>
-    ensures { OnOk result (page.new ≡ with_parts page.old (side_parts side rests.now)) }
+fn add_side(alloc: Global, page: &mut Page, book: &Half<'_>) -> Result<(), AllocError>
+    ensures { OnOk result (page.new ≡ with_parts page.old (side_parts book.now.tick book.now.side book.now.rests.now)) }
 {
-    let levels = firsts(alloc, rests)?;
-    add_levels(alloc, page, side, rests, best_of(&levels))?;
-    add_end(alloc, page, side, count_of(&levels))
+    let levels = firsts(alloc, book.rests)?;
+    add_levels(alloc, page, book, best_of(&levels))?;
+    add_end(alloc, page, book.side, count_of(&levels))
 }
 
 /// Adds the book of an instrument.
 pub(crate) fn add_ladder(
     alloc: Global,
     page: &mut Page,
+    tick: u64,
     rests: &[Rest],
     instrument: u32,
 ) -> Result<(), AllocError>
-    ensures { OnOk result (page.new ≡ with_parts page.old (ladder_parts instrument rests.now)) }
+    ensures { OnOk result (page.new ≡ with_parts page.old (ladder_parts tick instrument rests.now)) }
 {
     let bids = rests_in(alloc, rests, instrument, Side::Buy)?;
     let offers = rests_in(alloc, rests, instrument, Side::Sell)?;
     page.add(LADDER, &[])?;
-    add_side(alloc, page, Side::Buy, &bids)?;
-    add_side(alloc, page, Side::Sell, &offers)?;
+    let buyers = Half {
+        tick,
+        side: Side::Buy,
+        rests: &bids,
+    };
+    let sellers = Half {
+        tick,
+        side: Side::Sell,
+        rests: &offers,
+    };
+    add_side(alloc, page, &buyers)?;
+    add_side(alloc, page, &sellers)?;
     page.add(LADDER_END, &[])
 }

@@ -5,7 +5,7 @@ ghost use Rattle.std.specs.List.{cons_option};
 ghost use Rattle.page_text.specs.Parts.{with_part, with_parts};
 ghost use Rattle.instrument_charts.specs.Lines.{line_parts, lines_parts, move_part, point_at, points_in, price_at, spaced, stands_before, step_part, stop_part, turn_parts};
 
-use crate::scale::{Scale, across, down};
+use crate::scale::{Scale, across, height_text};
 use crate::template::{LINES, LINES_END, MOVE, OFFERS, STEP, STOP};
 use crate::values::wide_number;
 use day_events::Best;
@@ -115,7 +115,7 @@ fn add_move(
     ensures { OnOk result (page.new ≡ with_part page.old (move_part scale.now moment price)) }
 {
     let x = wide_number(alloc, across(scale, moment))?;
-    let y = wide_number(alloc, down(scale, price))?;
+    let y = height_text(alloc, scale, price)?;
     page.add(MOVE, &[&x, &y])
 }
 
@@ -130,7 +130,7 @@ fn add_step(
     ensures { OnOk result (page.new ≡ with_part page.old (step_part scale.now moment price)) }
 {
     let x = wide_number(alloc, across(scale, moment))?;
-    let y = wide_number(alloc, down(scale, price))?;
+    let y = height_text(alloc, scale, price)?;
     page.add(STEP, &[&x, &y])
 }
 

@@ -1,17 +1,20 @@
 //! Where a moment and a price are on a chart.
 
-ghost use Rattle.std.specs.Prelude.{◌≡◌};
-ghost use Rattle.instrument_charts.specs.Scales.{across, distance, down, length_of, middle, part_of, passed};
+ghost use Rattle.std.specs.Prelude.{◌≡◌, IfOk};
+ghost use Rattle.instrument_charts.specs.Scales.{across, down, height_text, length_of, part_of, passed};
 
-use crate::prices::Range;
+use crate::prices::{Range, distance};
+use crate::values::wide_number;
 use fix_dictionary::Price;
 use sef_moment::Moment;
+use std::alloc::{AllocError, Global};
 
-/// What a chart spans: the day, from its first row to its last, and a range of prices.
+/// What a chart spans: the day, from its first row to its last, and a range of prices, with their tick.
 #[derive(Clone, Copy)]
 pub struct Scale {
     pub first: Moment,
     pub last: Moment,
+    pub tick: u64,
     pub range: Range,
 }
 
@@ -46,13 +49,6 @@ pub(crate) fn part_of(scale: &Scale, parts: u64, moment: Moment) -> u128
     u128::from(parts) * u128::from(passed(scale, moment)) / (u128::from(length_of(scale)) + 1)
 }
 
-/// Between two prices, in millionths.
-fn distance(one: Price, other: Price) -> u64
-    ensures { result ≡ distance one other }
-{
-    one.get().abs_diff(other.get())
-}
-
 /// The place of a price, in pixels from the top: from 12 at the highest to 192 at the lowest.
 pub(crate) fn down(scale: &Scale, price: Price) -> u128
     ensures { result ≡ down scale.now price }
@@ -62,9 +58,15 @@ pub(crate) fn down(scale: &Scale, price: Price) -> u128
     12 + 180 * below / u128::from(height)
 }
 
-/// The moment half way from the first row to the last.
-pub(crate) fn middle(scale: &Scale) -> Moment
-    ensures { result ≡ middle scale.now }
+/// The place of a price as a line has it: outside the frame, which cuts the line, if it is beyond the range.
+pub(crate) fn height_text(alloc: Global, scale: &Scale, price: Price) -> Result<Vec<u8>, AllocError>
+    ensures { IfOk result (λ text. text.items ≡ height_text scale.now price) }
 {
-    scale.first.plus(length_of(scale) / 2)
+    if scale.range.high.get() < price.get() {
+        Vec::from_slice(alloc, b"-9")
+    } else if price.get() < scale.range.low.get() {
+        Vec::from_slice(alloc, b"213")
+    } else {
+        wide_number(alloc, down(scale, price))
+    }
 }

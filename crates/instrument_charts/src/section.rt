@@ -2,21 +2,23 @@
 
 ghost use Rattle.std.specs.Prelude.{◌≡◌, OnOk, length};
 ghost use Rattle.page_text.specs.Parts.{with_part, with_parts};
+ghost use Rattle.instruments.specs.Listing.{tick_of};
 ghost use Rattle.day_tables.specs.Parts.{each_from};
-ghost use Rattle.instrument_charts.specs.Instruments.{are_folded, are_many, chart_part, chart_parts, curve_parts, few_parts, instrument_parts, instruments_parts, opening_part, opening_template, sheet_of};
+ghost use Rattle.instrument_charts.specs.Instruments.{are_folded, are_many, chart_part, chart_parts, content_parts, curve_parts, few_parts, instrument_parts, instruments_parts, labels_parts, opening_part, opening_template, sheet_of};
 
 use crate::deals::{Deal, deals_in};
 use crate::glyphs::{add_glyphs, add_ranges};
 use crate::ladder::{Rest, add_ladder};
 use crate::lines::{Point, add_lines, points_in};
 use crate::prices::range_of;
-use crate::scale::{Scale, down, middle};
+use crate::scale::Scale;
 use crate::template::{
     CHART, CHART_END, FOLDED, INSTRUMENT_END, INSTRUMENTS, INSTRUMENTS_END, OPEN,
 };
-use crate::values::{time_of, wide_number};
+use crate::ticks::{add_prices, add_times};
+use crate::volume::add_volume;
 use day_events::Best;
-use day_tables::{grouped_text, price_bytes, symbol_at};
+use day_tables::{grouped_text, symbol_at};
 use fix_dictionary::Side;
 use instruments::Instruments;
 use page_text::Page;
@@ -80,40 +82,19 @@ fn add_opening(
 }
 
 /// Adds the frame of a chart.
-fn add_frame(
-    alloc: Global,
-    page: &mut Page,
-    scale: &Scale,
-    shown: &Shown<'_>,
-) -> Result<(), AllocError>
-    ensures { OnOk result (page.new ≡ with_part page.old (chart_part scale.now shown.now.symbol.now shown.now.deals.now)) }
+fn add_frame(alloc: Global, page: &mut Page, shown: &Shown<'_>) -> Result<(), AllocError>
+    ensures { OnOk result (page.new ≡ with_part page.old (chart_part shown.now.symbol.now shown.now.deals.now)) }
 {
-    let high = wide_number(alloc, down(scale, scale.range.high))?;
-    let low = wide_number(alloc, down(scale, scale.range.low))?;
-    let highest = price_bytes(alloc, scale.range.high)?;
-    let lowest = price_bytes(alloc, scale.range.low)?;
     let count = grouped_text(alloc, shown.deals.len() as u64)?;
-    let first = time_of(alloc, scale.first)?;
-    let half = time_of(alloc, middle(scale))?;
-    let last = time_of(alloc, scale.last)?;
-    page.add(
-        CHART,
-        &[
-            &high,
-            &highest,
-            &low,
-            &lowest,
-            shown.symbol,
-            &count,
-            &high,
-            &high,
-            &low,
-            &low,
-            &first,
-            &half,
-            &last,
-        ],
-    )
+    page.add(CHART, &[shown.symbol, &count])
+}
+
+/// Adds the labels of a chart.
+fn add_labels(alloc: Global, page: &mut Page, scale: &Scale) -> Result<(), AllocError>
+    ensures { OnOk result (page.new ≡ with_parts page.old (labels_parts scale.now)) }
+{
+    add_prices(alloc, page, scale)?;
+    add_times(alloc, page, scale)
 }
 
 /// Adds best prices and a glyph for each trade.
@@ -145,6 +126,20 @@ fn add_curve(
     }
 }
 
+/// Adds what stands in the frame of a chart.
+fn add_content(
+    alloc: Global,
+    page: &mut Page,
+    scale: &Scale,
+    shown: &Shown<'_>,
+) -> Result<(), AllocError>
+    ensures { OnOk result (page.new ≡ with_parts page.old (content_parts scale.now shown.now.deals.now shown.now.bids.now shown.now.offers.now)) }
+{
+    add_labels(alloc, page, scale)?;
+    add_curve(alloc, page, scale, shown)?;
+    add_volume(alloc, page, scale, shown.deals)
+}
+
 /// Adds a chart.
 fn add_chart(
     alloc: Global,
@@ -154,9 +149,20 @@ fn add_chart(
 ) -> Result<(), AllocError>
     ensures { OnOk result (page.new ≡ with_parts page.old (chart_parts scale.now shown.now.symbol.now shown.now.deals.now shown.now.bids.now shown.now.offers.now)) }
 {
-    add_frame(alloc, page, scale, shown)?;
-    add_curve(alloc, page, scale, shown)?;
+    add_frame(alloc, page, shown)?;
+    add_content(alloc, page, scale, shown)?;
     page.add(CHART_END, &[])
+}
+
+/// The tick of an instrument; a millionth where there is no such instrument.
+fn tick_at(instruments: &Instruments, instrument: u32) -> u64
+    ensures { result ≡ tick_of instruments.now instrument }
+{
+    if (instrument as usize) < instruments.len() {
+        instruments.get(instrument).tick
+    } else {
+        1
+    }
 }
 
 /// Adds an instrument, if it has a range of prices.
@@ -172,12 +178,14 @@ fn add_instrument(
     let deals = deals_in(alloc, day.deals, instrument)?;
     let bids = points_in(alloc, day.bests, instrument, Side::Buy)?;
     let offers = points_in(alloc, day.bests, instrument, Side::Sell)?;
-    match range_of(&deals, &bids, &offers) {
+    let tick = tick_at(instruments, instrument);
+    match range_of(tick, &deals, &bids, &offers) {
         None => Ok(()),
         Some(range) => {
             let scale = Scale {
                 first: day.first,
                 last: day.last,
+                tick,
                 range,
             };
             let shown = Shown {
@@ -188,7 +196,7 @@ fn add_instrument(
             };
             add_opening(alloc, page, are_folded(instruments), &shown)?;
             add_chart(alloc, page, &scale, &shown)?;
-            add_ladder(alloc, page, day.rests, instrument)?;
+            add_ladder(alloc, page, tick, day.rests, instrument)?;
             page.add(INSTRUMENT_END, &[])
         }
     }

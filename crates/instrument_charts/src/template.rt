@@ -2,7 +2,7 @@
 
 /// The head of the instruments.
 pub(crate) const INSTRUMENTS: &[u8] =
-    b"<section id=\"instruments\">\n<h2>Instruments<small>$count;</small></h2>\n<p class=\"lead\">Of these instruments each that has a trade or a best price: its trades from the first row to the last, whose dates are at the head of the page, the best bid (solid) and the best offer (dashed), and the book after the last row. At the left stand the highest and the lowest of its trades and best prices. A dot is a trade in the book, a diamond one in a request; of trades at one place the last is seen. Of changes of a best price within a 2,000th of the time the last is drawn. Of more than 400 trades the lowest to the highest price in 200 equal parts of the day, without best prices.</p>\n";
+    b"<section id=\"instruments\">\n<h2>Instruments<small>$count;</small></h2>\n<p class=\"lead\">Of these instruments each that has a trade or a best price: its trades from the first row to the last, the best bid (solid) and the best offer (dashed), the volume below, and the book after the last row. A dot is a trade in the book, a diamond one in a request; of trades at one place the last is seen. Of changes of a best price within a 2,000th of the time the last is drawn. The scale is that of the trades (without one, of the best prices), and of best prices no further from them than their range or eight ticks: one further off is not drawn, and a line that leaves the frame goes there. Of more than 400 trades the lowest to the highest price in 200 equal parts of the day, without best prices. The volume is that in 60 equal parts, of requests (red) on top of the book (gray); its greatest is written at the left. An axis without two round values has its ends: the lowest and the highest price, the first and the last moment. A midnight between two dates is the date that it begins.</p>\n";
 
 /// The end of the instruments.
 pub(crate) const INSTRUMENTS_END: &[u8] = b"</section>\n";
@@ -15,9 +15,17 @@ pub(crate) const OPEN: &[u8] =
 pub(crate) const FOLDED: &[u8] =
     b"<details class=\"fold inst\"><summary><b>$symbol;</b>, trades: $count;</summary>\n";
 
-/// The frame of a chart: the highest and the lowest price, and the times of the first row, half way, and the last.
+/// The frame of a chart; the labels of prices stand in the empty cell before it.
 pub(crate) const CHART: &[u8] =
-    b"<div class=\"plot\"><svg class=\"y\" height=\"224\" aria-hidden=\"true\"><text x=\"0\" y=\"$high;\" dy=\"4\">$highest;</text><text x=\"0\" y=\"$low;\" dy=\"4\">$lowest;</text></svg><svg class=\"x\" height=\"224\" role=\"img\" aria-label=\"$symbol;: prices over the day; trades: $count;\"><line class=\"gl\" x1=\"0\" x2=\"100%\" y1=\"$high;\" y2=\"$high;\"/><line class=\"gl\" x1=\"0\" x2=\"100%\" y1=\"$low;\" y2=\"$low;\"/><line class=\"ax\" x1=\"0\" x2=\"100%\" y1=\"204\" y2=\"204\"/><text x=\"1%\" y=\"220\" text-anchor=\"start\">$first;</text><text x=\"50%\" y=\"220\" text-anchor=\"middle\">$middle;</text><text x=\"99%\" y=\"220\" text-anchor=\"end\">$last;</text>";
+    b"<div class=\"plot\"><span></span><svg class=\"x\" height=\"280\" role=\"img\" aria-label=\"$symbol;: prices and volume over the day; trades: $count;\"><line class=\"ax\" x1=\"0\" x2=\"100%\" y1=\"258\" y2=\"258\"/>";
+
+/// A price, with a line at it.
+pub(crate) const PRICE_TICK: &[u8] =
+    b"<svg y=\"$y;\" overflow=\"visible\"><line class=\"gl\" x2=\"100%\"/><text x=\"-8\" y=\"4\" text-anchor=\"end\">$price;</text></svg>";
+
+/// A time, with a stroke below the chart.
+pub(crate) const TIME_TICK: &[u8] =
+    b"<svg x=\"$x;.$x;$x;%\" y=\"258\" overflow=\"visible\"><line class=\"ax\" y2=\"5\"/><text y=\"18\" text-anchor=\"$anchor;\">$time;</text></svg>";
 
 /// The best bid, up to its line.
 pub(crate) const LINES: &[u8] =
@@ -55,6 +63,17 @@ pub(crate) const RANGE: &[u8] = b"M$x; $high;V$low;v2";
 
 /// The end of the prices of many trades.
 pub(crate) const RANGES_END: &[u8] = b"\"/></svg>";
+
+/// The volume: the greatest of a part of the day, and what begins the bars.
+pub(crate) const VOLUME: &[u8] =
+    b"<text x=\"-8\" y=\"229\" text-anchor=\"end\">$volume;</text><svg y=\"220\" width=\"100%\" height=\"38\" viewBox=\"0 0 10000 38\" preserveAspectRatio=\"none\">";
+
+/// The volume in a part of the day, in the book or in requests.
+pub(crate) const BAR: &[u8] =
+    b"<rect class=\"$class;\" x=\"$x;\" y=\"$y;\" width=\"130\" height=\"$height;\"/>";
+
+/// The end of the volume.
+pub(crate) const VOLUME_END: &[u8] = b"</svg>";
 
 /// The end of a chart.
 pub(crate) const CHART_END: &[u8] = b"</svg></div>\n";

@@ -8,5 +8,5 @@ use Rattle.instrument_charts.proofs.glyphs.add_part.Goals as goal
 pub returns-in-Some : goal.returns-in-Some
 returns-in-Some c =
     on_ok_weaker c.add_range.result
-    (λ e. e ∙ ap (λ (o : Option Range). with_parts c.args.page.now (range_or_none c.args.scale.now c.args.part o)) (sym c.in-Some.is ∙ c.range_in.ensures))
+    (λ e. e ∙ ap (λ (o : Option Range). with_parts c.args.page.now (range_or_none c.args.scale.now c.args.part o)) (sym c.in-Some.is))
     c.add_range.ensures

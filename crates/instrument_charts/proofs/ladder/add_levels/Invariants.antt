@@ -6,4 +6,4 @@ use Rattle.instrument_charts.proofs.ladder.add_levels.Given as goal
 
 -- the parts so far, and then those of the others, are all
 abbrev pub invariant-loop-first : goal.invariant-loop-first
-invariant-loop-first l = with_parts l.page (flat_map (level_parts l.side l.rests) (drop l.first-index l.levels)) ≡ with_parts l.fn.page (flat_map (level_parts l.side l.rests) l.levels)
+invariant-loop-first l = with_parts l.page (flat_map (level_parts l.book.tick l.book.side l.book.rests.now) (drop l.first-index l.levels)) ≡ with_parts l.fn.page (flat_map (level_parts l.book.tick l.book.side l.book.rests.now) l.levels)

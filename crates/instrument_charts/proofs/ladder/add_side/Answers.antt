@@ -10,9 +10,9 @@ use Rattle.instrument_charts.proofs.ladder.add_side.Goals as goal
 
 pub returns : goal.returns
 returns c =
-    let side = c.args.side in
-    let rs = c.args.rests.now in
-    let levels = λ (l : List Rest). flat_map (level_parts side rs) l in
+    let side = c.args.book.now.side in
+    let rs = c.args.book.now.rests.now in
+    let levels = λ (l : List Rest). flat_map (level_parts c.args.book.now.tick side rs) l in
     on_ok_weaker c.add_end.result
     (λ e. in_turn c.args.page.now c.add_levels.new.page c.add_end.new.page (levels (take most_levels (firsts None rs))) (end_parts side (length (firsts None rs)))
     (c.in_ok-add_levels.ensures ∙ ap (λ (l : List Rest). with_parts c.args.page.now (levels l)) (c.best_of.ensures ∙ ap (λ (l : List Rest). take most_levels l) (c.deref.ensures.value ∙ c.in_ok-levels.ensures)))

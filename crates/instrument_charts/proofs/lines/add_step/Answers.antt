@@ -10,6 +10,6 @@ returns c =
     on_ok_weaker c.add.result
     (λ e. e ∙ (λ j. with_part c.args.page.now (record {
       template = STEP.now;
-      values = (c.deref.ensures.value ∙ (c.in_ok-x.ensures ∙ ap decimal c.across.ensures)) j ∷ (c.deref-2.ensures.value ∙ (c.in_ok-y.ensures ∙ ap decimal c.down.ensures)) j ∷ [];
+      values = (c.deref.ensures.value ∙ (c.in_ok-x.ensures ∙ ap decimal c.across.ensures)) j ∷ (c.deref-2.ensures.value ∙ c.in_ok-y.ensures) j ∷ [];
     })))
     c.add.ensures.added
