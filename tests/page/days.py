@@ -1,9 +1,11 @@
 """days.py FOLDER: puts trails into FOLDER: sample, quotes and busy, as tests/cli/check_activity makes them; hostile, a
 day whose participants, instrument and identifiers are spelled like tags of HTML; charted, a day of thirteen
-instruments, of which one has 401 trades and another ten prices a side; and long_400 and long_20000, invented days of
-400 and 20,000 rows. Prints how many requests each of these has."""
+instruments, of which one has 401 trades and another nine prices a side and more; many, a day of 10,762 trades; small
+ones, and days at the limits of folds; and long_400 and long_20000, invented days of 400 and 20,000 rows, of which it
+prints how many requests each has."""
 import importlib.machinery
 import importlib.util
+import itertools
 import os
 import random
 import sqlite3
@@ -97,28 +99,98 @@ class Invented:
             self.send(who, f"35=AJ|693=h{len(self.rows)}|117=Q{self.quotes - self.random.randrange(len(makers))}|694=1|54=1|")
 
 
-def charted_rows():
-    """A sale and a purchase at one price for each of 401 trades in an instrument, in bursts. Between them, in the next
-    one, offers and bids at eleven prices each, of which one is replaced, one cancelled and three bought at once; and an
-    offer in a third one."""
-    texts = []
-    for k in range(401):
-        price = 2500000 + 2500 * (k // 40 % 7 - k % 3)
-        texts += [(who, f"35=D|11=t{k}|55=I1|54={side}|38=5|40=2|44={price / 1000000:.4f}|") for who, side in ((1, 2), (2, 1))]
-    others = []
-    for k in range(22):
-        price = 2500000 + 2500 * (-k // 2 if k % 2 else 1 + k // 2)
-        others.append((1 + k % 3, f"35=D|11=l{k}|55=I2|54={1 + (k + 1) % 2}|38={20 + k}|40=2|44={price / 1000000:.4f}|"))
-    others += [(1, "35=G|11=g|41=l0|38=15|40=2|44=2.5075|"), (2, "35=F|11=f|41=l1|")]
-    others += [(4, "35=D|11=i|55=I2|54=1|38=500|40=2|44=2.51|59=3|"), (5, "35=D|11=a|55=I3|54=2|38=7|40=2|44=-1|")]
-    for place, text in enumerate(others):
-        texts.insert(31 * place, text)
-    numbers, moment, rows = {}, START, []
-    for n, (who, text) in enumerate(texts, 1):
-        moment += 40000 if n % 50 == 0 else 7
+def numbered(messages):
+    """The rows of messages, each given with its participant's place and its moment."""
+    numbers, rows = {}, []
+    for n, (who, moment, text) in enumerate(messages, 1):
         numbers[who] = numbers.get(who, 1) + 1
         rows.append((n, who, numbers[who], moment, text.replace("|", "\1").encode()))
     return rows
+
+
+def order(name, symbol, side, quantity, price, more=""):
+    return f"35=D|11={name}|55={symbol}|54={side}|38={quantity}|40=2|44={price / 1000000:.4f}|{more}"
+
+
+def charted_rows():
+    """A sale and a purchase at one price for each of 401 trades in an instrument, in bursts. Between them, in the next
+    one, offers and bids at thirteen prices each, of which one is replaced, one cancelled and three bought at once; an
+    offer in a third one; twelve bids in a fourth of one that does not trade; and prices far from a trade in a fifth."""
+    texts = []
+    for k in range(401):
+        price = 2500000 + 2500 * (k // 40 % 7 - k % 3)
+        texts += [(who, order(f"t{k}", "I1", side, 5, price)) for who, side in ((1, 2), (2, 1))]
+    others = []
+    for k in range(26):
+        price = 2500000 + 2500 * (-k // 2 if k % 2 else 1 + k // 2)
+        others.append((1 + k % 3, order(f"l{k}", "I2", 1 + (k + 1) % 2, 20 + k, price)))
+    others += [(1, "35=G|11=g|41=l0|38=15|40=2|44=2.5075|"), (2, "35=F|11=f|41=l1|")]
+    others += [(4, order("i", "I2", 1, 500, 2510000, "59=3|")), (5, order("a", "I3", 2, 7, -1000000))]
+    # a price that is far from the trade, then one that is eight ticks away, and one that is nine
+    others += [(who, order(f"r{price}", "I5", side, 5, price)) for who, side, price in (
+        (1, 2, 2500000000), (1, 2, 2520000), (2, 1, 2477500), (3, 2, 2500000), (2, 1, 2500000))]
+    others += [(6, order(f"z{k}", "I4", 1, 5, 1000000 - 2500 * k)) for k in range(12)]
+    for place, text in enumerate(others):
+        texts.insert(20 * place, text)
+    moments = itertools.accumulate(40000 if n % 50 == 0 else 7 for n in range(1, len(texts) + 1))
+    return numbered([(who, START + moment, text) for (who, text), moment in zip(texts, moments)])
+
+
+def many_rows():
+    """120 trades of two participants; then, in 56 batches, 10,640 of five with themselves, a delay after their offers
+    came; an hour later, one in a request and one in the next instrument."""
+    texts = []
+    for k in range(120):
+        texts += [(who, 400, order(f"t{k}", "I1", side, 5, 2500000 + 2500 * (k % 17))) for who, side in ((1, 2), (2, 1))]
+    for batch in range(56):
+        who, price = 1 + batch % 5, 2500000 - 2500 * batch
+        for side, wait in ((2, 120000), (1, 16000)):
+            texts += [(who, 2 if k else wait, order(f"b{batch}.{side}.{k}", "I1", side, 5, price)) for k in range(190)]
+    parties = "".join(f"448={name}|447=D|452=35|" for name in ("BETA", "GAMMA", "DELTA"))
+    texts += [(1, 3600000, f"35=R|131=r|146=1|55=I1|54=1|38=100|453=3|{parties}")]
+    texts += [(who, 400, f"35=S|117=s|131=R1|55=I1|133={price}|") for who, price in ((2, 2.5), (3, 2.4975))]
+    texts += [(1, 400, "35=AJ|693=h|117=Q2|694=1|"), (4, 400, order("l", "I2", 2, 9, 2500000))]
+    texts += [(5, 400, order("m", "I2", 1, 9, 2500000)), (5, 400, order("n", "I2", 1, 9, 2400000))]
+    moments = itertools.accumulate(ms for _, ms, _ in texts)
+    return numbered([(who, START + moment, text) for (who, _, text), moment in zip(texts, moments)])
+
+
+# Days at the limits of the folds, and one past them: how many requests, trades, trades of linked orders, orders that
+# are cancelled at once, and rows.
+LIMITS = {
+    "most_12": (12, 0, 0, 0, 120), "past_12": (13, 0, 0, 0, 121), "most_60": (60, 500, 0, 199, 1460),
+    "past_60": (61, 501, 0, 200, 1470), "most_300": (300, 400, 200, 0, 5000), "past_300": (301, 401, 201, 0, 5001),
+}
+
+
+def limit_rows(requests, trades, linked, cancelled, rows):
+    parties = "".join(f"448={name}|447=D|452=35|" for name in ("BETA", "GAMMA", "DELTA"))
+    texts = [(1, 1000, f"35=R|131=r{k}|146=1|55=I1|54=1|38=100|453=3|{parties}") for k in range(requests)]
+    for k in range(trades):
+        texts += [(who, 900, order(f"t{k}", "I1", side, 5, 2500000)) for who, side in ((1, 2), (2, 1))]
+    for batch in range(0, linked, 100):
+        of = range(batch, min(batch + 100, linked))
+        for who, side, wait in ((3, 2, 5), (4, 1, 20000)):
+            texts += [(who, wait if k == batch else 5, order(f"b{k}", "I2", side, 5, 2500000, f"583=L{k}|")) for k in of]
+    for k in range(cancelled):
+        texts += [(1, 5, order(f"c{k}", "I2", 1, 5, 2400000)), (1, 5, f"35=F|11=d{k}|41=c{k}|")]
+    texts += [(5, 5, f"35=F|11=f{k}|41=none|") for k in range(rows - len(texts))]
+    moments = itertools.accumulate(ms for _, ms, _ in texts)
+    return numbered([(who, START + moment, text) for (who, _, text), moment in zip(texts, moments)])
+
+
+# Days without a row and with one; with a best price that stands from the last row on; over midnight; of more dates.
+SMALL = {
+    "empty": [],
+    "one": [(1, START, order("a", "I1", 1, 10, 2500000))],
+    "last": [(1, START, order("a", "I1", 1, 10, 2500000)), (2, START + 5000, order("b", "I1", 2, 10, 2600000))],
+    "midnight": [
+        (1, START + 34199000, order("a", "I1", 1, 10, 2500000)), (2, START + 34219000, order("b", "I1", 2, 10, 2600000)),
+        (2, START + 34239000, order("c", "I1", 2, 10, 2500000)),
+    ],
+    "dates": [(1, START, order("a", "I1", 1, 10, 2500000)), (2, START + 3 * 86400000, order("b", "I1", 2, 4, 2500000))],
+    "year": [(1, START, order("a", "I1", 1, 10, -5000)), (2, START + 366 * 86400000, order("b", "I1", 2, 10, -5000))],
+}
 
 
 def invented(path, tables, rows, names, instruments):
@@ -143,6 +215,11 @@ def main(folder):
     hostile(os.path.join(folder, "hostile"), tables)
     names, instruments = check_activity.PARTICIPANTS, list(check_activity.INSTRUMENTS)
     invented(os.path.join(folder, "charted"), tables, charted_rows(), names, [f"I{k}" for k in range(1, 14)])
+    invented(os.path.join(folder, "many"), tables, many_rows(), names, ["I1", "I2"])
+    for day, limits in LIMITS.items():
+        invented(os.path.join(folder, day), tables, limit_rows(*limits), names, ["I1", "I2"])
+    for day, messages in SMALL.items():
+        invented(os.path.join(folder, day), tables, numbered(messages), names, ["I1"])
     for many in LONG:
         rows = Invented(many, names, instruments).rows
         invented(os.path.join(folder, f"long_{many}"), tables, rows, names, instruments)

@@ -10,7 +10,7 @@ from browser import Browser, Failure, browser
 WIDTHS = (390, 800, 1280)
 COUNTS = {
     "sections": "section", "instruments": "#bulletin tbody tr", "charts": "#instruments > details", "trades": "#trades tbody tr",
-    "requests": "#requests > details", "causes": "#refusals tbody tr", "participants": "#participants tbody tr",
+    "requests": "#requests .rfq", "causes": "#refusals tbody tr", "participants": "#participants tbody tr",
     "linked": "#linked tbody tr", "alarms": "#alarms tbody tr", "rows": "#rows tbody tr",
 }
 # links to an anchor that is not there

@@ -1,4 +1,5 @@
 -- the rows, the head, and the page
+pub mod Folds
 pub mod Rows
 pub mod Sections
 -- what is written

@@ -1,7 +1,9 @@
 -- The head of the page, and the page: each value is a named function of the trail or of the run of its rows.
-use Rattle.std.specs.Prelude.{ℕ, ◌-◌, List, [], ◌∷◌, ◌++◌, length, slice_get, Option, option_map}
+use Rattle.std.specs.Prelude.{ℕ, ◌-◌, List, [], ◌∷◌, ◌++◌, bytes_eq, codes, length, slice_get, Option, None, Some, option_map, if◌then◌else◌}
 use Rattle.day_events.specs.declared.best.Best.{Best}
 use Rattle.day_events.specs.declared.event.Event.{Event}
+use Rattle.day_events.specs.declared.priced_day.PricedDay.{PricedDay}
+use Rattle.day_events.specs.declared.shown.ShownPrice.{ShownPrice}
 use Rattle.day_page.specs.declared.style.TheConstants.{STYLE}
 use Rattle.day_page.specs.declared.template.TheConstants.{END, HEAD, TOP}
 use Rattle.page_text.specs.Parts.{Part}
@@ -14,23 +16,28 @@ use Rattle.venue_rules.specs.Facts.{History}
 use Rattle.venue_rules.specs.Market.{Market}
 use Rattle.venue_rules.specs.Readings.{trade_facts}
 use Rattle.venue_rules.specs.Run.{Input}
+use Rattle.surveillance.specs.declared.alarm.Alarm.{Alarm}
+use Rattle.surveillance.specs.declared.deeds.Deed.{Deed}
+use Rattle.surveillance.specs.declared.findings.Findings.{Findings}
+use Rattle.surveillance.specs.declared.pairs.LinkedTrade.{LinkedTrade}
 use Rattle.surveillance.specs.Alarms.{alarms_of, looked}
+use Rattle.surveillance.specs.Deeds.{deeds}
 use Rattle.surveillance.specs.Pairs.{linked_in}
 use Rattle.surveillance.specs.Thresholds.{usual}
+use Rattle.rule_counts.specs.Rules.{rules_parts}
 use Rattle.day_sections.specs.Alarms.{alarms_parts}
 use Rattle.day_sections.specs.Figures.{figures_part}
 use Rattle.day_sections.specs.Linked.{linked_trades_parts}
 use Rattle.day_sections.specs.People.{people_parts}
-use Rattle.day_sections.specs.Picks.{of_requests}
 use Rattle.day_sections.specs.Refusals.{causes, refusals_parts}
 use Rattle.day_sections.specs.Reports.{reports}
-use Rattle.day_sections.specs.Requests.{requests_parts}
+use Rattle.request_sections.specs.Requests.{requests_parts}
 use Rattle.day_sections.specs.Rooms.{rooms}
 use Rattle.day_sections.specs.Trades.{trades_parts}
 use Rattle.day_sections.specs.Values.{are_shown, last_moment as end_moment}
 use Rattle.day_tables.specs.Bulletin.{bulletin_parts}
 use Rattle.day_tables.specs.Parts.{plain_part}
-use Rattle.day_tables.specs.Values.{date_of, grouped, moment_of}
+use Rattle.day_tables.specs.Values.{date_in, date_of, grouped, moment_of}
 use Rattle.instrument_charts.specs.Deals.{deals, first_moment, last_moment}
 use Rattle.instrument_charts.specs.Instruments.{Sheet, instruments_parts}
 use Rattle.instrument_charts.specs.Rests.{rests}
@@ -46,13 +53,25 @@ first_utc rs = utc_of (slice_get rs 0)
 abbrev pub last_utc : List TrailRow → Option (List ℕ)
 last_utc rs = utc_of (slice_get rs (length rs - 1))
 
+-- the dates of a trail: that of its first row, and that of its last if it is another
+
+abbrev pub days_from : List ℕ → List ℕ → List ℕ
+days_from first last = if bytes_eq first last then first else first ++ (codes " to " ++ last)
+
+abbrev pub days_of : Option (List ℕ) → Option (List ℕ) → List ℕ
+days_of None last = codes "(no rows)"
+days_of (Some first) last = days_from (date_in first) (date_of last)
+
+abbrev pub days : Trail → List ℕ
+days t = days_of (first_utc t.rows) (last_utc t.rows)
+
 abbrev pub top_part : Market → Trail → Part
-top_part m t = record { template = TOP.now; values = m.participants.venue ∷ date_of (first_utc t.rows) ∷ [] }
+top_part m t = record { template = TOP.now; values = m.participants.venue ∷ days t ∷ [] }
 
 abbrev pub head_part : Market → Trail → Part
 head_part m t = record {
   template = HEAD.now;
-  values = m.participants.venue ∷ date_of (first_utc t.rows) ∷ grouped (length t.rows) ∷ moment_of (first_utc t.rows) ∷ moment_of (last_utc t.rows)
+  values = m.participants.venue ∷ days t ∷ grouped (length t.rows) ∷ moment_of (first_utc t.rows) ∷ moment_of (last_utc t.rows)
       ∷ grouped (length m.participants.names) ∷ grouped (length m.instruments) ∷ digest_text t
       ∷ sha256_text t.participants ∷ grouped (length t.participants) ∷ sha256_text t.instruments ∷ grouped (length t.instruments) ∷ [];
 }
@@ -60,9 +79,42 @@ head_part m t = record {
 abbrev pub head_parts : Market → Trail → List Part
 head_parts m t = top_part m t ∷ plain_part STYLE.now ∷ head_part m t ∷ []
 
--- the day in six figures and the bulletin, by the trades and by what the answers say
-abbrev pub counts_parts : Market → List TrailRow → History → List Event → List Part
-counts_parts m rs h es = figures_part m.participants rs (trade_facts h.facts) es ∷ bulletin_parts m.instruments (trade_facts h.facts)
+-- what is said of a day: what its answers say, the prices shown with its first quotes, and the changes of its best
+-- prices
+pub record Said : Type 0 where
+  pub events : List Event
+  pub shown : List ShownPrice
+  pub bests : List Best
+
+-- what surveillance finds in a day: its alarms by the usual bounds, its trades of linked orders, and what its
+-- participants did
+pub record Found : Type 0 where
+  pub alarms : List Alarm
+  pub linked : List LinkedTrade
+  pub deeds : List Deed
+
+abbrev pub said_of : PricedDay → Said
+said_of d = record { events = d.events.items; shown = d.shown.items; bests = d.bests.items }
+
+abbrev pub found_of : Findings → Found
+found_of f = record { alarms = f.alarms.items; linked = f.linked.items; deeds = f.deeds.items }
+
+abbrev pub found_in : Market → List TradeFact → Said → Found
+found_in m ts d = record { alarms = alarms_of usual m ts d.events d.shown; linked = linked_in m (looked d.events) ts; deeds = deeds d.events }
+
+-- what Part 37 asks, and the day's count
+abbrev pub law_parts : Market → History → Said → List LinkedTrade → List Part
+law_parts m h d linked = rules_parts m.instruments (record {
+  requests = length (rooms d.events);
+  trades = trade_facts h.facts;
+  events = d.events;
+  shown = d.shown;
+  linked = linked;
+})
+
+-- the day in six figures, the rules and the bulletin
+abbrev pub counts_parts : Market → List TrailRow → History → Said → List LinkedTrade → List Part
+counts_parts m rs h d linked = figures_part m.participants rs (trade_facts h.facts) d.events ∷ (law_parts m h d linked ++ bulletin_parts m.instruments (trade_facts h.facts))
 
 -- what the instruments' section shows: the trades at the moments of their reports, the changes of best prices, and what
 -- rests at the end
@@ -82,28 +134,25 @@ charts_parts m rs h reports bs = instruments_parts m.instruments (charted m rs h
 abbrev pub reported_parts : Market → List TrailRow → History → List Event → List Part
 reported_parts m rs h reports = trades_parts m.participants m.instruments (are_shown rs) reports (trade_facts h.facts)
 
--- the day in six figures, the bulletin, the instruments and the trades
-abbrev pub tables_parts : Market → List TrailRow → History → List Event → List Best → List Part
-tables_parts m rs h es bs = counts_parts m rs h es ++ (charts_parts m rs h (reports es) bs ++ reported_parts m rs h (reports es))
+-- the day in six figures, the rules, the bulletin, the instruments and the trades
+abbrev pub tables_parts : Market → List TrailRow → History → Said → List LinkedTrade → List Part
+tables_parts m rs h d linked = counts_parts m rs h d linked ++ (charts_parts m rs h (reports d.events) d.bests ++ reported_parts m rs h (reports d.events))
 
 -- the requests for quotes, the refusals and the participants
-abbrev pub answered_parts : Market → List TrailRow → History → List Event → List Part
-answered_parts m rs h es =
-    requests_parts m.participants (are_shown rs) (end_moment rs) (of_requests es) (rooms es)
-    ++ (refusals_parts m.participants (are_shown rs) es (causes es)
-    ++ people_parts m.participants rs (trade_facts h.facts) es)
+abbrev pub answered_parts : Market → List TrailRow → History → Said → List Deed → List Part
+answered_parts m rs h d ds =
+    requests_parts m.participants (are_shown rs) (end_moment rs) d.events d.shown (rooms d.events)
+    ++ (refusals_parts m.participants (are_shown rs) d.events (causes d.events)
+    ++ people_parts m.participants rs (trade_facts h.facts) d.events ds)
 
--- the trades of linked orders, and the alarms by the usual bounds
+-- the trades of linked orders, and the alarms
+abbrev pub watched_parts : Market → List TrailRow → Found → List Part
+watched_parts m rs f = linked_trades_parts m.participants (are_shown rs) f.linked ++ alarms_parts m.participants (are_shown rs) f.alarms
 
-abbrev pub watched_by : Market → List TrailRow → List TradeFact → List Event → List Part
-watched_by m rs ts es =
-    linked_trades_parts m.participants (are_shown rs) (linked_in m (looked es) ts)
-    ++ alarms_parts m.participants (are_shown rs) (alarms_of usual m ts es)
+abbrev pub page_with : Market → Trail → History → Said → Found → List Input → List Part
+page_with m t h d f read =
+    head_parts m t ++ (tables_parts m t.rows h d f.linked ++ (answered_parts m t.rows h d f.deeds ++ (watched_parts m t.rows f ++ (rows_parts m.participants t.rows read ++ plain_part END.now ∷ []))))
 
-abbrev pub watched_parts : Market → List TrailRow → History → List Event → List Part
-watched_parts m rs h es = watched_by m rs (trade_facts h.facts) es
-
--- the page of a trail, whose rows led to this history, answered this, changed best prices so, and spell these inputs
-abbrev pub page_parts : Market → Trail → History → List Event → List Best → List Input → List Part
-page_parts m t h es bs read =
-    head_parts m t ++ (tables_parts m t.rows h es bs ++ (answered_parts m t.rows h es ++ (watched_parts m t.rows h es ++ (rows_parts m.participants t.rows read ++ plain_part END.now ∷ []))))
+-- the page of a trail, whose rows led to this history, of which this is said, and spell these inputs
+abbrev pub page_parts : Market → Trail → History → Said → List Input → List Part
+page_parts m t h d read = page_with m t h d (found_in m (trade_facts h.facts) d) read

@@ -3,11 +3,11 @@ ghost use Rattle.std.specs.Prelude.{◌≡◌, IfOk, OnOk, option_copied, string
 ghost use Rattle.page_text.specs.Parts.{with_part, with_parts};
 ghost use Rattle.trail_digest.specs.Head.{digest_text, sha256_text};
 ghost use Rattle.trail_digest.specs.Trail.{trail_of};
-ghost use Rattle.day_page.specs.Sections.{first_utc, head_part, head_parts, last_utc, top_part, utc_of};
+ghost use Rattle.day_page.specs.Sections.{days_from, days_of, first_utc, head_part, head_parts, last_utc, top_part, utc_of};
 
 use crate::style::STYLE;
 use crate::template::{HEAD, TOP};
-use day_tables::{date_of, grouped_text, moment_of};
+use day_tables::{date_in, date_of, grouped_text, moment_of};
 use instruments::Instruments;
 use page_text::Page;
 use participants::Participants;
@@ -51,7 +51,34 @@ fn digest_text(alloc: Global, trail: &Contents) -> Result<String, AllocError>
     hex::encode(alloc, digest(trail))
 }
 
+/// One date, or two that differ.
+fn days_from(alloc: Global, first: &[u8], last: &[u8]) -> Result<Vec<u8>, AllocError>
+    ensures { IfOk result (λ days. days.items ≡ days_from first.now last.now) }
+{
+    let mut days = Vec::from_slice(alloc, first)?;
+    if first != last {
+        days.extend_from_slice(b" to ")?;
+        days.extend_from_slice(last)?;
+    }
+    Ok(days)
+}
+
+/// The dates of a trail: that of its first row, and that of its last if it is another.
+fn days_of(
+    alloc: Global,
+    first: &Option<[u8; 21]>,
+    last: &Option<[u8; 21]>,
+) -> Result<Vec<u8>, AllocError>
+    ensures { IfOk result (λ days. days.items ≡ days_of first.now last.now) }
+{
+    match first {
+        None => Vec::from_slice(alloc, b"(no rows)"),
+        Some(first) => days_from(alloc, date_in(first), date_of(last)),
+    }
+}
+
 fn add_top(
+    alloc: Global,
     page: &mut Page,
     participants: &Participants,
     instruments: &Instruments,
@@ -60,7 +87,9 @@ fn add_top(
     ensures { OnOk result (page.new ≡ with_part page.old (top_part (record { participants = participants.now; instruments = instruments.now }) (trail_of trail.now))) }
 {
     let first = first_utc(trail.rows);
-    page.add(TOP, &[participants.venue(), date_of(&first)])
+    let last = last_utc(trail.rows);
+    let days = days_of(alloc, &first, &last)?;
+    page.add(TOP, &[participants.venue(), &days])
 }
 
 fn add_identity(
@@ -74,6 +103,7 @@ fn add_identity(
 {
     let first = first_utc(trail.rows);
     let last = last_utc(trail.rows);
+    let days = days_of(alloc, &first, &last)?;
     let rows = grouped_text(alloc, trail.rows.len() as u64)?;
     let people = grouped_text(alloc, participants.len() as u64)?;
     let listed = grouped_text(alloc, instruments.len() as u64)?;
@@ -86,7 +116,7 @@ fn add_identity(
         HEAD,
         &[
             participants.venue(),
-            date_of(&first),
+            &days,
             &rows,
             moment_of(&first),
             moment_of(&last),
@@ -111,7 +141,7 @@ pub(crate) fn add_head(
 ) -> Result<(), AllocError>
     ensures { OnOk result (page.new ≡ with_parts page.old (head_parts (record { participants = participants.now; instruments = instruments.now }) (trail_of trail.now))) }
 {
-    add_top(page, participants, instruments, trail)?;
+    add_top(alloc, page, participants, instruments, trail)?;
     page.add(STYLE, &[])?;
     add_identity(alloc, page, participants, instruments, trail)
 }

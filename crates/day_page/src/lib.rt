@@ -1,6 +1,7 @@
 //! The day of a trail as one page of HTML.
 #![tactic(auto)]
 
+mod folds;
 mod head;
 mod printing;
 mod rows;

@@ -9,36 +9,32 @@ ghost use Rattle.venue_core.specs.Plan.{most_items};
 ghost use Rattle.venue_core.specs.Replay.{IsItem};
 ghost use Rattle.venue_core.specs.VenueFacts.{IsHistory};
 ghost use Rattle.venue_rules.specs.Facts.{History};
-ghost use Rattle.surveillance.specs.Alarms.{alarms_of, looked};
-ghost use Rattle.surveillance.specs.Pairs.{linked_in};
-ghost use Rattle.surveillance.specs.Thresholds.{usual};
-ghost use Rattle.day_sections.specs.Alarms.{alarms_parts};
-ghost use Rattle.day_sections.specs.Linked.{linked_trades_parts};
-ghost use Rattle.day_sections.specs.Values.{are_shown};
+ghost use Rattle.venue_rules.specs.Readings.{trade_facts};
 ghost use Rattle.day_page.specs.Printed.{EmitsPage, IsDay, IsPage};
-ghost use Rattle.day_page.specs.Sections.{answered_parts, charts_parts, counts_parts, reported_parts, tables_parts, watched_parts};
+ghost use Rattle.day_page.specs.Sections.{answered_parts, charts_parts, counts_parts, found_in, found_of, law_parts, reported_parts, said_of, tables_parts, watched_parts};
 
 use crate::head::add_head;
 use crate::rows::add_rows;
 use crate::template::END;
 use day_events::{Event, PricedDay, priced_day_of};
 use day_sections::{
-    Reported, add_alarms, add_figures, add_linked, add_people, add_refusals, add_requests,
-    add_trades, are_shown, reports_of,
+    Counted, Reported, add_alarms, add_figures, add_linked, add_people, add_refusals, add_trades,
+    are_shown, many, reports_of, rooms_of,
 };
 use day_tables::add_bulletin;
 use instrument_charts::{Charted, add_instruments, deals_of, first_moment, last_moment, rests_of};
 use instruments::Instruments;
 use page_text::Page;
 use participants::Participants;
+use request_sections::add_requests;
 use row_replay::rows_have_their_inputs;
+use rule_counts::{Ruled, add_rules};
 use std::alloc::{AllocError, Global};
 use std::io::Write;
-use surveillance::{alarms_of, linked_trades, usual_bounds};
+use surveillance::{Deed, Findings, LinkedTrade, Watched, findings_of, usual_bounds};
 use trade_blotter::PrintFault;
 use trail_digest::Contents;
-use venue_core::Venue;
-use venue_rules::{TradeFact, TrailRow};
+use venue_rules::TrailRow;
 
 fn write_text<W: Write>(text: &[u8], writer: &mut W) -> Result<(), PrintFault>
     ensures written { OnOk result (Appends (W.contents writer.old) (W.contents writer.new) text.now) }
@@ -48,6 +44,60 @@ fn write_text<W: Write>(text: &[u8], writer: &mut W) -> Result<(), PrintFault>
         Ok(()) => Ok(()),
         Err(_) => Err(PrintFault::Output),
     }
+}
+
+/// What surveillance finds in a day, by the usual bounds.
+fn found_in(alloc: Global, day: &PricedDay) -> Result<Findings, AllocError>
+    ensures { (h : History) → IsHistory day.now.venue h → IfOk result (λ found. found_of found ≡ found_in day.now.venue.market (trade_facts h.facts) (said_of day.now)) }
+{
+    let bounds = usual_bounds();
+    let venue = &day.venue;
+    let participants = venue.participants();
+    let instruments = venue.instruments();
+    let watched = Watched {
+        trades: venue.trades(),
+        events: &day.events,
+        shown: &day.shown,
+    };
+    findings_of(alloc, &bounds, participants, instruments, &watched)
+}
+
+/// Adds what Part 37 asks, and the day's count.
+fn add_law(
+    alloc: Global,
+    page: &mut Page,
+    day: &PricedDay,
+    linked: &[LinkedTrade],
+) -> Result<(), AllocError>
+    ensures { (h : History) → IsHistory day.now.venue h → OnOk result (page.new ≡ with_parts page.old (law_parts day.now.venue.market h (said_of day.now) linked.now)) }
+{
+    let requests = rooms_of(alloc, &day.events)?;
+    let ruled = Ruled {
+        requests: many(&requests),
+        trades: day.venue.trades(),
+        events: &day.events,
+        shown: &day.shown,
+        linked,
+    };
+    add_rules(alloc, page, day.venue.instruments(), &ruled)
+}
+
+/// Adds the day in six figures, the rules and the bulletin.
+fn add_counts(
+    alloc: Global,
+    page: &mut Page,
+    day: &PricedDay,
+    rows: &[TrailRow],
+    linked: &[LinkedTrade],
+) -> Result<(), AllocError>
+    ensures { (h : History) → IsHistory day.now.venue h → OnOk result (page.new ≡ with_parts page.old (counts_parts day.now.venue.market rows.now h (said_of day.now) linked.now)) }
+{
+    let participants = day.venue.participants();
+    let instruments = day.venue.instruments();
+    let trades = day.venue.trades();
+    add_figures(alloc, page, participants, rows, trades, &day.events)?;
+    add_law(alloc, page, day, linked)?;
+    add_bulletin(alloc, page, instruments, trades)
 }
 
 /// Adds the instruments: of each the trades and the best prices over time, and the book at the end.
@@ -77,15 +127,15 @@ fn add_charts(
 fn add_reported(
     alloc: Global,
     page: &mut Page,
-    venue: &Venue,
+    day: &PricedDay,
     rows: &[TrailRow],
     reports: &[Event],
 ) -> Result<(), AllocError>
-    ensures { (h : History) → IsHistory venue.now h → OnOk result (page.new ≡ with_parts page.old (reported_parts venue.now.market rows.now h reports.now)) }
+    ensures { (h : History) → IsHistory day.now.venue h → OnOk result (page.new ≡ with_parts page.old (reported_parts day.now.venue.market rows.now h reports.now)) }
 {
-    let participants = venue.participants();
-    let instruments = venue.instruments();
-    let trades = venue.trades();
+    let participants = day.venue.participants();
+    let instruments = day.venue.instruments();
+    let trades = day.venue.trades();
     let reported = Reported {
         linked: are_shown(rows),
         reports,
@@ -93,119 +143,73 @@ fn add_reported(
     add_trades(alloc, page, participants, instruments, &reported, trades)
 }
 
-/// Adds the day in six figures and the bulletin.
-fn add_counts(
-    alloc: Global,
-    page: &mut Page,
-    venue: &Venue,
-    rows: &[TrailRow],
-    events: &[Event],
-) -> Result<(), AllocError>
-    ensures { (h : History) → IsHistory venue.now h → OnOk result (page.new ≡ with_parts page.old (counts_parts venue.now.market rows.now h events.now)) }
-{
-    let participants = venue.participants();
-    let instruments = venue.instruments();
-    let trades = venue.trades();
-    add_figures(alloc, page, participants, rows, trades, events)?;
-    add_bulletin(alloc, page, instruments, trades)
-}
-
-/// Adds the day in six figures, the bulletin, the instruments and the trades.
+/// Adds the day in six figures, the rules, the bulletin, the instruments and the trades.
 fn add_tables(
     alloc: Global,
     page: &mut Page,
     day: &PricedDay,
     rows: &[TrailRow],
+    linked: &[LinkedTrade],
 ) -> Result<(), AllocError>
-    ensures { (h : History) → IsHistory day.now.venue h → OnOk result (page.new ≡ with_parts page.old (tables_parts day.now.venue.market rows.now h day.now.events.items day.now.bests.items)) }
+    ensures { (h : History) → IsHistory day.now.venue h → OnOk result (page.new ≡ with_parts page.old (tables_parts day.now.venue.market rows.now h (said_of day.now) linked.now)) }
 {
     let reports = reports_of(alloc, &day.events)?;
-    add_counts(alloc, page, &day.venue, rows, &day.events)?;
+    add_counts(alloc, page, day, rows, linked)?;
     add_charts(alloc, page, day, rows, &reports)?;
-    add_reported(alloc, page, &day.venue, rows, &reports)
+    add_reported(alloc, page, day, rows, &reports)
 }
 
 /// Adds the requests for quotes, the refusals and the participants.
 fn add_answered(
     alloc: Global,
     page: &mut Page,
-    venue: &Venue,
+    day: &PricedDay,
     rows: &[TrailRow],
-    events: &[Event],
+    deeds: &[Deed],
 ) -> Result<(), AllocError>
-    ensures { (h : History) → IsHistory venue.now h → OnOk result (page.new ≡ with_parts page.old (answered_parts venue.now.market rows.now h events.now)) }
+    ensures { (h : History) → IsHistory day.now.venue h → OnOk result (page.new ≡ with_parts page.old (answered_parts day.now.venue.market rows.now h (said_of day.now) deeds.now)) }
 {
-    let participants = venue.participants();
+    let participants = day.venue.participants();
     let linked = are_shown(rows);
-    let trades = venue.trades();
-    add_requests(alloc, page, participants, rows, events)?;
-    add_refusals(alloc, page, participants, linked, events)?;
-    add_people(alloc, page, participants, rows, trades, events)
-}
-
-/// Adds the trades of linked orders.
-fn add_pairs(
-    alloc: Global,
-    page: &mut Page,
-    participants: &Participants,
-    instruments: &Instruments,
-    rows: &[TrailRow],
-    trades: &[TradeFact],
-    events: &[Event],
-) -> Result<(), AllocError>
-    ensures { OnOk result (page.new ≡ with_parts page.old (linked_trades_parts participants.now (are_shown rows.now) (linked_in (record { participants = participants.now; instruments = instruments.now }) (looked events.now) trades.now))) }
-{
-    let linked = linked_trades(alloc, participants, instruments, trades, events)?;
-    add_linked(alloc, page, participants, are_shown(rows), &linked)
-}
-
-/// Adds the alarms, by the usual bounds.
-fn add_raised(
-    alloc: Global,
-    page: &mut Page,
-    participants: &Participants,
-    instruments: &Instruments,
-    rows: &[TrailRow],
-    trades: &[TradeFact],
-    events: &[Event],
-) -> Result<(), AllocError>
-    ensures { OnOk result (page.new ≡ with_parts page.old (alarms_parts participants.now (are_shown rows.now) (alarms_of usual (record { participants = participants.now; instruments = instruments.now }) trades.now events.now))) }
-{
-    let bounds = usual_bounds();
-    let alarms = alarms_of(alloc, &bounds, participants, instruments, trades, events)?;
-    add_alarms(alloc, page, participants, are_shown(rows), &alarms)
+    let counted = Counted {
+        rows,
+        trades: day.venue.trades(),
+        events: &day.events,
+        deeds,
+    };
+    add_requests(alloc, page, participants, rows, &day.events, &day.shown)?;
+    add_refusals(alloc, page, participants, linked, &day.events)?;
+    add_people(alloc, page, participants, &counted)
 }
 
 /// Adds the trades of linked orders, and the alarms.
 fn add_watched(
     alloc: Global,
     page: &mut Page,
-    venue: &Venue,
+    day: &PricedDay,
     rows: &[TrailRow],
-    events: &[Event],
+    found: &Findings,
 ) -> Result<(), AllocError>
-    ensures { (h : History) → IsHistory venue.now h → OnOk result (page.new ≡ with_parts page.old (watched_parts venue.now.market rows.now h events.now)) }
+    ensures { OnOk result (page.new ≡ with_parts page.old (watched_parts day.now.venue.market rows.now (found_of found.now))) }
 {
-    let participants = venue.participants();
-    let instruments = venue.instruments();
-    let trades = venue.trades();
-    add_pairs(alloc, page, participants, instruments, rows, trades, events)?;
-    add_raised(alloc, page, participants, instruments, rows, trades, events)
+    let participants = day.venue.participants();
+    add_linked(alloc, page, participants, are_shown(rows), &found.linked)?;
+    add_alarms(alloc, page, participants, are_shown(rows), &found.alarms)
 }
 
 /// The page of a trail, whose rows led to this day.
 fn page_made(alloc: Global, day: &PricedDay, trail: &Contents) -> Result<Page, AllocError>
     requires kept { All IsItem (trail_of trail.now).rows }
-    ensures { (h : History) → IsHistory day.now.venue h → IfOk result (λ page. IsPage day.now.venue.market (trail_of trail.now) h day.now.events.items day.now.bests.items page) }
+    ensures { (h : History) → IsHistory day.now.venue h → IfOk result (λ page. IsPage day.now.venue.market (trail_of trail.now) h (said_of day.now) page) }
 {
-    let venue = &day.venue;
-    let participants = venue.participants();
-    let instruments = venue.instruments();
+    let participants = day.venue.participants();
+    let instruments = day.venue.instruments();
+    let found = found_in(alloc, day)?;
     let mut page = Page::new(alloc);
     add_head(alloc, &mut page, participants, instruments, trail)?;
-    add_tables(alloc, &mut page, day, trail.rows)?;
-    add_answered(alloc, &mut page, venue, trail.rows, &day.events)?;
-    add_watched(alloc, &mut page, venue, trail.rows, &day.events)?;
+    add_tables(alloc, &mut page, day, trail.rows, &found.linked)?;
+    add_answered(alloc, &mut page, day, trail.rows, &found.deeds)?;
+    add_watched(alloc, &mut page, day, trail.rows, &found)?;
     add_rows(alloc, &mut page, participants, trail.rows)?;
     page.add(END, &[])?;
     Ok(page)

@@ -1,12 +1,13 @@
 //! The section of the rows.
 
-ghost use Rattle.std.specs.Prelude.{◌≡◌, All, OnOk};
+ghost use Rattle.std.specs.Prelude.{◌≡◌, ◌<◌, All, OnOk, length};
 ghost use Rattle.page_text.specs.Parts.{with_part};
 ghost use Rattle.venue_core.specs.Replay.{IsItem};
 ghost use Rattle.row_replay.specs.Inputs.{input_of};
-ghost use Rattle.day_page.specs.Rows.{AddsRow, AddsRows, AddsSection, fold_part, listed, message_part, row_part, tick_part};
+ghost use Rattle.day_page.specs.Rows.{AddsNext, AddsRow, AddsRows, AddsSection, listed, message_part, row_part, tick_part};
 
-use crate::template::{COLUMNS, MESSAGE, ROWS, ROWS_END, ROWS_FOLDED, ROWS_OPEN, TICK};
+use crate::folds::{add_opening, closing};
+use crate::template::{MESSAGE, ROWS, TICK};
 use day_sections::are_shown;
 use day_tables::{grouped_text, number_text};
 use fix_dictionary::App;
@@ -92,7 +93,24 @@ fn add_row(
     add_taken(alloc, page, participants, row, &taken)
 }
 
-/// Adds some rows, in order.
+/// Adds the row at this place of all, and before it what begins there.
+fn add_next(
+    alloc: Global,
+    page: &mut Page,
+    participants: &Participants,
+    all: &[TrailRow],
+    place: usize,
+    row: &TrailRow,
+) -> Result<(), AllocError>
+    requires kept { IsItem row.now }
+    requires within { place < length all.now }
+    ensures { OnOk result (AddsNext participants.now all.now place row.now page.old page.new) }
+{
+    add_opening(alloc, page, all, place, row)?;
+    add_row(alloc, page, participants, row)
+}
+
+/// Adds the rows, in order, and what begins before them.
 fn add_each(
     alloc: Global,
     page: &mut Page,
@@ -100,23 +118,12 @@ fn add_each(
     rows: &[TrailRow],
 ) -> Result<(), AllocError>
     requires kept { All IsItem rows.now }
-    ensures { OnOk result (AddsRows participants.now rows.now page.old page.new) }
+    ensures { OnOk result (AddsRows participants.now rows.now rows.now page.old page.new) }
 {
-    for row in rows {
-        add_row(alloc, page, participants, row)?;
+    for (place, row) in rows.iter().enumerate() {
+        add_next(alloc, page, participants, rows, place, row)?;
     }
     Ok(())
-}
-
-/// Begins the fold of the rows, which is open for at most 120.
-fn add_fold(page: &mut Page, rows: &[TrailRow]) -> Result<(), AllocError>
-    ensures { OnOk result (page.new ≡ with_part page.old (fold_part rows.now)) }
-{
-    if rows.len() <= 120 {
-        page.add(ROWS_OPEN, &[])
-    } else {
-        page.add(ROWS_FOLDED, &[])
-    }
 }
 
 /// Adds the section of the rows.
@@ -131,8 +138,6 @@ pub(crate) fn add_rows(
 {
     let count = grouped_text(alloc, rows.len() as u64)?;
     page.add(ROWS, &[&count])?;
-    add_fold(page, rows)?;
-    page.add(COLUMNS, &[])?;
     add_each(alloc, page, participants, listed(rows))?;
-    page.add(ROWS_END, &[])
+    page.add(closing(rows), &[])
 }

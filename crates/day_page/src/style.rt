@@ -76,19 +76,19 @@ tfoot td,tfoot th{padding-top:4px;border-bottom:1px solid var(--ink)}
 .n{text-align:right;white-space:nowrap}
 .c{text-align:center}
 .v{border-left:1px solid var(--hair);padding-left:12px}
-tr:target>*,.rfq:has(>:target)>summary{background:var(--tint)}
-.wide{overflow-x:auto}
+tr:target>*,.rfq:has(>:target)>summary,.short:target{background:var(--tint)}
+.wide{overflow-x:auto;background:linear-gradient(var(--paper),var(--paper)) right/24px 100% no-repeat local,linear-gradient(to left,var(--rule),transparent) right/16px 100% no-repeat scroll}
 .wide th:first-child{position:sticky;left:0;background:var(--paper)}
 .i{width:10px;height:10px;overflow:visible;vertical-align:-1px;margin-right:4px}
 .k{fill:var(--ink)}.ka{fill:var(--accent)}
 /* folding */
 details>summary{cursor:pointer;list-style-position:outside}
-details.fold>summary{font-size:13px;padding:5px 0;color:var(--soft)}
-details.fold>summary b{color:var(--ink)}
+details.fold>summary,p.fold{font-size:13px;padding:5px 0;color:var(--soft);font-variant-numeric:tabular-nums lining-nums}
+details.fold>summary b,p.fold b{color:var(--ink)}
 /* charts */
 svg text{font:11px var(--sans);fill:var(--soft);font-variant-numeric:tabular-nums lining-nums}
 .inst{break-inside:avoid}
-.plot{display:grid;grid-template-columns:84px minmax(0,1fr);padding-top:6px}
+.plot{display:grid;grid-template-columns:84px minmax(0,1fr);padding:6px 10px 0 0}
 .plot svg.x,.plot svg.y{display:block;width:100%;overflow:visible}
 .gl{stroke:var(--hair);stroke-width:1;shape-rendering:crispEdges}
 .ax{stroke:var(--ink);stroke-width:1;shape-rendering:crispEdges}
@@ -98,24 +98,36 @@ svg text{font:11px var(--sans);fill:var(--soft);font-variant-numeric:tabular-num
 .range{stroke:var(--bar);stroke-width:2}
 .dot{fill:var(--ink);stroke:var(--paper);stroke-width:1}
 .dia{fill:var(--accent);stroke:var(--paper);stroke-width:1}
+.vb{fill:var(--bar)}.va{fill:var(--accent)}
 a:hover .dot,a:hover .dia{stroke:var(--accent);stroke-width:3}
 .lad{width:auto;min-width:400px;margin:4px 0 12px}
 /* requests */
 .rfq{border-top:1px solid var(--rule);padding:7px 0 3px;break-inside:avoid}
 .rfq[open]{padding-bottom:16px}
-.rfq>summary{display:grid;grid-template-columns:46px 96px minmax(0,1fr) minmax(0,330px);gap:0 12px;align-items:baseline;font-variant-numeric:tabular-nums lining-nums}
+.rfq>summary,.short{display:grid;grid-template-columns:46px 96px minmax(0,1fr) minmax(0,330px);gap:0 12px;align-items:baseline;font-variant-numeric:tabular-nums lining-nums}
 .rfq>summary::-webkit-details-marker{display:none}
-.rfq>summary>b{font:600 16px/1.3 var(--serif)}
+.rfq>summary>b,.short>b{font:600 16px/1.3 var(--serif)}
 .rfq>summary>b::before{content:\"\";display:inline-block;border:4px solid transparent;border-left-color:var(--soft);margin:0 2px 1px -10px}
 .rfq[open]>summary>b::before{border-left-color:transparent;border-top-color:var(--soft);margin-bottom:-2px}
-.rfq>summary .out{text-align:right}
+.rfq>summary .out,.short .out{text-align:right}
 .out .a{color:var(--accent)}
 .asked{margin:8px 0 10px;display:grid;grid-template-columns:166px minmax(0,1fr);gap:3px 12px;font-size:13px}
 .asked dd{font-size:13px}
-.asked .lo::after{content:','}
+.asked .lo:has(+.lo)::after{content:','}
+.asked dd>.w{margin-right:.9em}
+.dim td{color:var(--soft)}
+.life{width:28%;min-width:140px;padding-left:10px;padding-right:24px;vertical-align:middle}
+thead .life{vertical-align:bottom}
+.life svg{display:block;width:100%;height:16px;overflow:visible}
+.life .bl{fill:var(--bar)}
+.life .wh,.life .hit{stroke:var(--rule);stroke-width:1;vector-effect:non-scaling-stroke}
+.life .hit{stroke:var(--accent);stroke-dasharray:2 2}
+.dim .lo:has(+.lo)::after{content:','}
+.law tbody th{font-weight:600;white-space:nowrap}
 /* rows */
 .rows td,.rows th{vertical-align:top;padding-top:5px;padding-bottom:5px}
 .rows code{display:block;color:var(--soft);margin-top:1px}
+.rows code.w{display:inline}
 .rows .say{width:44%}
 .rows p+p{margin-top:1px}
 footer{padding-top:24px;padding-bottom:40px;color:var(--soft);font-size:12px}
@@ -123,6 +135,7 @@ footer p{border-top:1px solid var(--rule);padding-top:8px;max-width:none}
 /* narrow */
 @media screen and (max-width:760px){
 .range{stroke-width:1}
+details.fold>summary{list-style-position:inside}
 main,header,footer,nav{padding-left:15px;padding-right:15px}
 header{padding-top:14px}
 h1{font-size:27px}
@@ -142,20 +155,21 @@ h1{font-size:27px}
 .trades tr>:nth-child(1){grid-area:1/1}
 .cards.trades tr>:nth-child(2){grid-area:1/3/2/5;text-align:right}
 .trades tr>:nth-child(3){grid-area:1/2}
-.trades tr>:nth-child(4){grid-area:2/2}
+.trades tr>:nth-child(4){grid-area:2/2;white-space:normal;overflow-wrap:anywhere}
 .trades tr>:nth-child(5){grid-area:2/3}
 .trades tr>:nth-child(5)::after{content:\" @\"}
 .trades tr>:nth-child(6){grid-area:2/4}
 .trades tr>:nth-child(9){grid-area:3/1}
 .trades tr>:nth-child(7),.trades tr>:nth-child(8){padding-left:0!important}
-.rfq>summary{grid-template-columns:46px minmax(0,1fr) auto}
-.rfq>summary>:nth-child(2){grid-area:1/3}
-.rfq>summary>:nth-child(3){grid-area:1/2}
-.rfq>summary .out{grid-area:2/2/3/4;text-align:left}
-.rfq>summary>b{padding-left:10px}
+.rfq>summary,.short{grid-template-columns:46px minmax(0,1fr) auto}
+.rfq>summary>:nth-child(2),.short>:nth-child(2){grid-area:1/3}
+.rfq>summary>:nth-child(3),.short>:nth-child(3){grid-area:1/2}
+.rfq>summary .out,.short .out{grid-area:2/2/3/4;text-align:left}
+.rfq>summary>b,.short>b{padding-left:10px}
 .asked{grid-template-columns:1fr}
 .asked dd{margin-bottom:4px}
-.plot{grid-template-columns:64px minmax(0,1fr)}
+.plot{grid-template-columns:96px minmax(0,1fr)}
+.plot svg text[text-anchor=end]{font-size:9px}
 .lad{width:100%;min-width:0}
 .ref tr{grid-template-columns:34px minmax(0,1fr)}
 .ref tr>:nth-child(1){grid-area:1/2}
@@ -168,8 +182,12 @@ h1{font-size:27px}
 .quotes tr>:nth-child(4){grid-area:1/4}
 .quotes tr>:nth-child(5){grid-area:2/2}
 .quotes tr>:nth-child(6){grid-area:2/3/3/5}
-.quotes tr>:nth-child(7){grid-area:3/2}
-.quotes tr>:nth-child(8){grid-area:3/3/4/5}
+.quotes tr>:nth-last-child(2){grid-area:3/2}
+.quotes tr>:last-child{grid-area:3/3/4/5}
+.quotes tr>.life{grid-area:4/1/5/5;min-width:0;padding:3px 0 2px!important}
+.life svg{overflow:hidden}
+.quotes .dim>*{grid-column:1/-1!important;grid-row:1!important}
+.law tr{grid-template-columns:minmax(0,1fr)}
 .rows tr{grid-template-columns:44px minmax(0,1fr) auto}
 .rows tr>:nth-child(1){grid-area:1/1}
 .rows tr>:nth-child(2){grid-area:1/3}
@@ -188,8 +206,8 @@ table{font-size:7.4pt}
 td,tbody th,thead th{padding:1.6pt 6pt 1.6pt 0}
 .v{padding-left:6pt}
 .lead{font-size:8.4pt}
-.rfq>summary{font-size:8.4pt;grid-template-columns:34pt 62pt minmax(0,1fr) minmax(0,215pt);gap:0 8pt}
-.rfq>summary>b{font-size:10pt}
+.rfq>summary,.short{font-size:8.4pt;grid-template-columns:34pt 62pt minmax(0,1fr) minmax(0,215pt);gap:0 8pt}
+.rfq>summary>b,.short>b{font-size:10pt}
 .rfq>summary>b::before{display:none}
 .asked{grid-template-columns:108pt minmax(0,1fr);margin:4pt 0 5pt}
 .facts .l dt{flex-basis:104pt}
@@ -203,7 +221,7 @@ h3{font-size:11pt;break-after:avoid}
 .six dd{font-size:22pt}
 tr,figure{break-inside:avoid}
 thead{display:table-header-group}
-.wide{overflow:visible}
+.wide{overflow:visible;background:none}
 a{text-decoration:none}
 details::details-content{content-visibility:visible;height:auto}
 }";

@@ -2,7 +2,7 @@ use Rattle.std.proofs.Common.{◌∙◌, ap}
 use Rattle.std.proofs.lemmas.Result.{on_ok_weaker}
 use Rattle.page_text.specs.Parts.{with_parts}
 use Rattle.day_sections.specs.Reports.{reports}
-use Rattle.day_page.specs.Sections.{charts_parts, counts_parts, reported_parts}
+use Rattle.day_page.specs.Sections.{charts_parts, reported_parts, said_of}
 use Rattle.day_page.proofs.Pages.{err_says_nothing, tables_are}
 use Rattle.day_page.proofs.printing.add_tables.Goals as goal
 
@@ -21,9 +21,9 @@ returns c = λ h is.
     let m = day.venue.market in
     let rs = c.args.rows.now in
     on_ok_weaker c.add_reported.result
-    (λ e. tables_are m rs h day.events.items c.in_ok-reports.reports.items day.bests.items c.args.page.now c.add_counts.new.page c.add_charts.new.page c.add_reported.new.page
+    (λ e. tables_are m rs h (said_of day) c.args.linked.now c.in_ok-reports.reports.items c.args.page.now c.add_counts.new.page c.add_charts.new.page c.add_reported.new.page
     (c.in_ok-reports.ensures ∙ ap reports c.deref.ensures.value)
-    (c.in_ok-add_counts.ensures h is ∙ (λ j. with_parts c.args.page.now (counts_parts m rs h (c.deref-2.ensures.value j))))
-    (c.in_ok-add_charts.ensures h is ∙ (λ j. with_parts c.add_counts.new.page (charts_parts m rs h (c.deref-3.ensures.value j) day.bests.items)))
-    (e ∙ (λ j. with_parts c.add_charts.new.page (reported_parts m rs h (c.deref-4.ensures.value j)))))
+    (c.in_ok-add_counts.ensures h is)
+    (c.in_ok-add_charts.ensures h is ∙ (λ j. with_parts c.add_counts.new.page (charts_parts m rs h (c.deref-2.ensures.value j) day.bests.items)))
+    (e ∙ (λ j. with_parts c.add_charts.new.page (reported_parts m rs h (c.deref-3.ensures.value j)))))
     (c.add_reported.ensures h is)

@@ -4,9 +4,12 @@ use Rattle.venue_core.specs.Replay.{IsItem}
 use Rattle.day_page.proofs.RowByRow.{added_more}
 use Rattle.day_page.proofs.rows.add_each.Goals as goal
 
-pub add_row-requires : goal.add_row-requires
-add_row-requires c = record { kept = subst IsItem (sym c.row-item.is) (All-get_or IsItem c.args.rows.now c.loop-row.row-index c.row-item.result c.loop-row-test.true c.requires.kept) }
+pub add_next-requires : goal.add_next-requires
+add_next-requires c = record {
+  kept = subst IsItem (sym c.index-rows-place.is) (All-get_or IsItem c.args.rows.now c.loop-place.place c.index-rows-place.result c.loop-place-test.true c.requires.kept);
+  within = c.loop-place-test.true;
+}
 
-pub loop-row-preserved : goal.loop-row-preserved
-loop-row-preserved c =
-    added_more c.args.participants.now c.args.rows.now c.loop-row.row-index c.row-item.result c.args.page.now c.loop-row.page c.add_row.new.page c.loop-row-test.true c.row-item.is c.loop-row.invariant c.in_ok-add_row.ensures
+pub loop-place-preserved : goal.loop-place-preserved
+loop-place-preserved c =
+    added_more c.args.participants.now c.args.rows.now c.args.rows.now c.loop-place.place c.index-rows-place.result c.args.page.now c.loop-place.page c.add_next.new.page c.loop-place-test.true c.index-rows-place.is c.loop-place.invariant c.in_ok-add_next.ensures

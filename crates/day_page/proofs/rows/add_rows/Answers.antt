@@ -12,8 +12,8 @@ add_each-requires c = record { kept = subst (λ (rs : List TrailRow). All IsItem
 
 pub returns : goal.returns
 returns c =
-    on_ok_weaker c.add-3.result
-    (rows_added c.args.participants.now c.args.rows.now c.listed.result.now c.args.page.now c.add.new.self c.add_fold.new.page c.add-2.new.self c.add_each.new.page c.add-3.new.self
-    c.listed.ensures (c.in_ok-add.ensures.added ∙ (λ j. with_part c.args.page.now (record { template = ROWS.now; values = (c.deref.ensures.value ∙ c.in_ok-count.ensures) j ∷ [] })))
-    c.in_ok-add_fold.ensures c.in_ok-add-2.ensures.added c.in_ok-add_each.ensures)
-    c.add-3.ensures.added
+    on_ok_weaker c.add-2.result
+    (rows_added c.args.participants.now c.args.rows.now c.listed.result.now c.closing.result.now c.args.page.now c.add.new.self c.add_each.new.page c.add-2.new.self
+    c.listed.ensures c.closing.ensures (c.in_ok-add.ensures.added ∙ (λ j. with_part c.args.page.now (record { template = ROWS.now; values = (c.deref.ensures.value ∙ c.in_ok-count.ensures) j ∷ [] })))
+    c.in_ok-add_each.ensures)
+    c.add-2.ensures.added
