@@ -1,11 +1,12 @@
--- Parts added one by one; what is summed and grouped one by one.
+-- Parts added one by one; what is picked, summed and grouped one by one.
 use Rattle.std.specs.Prelude.{◌≡◌, ℕ, zero, suc, ◌+◌, ◌-◌, ◌<◌, ◌≤◌, Bool, true, false, List, [], ◌∷◌, ◌++◌, length, filter, drop, cond, refl}
 use Rattle.std.specs.List.{sum_by}
-use Rattle.std.proofs.Common.{sym, ◌∙◌, ap, subst, arith, append_assoc, get_or}
+use Rattle.std.proofs.Common.{sym, ◌∙◌, ap, subst, arith, append_assoc, append-nil, get_or}
 use Rattle.std.proofs.lemmas.List.{at_drop_more, at_drop_all}
 use Rattle.std.proofs.lemmas.List.Sums.{sum_by-cons}
 use Rattle.page_text.specs.Laws.{PartsFollowParts}
 use Rattle.page_text.specs.Parts.{Part, with_part, with_parts}
+use Rattle.day_tables.specs.Lists.{kept_if}
 use Rattle.day_tables.specs.Parts.{each_from, framed}
 use Rattle.day_tables.specs.Values.{grouped_digits, separator}
 
@@ -39,6 +40,27 @@ pub counts_out : (f : ℕ → List Part) (k n : ℕ) (page whole : List ℕ) →
 counts_out f k n page whole past h =
     let none : n - k ≡ 0 = omega arith in
     ap (λ (j : ℕ). with_parts page (each_from f k j)) (sym none) ∙ h
+
+-- a loop that picks
+
+picked_first : {X : Type 0} (p : X → Bool) (is : Bool) (x : X) (xs : List X) → p x ≡ is → filter p (x ∷ xs) ≡ kept_if is x ++ filter p xs
+picked_first p true x xs h = rw h refl
+picked_first p false x xs h = rw h refl
+
+pub picks_on : {X : Type 0} (p : X → Bool) (xs : List X) (i : ℕ) (x : X) (is : Bool) (kept more whole : List X) → i < length xs → x ≡ get_or xs i x → is ≡ p x → more ≡ kept ++ kept_if is x
+    → kept ++ filter p (drop i xs) ≡ whole → more ++ filter p (drop (i + 1) xs) ≡ whole
+picks_on {X} p xs i x is kept more whole below at_i test k h =
+    let F : List X → List X = λ ys. kept ++ filter p ys in
+    ap (λ (l : List X). l ++ filter p (drop (i + 1) xs)) k
+    ∙ (append_assoc kept (kept_if is x) (filter p (drop (i + 1) xs))
+    ∙ (ap (λ (l : List X). kept ++ l) (sym (picked_first p is x (drop (i + 1) xs) (sym test)))
+    ∙ (ap (λ (y : X). F (y ∷ drop (i + 1) xs)) at_i
+    ∙ (sym (at_drop_more F xs i x below) ∙ h))))
+
+pub picks_out : {X : Type 0} (p : X → Bool) (xs : List X) (i : ℕ) (kept whole : List X) → length xs ≤ i → kept ++ filter p (drop i xs) ≡ whole → kept ≡ whole
+picks_out {X} p xs i kept whole past h =
+    let F : List X → List X = λ ys. kept ++ filter p ys in
+    sym (append-nil kept) ∙ (sym (at_drop_all F xs i past) ∙ h)
 
 -- a loop that sums
 

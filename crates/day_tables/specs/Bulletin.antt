@@ -1,9 +1,8 @@
 -- The daily bulletin: of each instrument that traded the prices, volumes and numbers of its trades (17 CFR 37.901,
 -- 16.01).
 use Rattle.std.specs.Prelude.{ℕ, ℤ, ◌+◌, ◌==◌, Bool, true, false, ◌&&◌, List, [], ◌∷◌, ◌++◌, length, decimal, count_by, sum_by, int_lt, is_none, is_some, Option, Some, None, if◌then◌else◌}
-use Rattle.fix_fields.specs.Forms.{price_text}
 use Rattle.instruments.specs.declared.instruments.Instrument.{Instrument}
-use Rattle.instruments.specs.Listing.{symbol_of}
+use Rattle.instruments.specs.Listing.{symbol_of, tick_of}
 use Rattle.page_text.specs.Parts.{Part}
 use Rattle.venue_rules.specs.declared.trail.TradeFact.{TradeFact}
 use Rattle.day_tables.specs.declared.template.TheConstants.{BULLETIN, BULLETIN_END, NO_BULLETIN, TRADED}
@@ -11,7 +10,7 @@ use Rattle.day_tables.specs.declared.bulletin.Place.{Place}
 use Rattle.day_tables.specs.declared.bulletin.Place.TheVariants.{Anywhere, Book, Request}
 use Rattle.day_tables.specs.declared.bulletin.Span.{Span}
 use Rattle.day_tables.specs.Parts.{each_from, framed, plain_part}
-use Rattle.day_tables.specs.Values.{grouped}
+use Rattle.day_tables.specs.Values.{grouped, price_in}
 
 -- Prices.
 
@@ -60,7 +59,8 @@ quantity x p ts = sum_by (moved x p) ts
 abbrev pub traded_part : List Instrument → List TradeFact → ℕ → Span → Part
 traded_part file ts x s = record {
   template = TRADED.now;
-  values = decimal x ∷ symbol_of file x ∷ price_text s.first ∷ price_text s.high ∷ price_text s.low ∷ price_text s.last
+  values = decimal x ∷ symbol_of file x
+      ∷ price_in (tick_of file x) s.first ∷ price_in (tick_of file x) s.high ∷ price_in (tick_of file x) s.low ∷ price_in (tick_of file x) s.last
       ∷ grouped (quantity (Some x) Anywhere ts) ∷ grouped (quantity (Some x) Book ts) ∷ grouped (quantity (Some x) Request ts)
       ∷ grouped (number (Some x) Anywhere ts) ∷ grouped (number (Some x) Book ts) ∷ grouped (number (Some x) Request ts) ∷ [];
 }

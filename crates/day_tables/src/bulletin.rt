@@ -6,7 +6,7 @@ ghost use Rattle.day_tables.specs.Bulletin.{bulletin_parts, greater, is_at, is_o
 ghost use Rattle.day_tables.specs.Parts.{each_from};
 
 use crate::template::{BULLETIN, BULLETIN_END, NO_BULLETIN, TRADED};
-use crate::values::{grouped_text, number_text, price_bytes, symbol_at, wide_text};
+use crate::values::{grouped_text, number_text, symbol_at, tick_at, ticked_price, wide_text};
 use fix_dictionary::Price;
 use instruments::Instruments;
 use page_text::Page;
@@ -158,10 +158,11 @@ fn add_span(
 {
     let only = Some(instrument);
     let place = number_text(alloc, u64::from(instrument))?;
-    let open = price_bytes(alloc, span.first)?;
-    let high = price_bytes(alloc, span.high)?;
-    let low = price_bytes(alloc, span.low)?;
-    let last = price_bytes(alloc, span.last)?;
+    let tick = tick_at(instruments, instrument);
+    let open = ticked_price(alloc, tick, span.first)?;
+    let high = ticked_price(alloc, tick, span.high)?;
+    let low = ticked_price(alloc, tick, span.low)?;
+    let last = ticked_price(alloc, tick, span.last)?;
     let volume = wide_text(alloc, quantity(trades, only, Place::Anywhere))?;
     let in_book = wide_text(alloc, quantity(trades, only, Place::Book))?;
     let in_requests = wide_text(alloc, quantity(trades, only, Place::Request))?;

@@ -9,6 +9,6 @@ mod values;
 pub use bulletin::{Place, Span, add_bulletin, number, quantity};
 pub use laws::volumes_add_up;
 pub use values::{
-    date_in, date_of, grouped_text, moment_of, name_at, number_text, price_bytes, symbol_at,
-    time_in, wide_text,
+    are_dated, clock_text, date_in, date_of, grouped_text, moment_of, name_at, number_text,
+    price_bytes, symbol_at, tick_at, tick_by, ticked_price, time_in, wide_text,
 };

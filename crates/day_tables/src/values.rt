@@ -2,15 +2,16 @@
 ghost use Rattle.std.specs.Prelude.{◌≡◌, ◌++◌, ◌≤◌, OnOk, IfOk, decimal, length};
 ghost use Rattle.fix_fields.specs.Fields.{field_text};
 ghost use Rattle.fix_fields.specs.Forms.{price_text};
-ghost use Rattle.instruments.specs.Listing.{symbol_of};
+ghost use Rattle.instruments.specs.Listing.{instrument_of, symbol_of, tick_of};
 ghost use Rattle.participants.specs.Relations.{name_of};
-ghost use Rattle.day_tables.specs.Values.{date_in, date_of, grouped, grouped_digits, separator, time_in, moment_of, value_in};
+ghost use Rattle.day_tables.specs.Values.{are_dated, clock_text, date_in, date_of, grouped, grouped_digits, moment_of, places_of, price_in, separator, time_in, value_in, zeros};
 
 use fix_dictionary::Price;
 use fix_fields::FieldWriter;
 use instruments::Instruments;
 use itoa::Buffer;
 use participants::{Participants, Who};
+use sef_moment::Moment;
 use std::alloc::{AllocError, Global};
 
 /// The comma behind a digit that this many digits follow.
@@ -88,6 +89,52 @@ pub fn price_bytes(alloc: Global, price: Price) -> Result<Vec<u8>, AllocError>
     Vec::from_slice(alloc, value_of(field.bytes()))
 }
 
+/// The decimals of a number of millionths.
+fn places_of(millionths: u64) -> usize
+    ensures value { result ≡ places_of millionths }
+    ensures bound { result ≤ 6 }
+{
+    if millionths % 1_000_000 == 0 {
+        0
+    } else if millionths % 100_000 == 0 {
+        1
+    } else if millionths % 10_000 == 0 {
+        2
+    } else if millionths % 1_000 == 0 {
+        3
+    } else if millionths % 100 == 0 {
+        4
+    } else if millionths % 10 == 0 {
+        5
+    } else {
+        6
+    }
+}
+
+/// The zeros that a price wants, of which some decimals are present.
+fn zeros(wanted: usize, present: usize) -> &'static [u8]
+    requires { wanted ≤ 6 }
+    ensures { result.now ≡ zeros wanted present }
+{
+    if present >= wanted {
+        b""
+    } else if present == 0 {
+        &b".000000"[..wanted + 1]
+    } else {
+        &b"000000"[..wanted - present]
+    }
+}
+
+/// A price with the decimals of a tick, or all that it has.
+pub fn ticked_price(alloc: Global, tick: u64, price: Price) -> Result<Vec<u8>, AllocError>
+    ensures { IfOk result (λ text. text.items ≡ price_in tick price) }
+{
+    let mut text = price_bytes(alloc, price)?;
+    let present = places_of(price.get().unsigned_abs());
+    text.extend_from_slice(zeros(places_of(tick), present))?;
+    Ok(text)
+}
+
 /// A participant's name; empty where there is no such participant.
 pub fn name_at(participants: &Participants, who: Who) -> &[u8]
     ensures { result.now ≡ name_of participants.now who }
@@ -115,6 +162,27 @@ pub fn time_in(utc: &[u8]) -> &[u8]
 {
     let (_, time) = utc.split_at(9);
     time
+}
+
+/// Its date and time in a trail of several dates, else its time.
+pub fn clock_text(dated: bool, utc: &[u8]) -> &[u8]
+    requires { 9 ≤ length utc.now }
+    ensures { result.now ≡ clock_text dated utc.now }
+{
+    if dated { utc } else { time_in(utc) }
+}
+
+/// A day, in milliseconds.
+const DAY: u64 = 86_400_000;
+
+/// Whether a trail is of several dates, by its first and its last moment.
+pub fn are_dated(first: Option<Moment>, last: Option<Moment>) -> bool
+    ensures { result ≡ are_dated first last }
+{
+    match (first, last) {
+        (Some(first), Some(last)) => first.ms() / DAY != last.ms() / DAY,
+        _ => false,
+    }
 }
 
 /// The date of a row that may be absent.
@@ -145,5 +213,26 @@ pub fn symbol_at(instruments: &Instruments, place: u32) -> &[u8]
         instruments.get(place).symbol.as_slice()
     } else {
         b""
+    }
+}
+
+/// An instrument's tick, by its place; a millionth where there is no such instrument.
+pub fn tick_at(instruments: &Instruments, place: u32) -> u64
+    ensures { result ≡ tick_of instruments.now place }
+{
+    if (place as usize) < instruments.len() {
+        instruments.get(place).tick
+    } else {
+        1
+    }
+}
+
+/// That of the instrument with a symbol; a millionth where there is no such instrument.
+pub fn tick_by(instruments: &Instruments, symbol: &[u8]) -> u64
+    ensures { result ≡ tick_of instruments.now (instrument_of instruments.now symbol.now) }
+{
+    match instruments.find(symbol) {
+        Some(place) => instruments.get(place).tick,
+        None => 1,
     }
 }
