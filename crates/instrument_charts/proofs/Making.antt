@@ -1,19 +1,18 @@
 -- Lists of a thing for each part of the day, filled in one pass over the trades.
-use Rattle.std.specs.Prelude.{◌≡◌, ◌⊎◌, ℕ, suc, ◌+◌, ◌-◌, ◌*◌, ◌^◌, ◌<◌, ◌≤◌, Bool, Option, None, Some, List, [], ◌∷◌, length, drop, get_or, set, max, refl, if◌then◌else◌, ◌==◌, nat_le, ℤ, codes}
+use Rattle.std.specs.Prelude.{◌≡◌, ◌⊎◌, ℕ, suc, ◌+◌, ◌-◌, ◌*◌, ◌^◌, ◌<◌, ◌≤◌, Bool, Option, None, Some, List, [], ◌∷◌, length, drop, get_or, set, max, refl, if◌then◌else◌, ◌==◌}
 use Rattle.std.proofs.Math.Nat.{min-le_right}
 use Rattle.std.proofs.lemmas.Nat.{div_below}
 use Rattle.std.proofs.lemmas.List.Sums.{sum_by-cons}
 use Rattle.std.proofs.Common.{sym, ◌∙◌, ap, subst, arith, inl, inr, Result, Ok, Err, IsErrAnd, OnOk}
-use Rattle.std.proofs.lemmas.Bool.{cases_eq, eq-eqb, le-leb, ne_eqb}
+use Rattle.std.proofs.lemmas.Bool.{cases_eq, eq-eqb, ne_eqb}
 use Rattle.std.proofs.lemmas.List.{at_drop_more, length-set, get_or-set_same, get_or-set_other}
 use Rattle.std.proofs.lemmas.Option.{slice_get-get_or, get_or_from_slice_get}
 use Rattle.instrument_charts.specs.declared.deals.Deal.{Deal}
-use Rattle.instrument_charts.specs.declared.prices.Range.{Range}
-use Rattle.instrument_charts.specs.declared.scale.Scale.{Scale}
+use Rattle.chart_axes.specs.declared.range.Range.{Range}
+use Rattle.chart_axes.specs.declared.scale.Scale.{Scale}
 use Rattle.instrument_charts.specs.Glyphs.{in_part, most_parts, range_in}
-use Rattle.instrument_charts.specs.Prices.{covered}
-use Rattle.instrument_charts.specs.Scales.{length_of, part_of, passed}
-use Rattle.instrument_charts.specs.Ticks.{label_of, lowered, multiple, price_part, price_parts, raised, time_part, time_parts}
+use Rattle.chart_axes.specs.Ranges.{covered}
+use Rattle.chart_axes.specs.Scales.{length_of, part_of, passed}
 use Rattle.instrument_charts.specs.Values.{HasEach}
 use Rattle.instrument_charts.specs.Volumes.{bar_parts, counted, counted_at, greatest_from, most_bars, pixels, stack_parts, volume_in}
 
@@ -49,24 +48,6 @@ picked a b x y h = rw (eq-eqb a b h) refl
 
 pub passed_by : {X : Type 0} (a b : ℕ) (x y : X) → (a ≡ b → ⊥) → (if a == b then x else y) ≡ y
 passed_by a b x y h = rw (ne_eqb a b h) refl
-
-pub taken : {X : Type 0} (a b : ℕ) (x y : X) → a ≤ b → (if nat_le a b then x else y) ≡ x
-taken a b x y h = rw (le-leb a b h) refl
-
--- a label whose price is in the range, and one whose moment is in the trail
-
-pub price_shown : (s : Scale) (step k above high : ℕ) (p : ℤ) → above ≡ multiple step (raised s.range.low) k → high ≡ raised s.range.high → above ≤ high → p ≡ lowered above → price_part s p ∷ [] ≡ price_parts s step k
-price_shown s step k above high p is top low same =
-    ap (λ (q : ℤ). price_part s q ∷ []) (same ∙ ap lowered is)
-    ∙ sym (taken (multiple step (raised s.range.low) k) (raised s.range.high) (price_part s (lowered (multiple step (raised s.range.low) k)) ∷ []) []
-    (subst (λ (n : ℕ). n ≤ raised s.range.high) is (subst (λ (n : ℕ). above ≤ n) top low)))
-
-pub time_shown : (s : Scale) (span k ms t : ℕ) (text : List ℕ) → ms ≡ multiple span s.first k → ms ≤ s.last → t ≡ ms → text ≡ label_of s span t → time_part s (codes "middle") t text ∷ [] ≡ time_parts s span k
-time_shown s span k ms t text is low same label =
-    let at : t ≡ multiple span s.first k = same ∙ is in
-    ap (λ (x : List ℕ). time_part s (codes "middle") t x ∷ []) label
-    ∙ (ap (λ (n : ℕ). time_part s (codes "middle") n (label_of s span n) ∷ []) at
-    ∙ sym (taken (multiple span s.first k) s.last (time_part s (codes "middle") (multiple span s.first k) (label_of s span (multiple span s.first k)) ∷ []) [] (subst (λ (n : ℕ). n ≤ s.last) is low)))
 
 -- ranges, a trade earlier
 

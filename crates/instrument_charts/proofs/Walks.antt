@@ -1,19 +1,19 @@
 -- Parts for each of some things, and things that are picked, one by one.
-use Rattle.std.specs.Prelude.{◌≡◌, ℕ, suc, ◌+◌, ◌-◌, ◌<◌, ◌≤◌, ℤ, Bool, true, false, Option, None, Some, is_some, List, [], ◌∷◌, ◌++◌, length, filter, drop, map, refl}
+use Rattle.std.specs.Prelude.{◌≡◌, ℕ, suc, ◌+◌, ◌-◌, ◌<◌, ◌≤◌, ℤ, Bool, Option, None, Some, is_some, List, [], ◌∷◌, ◌++◌, length, drop, map, refl}
 use Rattle.std.specs.List.{cons_option, filter_map}
 use Rattle.std.proofs.Common.{sym, ◌∙◌, ap, arith, append_assoc, append-nil, get_or}
 use Rattle.std.proofs.lemmas.List.{at_drop_more, at_drop_all}
 use Rattle.venue_rules.specs.declared.facts.Fact.{Fact}
 use Rattle.page_text.specs.Parts.{Part, with_part, with_parts}
-pub use Rattle.day_tables.proofs.Walks.{sums_on, sums_out}
+use Rattle.day_tables.specs.Lists.{kept_if}
+pub use Rattle.day_tables.proofs.Walks.{picks_on, picks_out, sums_on, sums_out}
 pub use Rattle.day_sections.proofs.Walks.{follow, in_frame, in_turn, goes_on, goes_out, counts_on, counts_out, all_taken}
 use Rattle.instrument_charts.specs.declared.ladder.Rest.{Rest}
 use Rattle.instrument_charts.specs.declared.lines.Point.{Point}
-use Rattle.instrument_charts.specs.declared.scale.Scale.{Scale}
+use Rattle.chart_axes.specs.declared.scale.Scale.{Scale}
 use Rattle.instrument_charts.specs.Ladders.{firsts, is_new}
 use Rattle.instrument_charts.specs.Lines.{line_parts, spaced, stands_before, turn_parts}
 use Rattle.instrument_charts.specs.Rests.{book_of, rests_from}
-use Rattle.instrument_charts.specs.Values.{kept_if}
 
 -- a part, and then others
 pub in_front : (page one last : List ℕ) (p : Part) (qs : List Part) → one ≡ with_part page p → last ≡ with_parts one qs → last ≡ with_parts page (p ∷ qs)
@@ -37,27 +37,6 @@ pub line_out : (s : Scale) (ps : List Point) (i : ℕ) (drawn : Bool) (page last
 line_out s ps i drawn page last whole past e h =
     let F : List Point → List ℕ = λ ys. with_parts page (line_parts s drawn ys) in
     e ∙ (sym (at_drop_all F ps i past) ∙ h)
-
--- a loop that picks
-
-picked_first : {X : Type 0} (p : X → Bool) (is : Bool) (x : X) (xs : List X) → p x ≡ is → filter p (x ∷ xs) ≡ kept_if is x ++ filter p xs
-picked_first p true x xs h = rw h refl
-picked_first p false x xs h = rw h refl
-
-pub picks_on : {X : Type 0} (p : X → Bool) (xs : List X) (i : ℕ) (x : X) (is : Bool) (kept more whole : List X) → i < length xs → x ≡ get_or xs i x → is ≡ p x → more ≡ kept ++ kept_if is x
-    → kept ++ filter p (drop i xs) ≡ whole → more ++ filter p (drop (i + 1) xs) ≡ whole
-picks_on {X} p xs i x is kept more whole below at_i test k h =
-    let F : List X → List X = λ ys. kept ++ filter p ys in
-    ap (λ (l : List X). l ++ filter p (drop (i + 1) xs)) k
-    ∙ (append_assoc kept (kept_if is x) (filter p (drop (i + 1) xs))
-    ∙ (ap (λ (l : List X). kept ++ l) (sym (picked_first p is x (drop (i + 1) xs) (sym test)))
-    ∙ (ap (λ (y : X). F (y ∷ drop (i + 1) xs)) at_i
-    ∙ (sym (at_drop_more F xs i x below) ∙ h))))
-
-pub picks_out : {X : Type 0} (p : X → Bool) (xs : List X) (i : ℕ) (kept whole : List X) → length xs ≤ i → kept ++ filter p (drop i xs) ≡ whole → kept ≡ whole
-picks_out {X} p xs i kept whole past h =
-    let F : List X → List X = λ ys. kept ++ filter p ys in
-    sym (append-nil kept) ∙ (sym (at_drop_all F xs i past) ∙ h)
 
 -- a loop that makes other things of some
 

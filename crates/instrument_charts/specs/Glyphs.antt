@@ -4,14 +4,13 @@ use Rattle.page_text.specs.Parts.{Part}
 use Rattle.sef_moment.specs.Utc.{utc_text}
 use Rattle.day_sections.specs.Values.{is_listed}
 use Rattle.day_tables.specs.Parts.{each_from, framed, plain_part}
-use Rattle.day_tables.specs.Values.{grouped, time_in}
+use Rattle.day_tables.specs.Values.{clock_text, grouped, price_in}
 use Rattle.instrument_charts.specs.declared.deals.Deal.{Deal}
-use Rattle.instrument_charts.specs.declared.prices.Range.{Range}
-use Rattle.instrument_charts.specs.declared.scale.Scale.{Scale}
+use Rattle.chart_axes.specs.declared.range.Range.{Range}
+use Rattle.chart_axes.specs.declared.scale.Scale.{Scale}
 use Rattle.instrument_charts.specs.declared.template.TheConstants.{GLYPH, GLYPH_ALONE, RANGE, RANGES, RANGES_END}
-use Rattle.instrument_charts.specs.Prices.{covered}
-use Rattle.instrument_charts.specs.Scales.{across, down, part_of}
-use Rattle.instrument_charts.specs.Values.{price_in}
+use Rattle.chart_axes.specs.Ranges.{covered}
+use Rattle.chart_axes.specs.Scales.{across, down, has_dates, part_of}
 
 -- with a link, if the trade is among those on the page
 abbrev pub glyph_template : ℕ → List ℕ
@@ -30,7 +29,7 @@ glyph_part s d = record {
   template = glyph_template d.number;
   values = decimal d.number ∷ shape_of d.is_request ∷ class_of d.is_request
       ∷ decimal (across s d.moment / 100) ∷ decimal (across s d.moment / 10 % 10) ∷ decimal (across s d.moment % 10) ∷ decimal (down s d.price)
-      ∷ decimal d.number ∷ time_in (utc_text d.moment) ∷ grouped d.quantity ∷ price_in s.tick d.price ∷ [];
+      ∷ decimal d.number ∷ clock_text (has_dates s) (utc_text d.moment) ∷ grouped d.quantity ∷ price_in s.tick d.price ∷ [];
 }
 
 abbrev pub glyph_parts : Scale → Deal → List Part

@@ -11,8 +11,8 @@ use Rattle.day_tables.specs.Values.{grouped}
 use Rattle.instrument_charts.specs.declared.deals.Deal.{Deal}
 use Rattle.instrument_charts.specs.declared.ladder.Rest.{Rest}
 use Rattle.instrument_charts.specs.declared.lines.Point.{Point}
-use Rattle.instrument_charts.specs.declared.prices.Range.{Range}
-use Rattle.instrument_charts.specs.declared.scale.Scale.{Scale}
+use Rattle.chart_axes.specs.declared.range.Range.{Range}
+use Rattle.chart_axes.specs.declared.scale.Scale.{Scale}
 use Rattle.instrument_charts.specs.declared.section.Charted.{Charted}
 use Rattle.instrument_charts.specs.declared.template.TheConstants.{CHART, CHART_END, FOLDED, INSTRUMENT_END, INSTRUMENTS, INSTRUMENTS_END, OPEN}
 use Rattle.instrument_charts.specs.Deals.{deals_in}
@@ -20,7 +20,7 @@ use Rattle.instrument_charts.specs.Ladders.{ladder_parts}
 use Rattle.instrument_charts.specs.Lines.{lines_parts, points_in}
 use Rattle.instrument_charts.specs.Glyphs.{glyph_parts, ranges_parts}
 use Rattle.instrument_charts.specs.Prices.{range_of}
-use Rattle.instrument_charts.specs.Ticks.{prices_parts, times_parts}
+use Rattle.chart_axes.specs.Ticks.{prices_parts, times_parts}
 use Rattle.instrument_charts.specs.Volumes.{volume_parts}
 
 -- what the section shows of a day

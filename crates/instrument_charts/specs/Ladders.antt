@@ -6,11 +6,12 @@ use Rattle.fix_dictionary.specs.declared.values.Side.{Side}
 use Rattle.fix_dictionary.specs.declared.values.Side.TheVariants.{Buy, Sell}
 use Rattle.page_text.specs.Parts.{Part}
 use Rattle.venue_rules.specs.Book.{is_side}
+use Rattle.day_tables.specs.Lists.{kept_if}
 use Rattle.day_tables.specs.Parts.{plain_part}
-use Rattle.day_tables.specs.Values.{grouped}
+use Rattle.day_tables.specs.Values.{grouped, price_in}
 use Rattle.instrument_charts.specs.declared.ladder.Rest.{Rest}
 use Rattle.instrument_charts.specs.declared.template.TheConstants.{LADDER, LADDER_END, LEVEL, MORE, NO_SIDE}
-use Rattle.instrument_charts.specs.Values.{kept_if, price_in, quoted_side, sides_of}
+use Rattle.instrument_charts.specs.Values.{quoted_side, sides_of}
 
 abbrev pub is_at : ℕ → Side → Rest → Bool
 is_at x side r = r.instrument == x && is_side r.side side

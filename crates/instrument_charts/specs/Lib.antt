@@ -1,12 +1,9 @@
 -- trades, as a chart shows them, and the range of prices
 pub mod Deals
 pub mod Prices
--- where a moment and a price are on a chart
-pub mod Scales
 pub mod Values
 -- the parts of a chart and of a book, and the section
 pub mod Glyphs
-pub mod Ticks
 pub mod Volumes
 pub mod Lines
 pub mod Ladders

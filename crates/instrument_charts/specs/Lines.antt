@@ -8,9 +8,9 @@ use Rattle.page_text.specs.Parts.{Part}
 use Rattle.day_events.specs.declared.best.Best.{Best}
 use Rattle.day_tables.specs.Parts.{plain_part}
 use Rattle.instrument_charts.specs.declared.lines.Point.{Point}
-use Rattle.instrument_charts.specs.declared.scale.Scale.{Scale}
+use Rattle.chart_axes.specs.declared.scale.Scale.{Scale}
 use Rattle.instrument_charts.specs.declared.template.TheConstants.{LINES, LINES_END, MOVE, OFFERS, STEP, STOP}
-use Rattle.instrument_charts.specs.Scales.{across, height_text}
+use Rattle.chart_axes.specs.Scales.{across, height_text}
 
 abbrev pub price_at : Side → Best → Option ℤ
 price_at Buy b = b.bid

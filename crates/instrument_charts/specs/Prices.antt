@@ -1,18 +1,9 @@
 -- The range of the prices on a chart: that of the trades, and of the best prices near to them.
-use Rattle.std.specs.Prelude.{ℕ, ◌*◌, max, nat_le, ℤ, ◌-ℤ◌, unsigned_abs, int_lt, Bool, true, List, [], ◌∷◌, Option, Some, None, if◌then◌else◌}
-use Rattle.day_tables.specs.Bulletin.{greater, lesser}
+use Rattle.std.specs.Prelude.{ℕ, ◌*◌, max, nat_le, ℤ, int_lt, Bool, true, List, [], ◌∷◌, Option, Some, None, if◌then◌else◌}
+use Rattle.chart_axes.specs.declared.range.Range.{Range}
+use Rattle.chart_axes.specs.Ranges.{covered, distance}
 use Rattle.instrument_charts.specs.declared.deals.Deal.{Deal}
 use Rattle.instrument_charts.specs.declared.lines.Point.{Point}
-use Rattle.instrument_charts.specs.declared.prices.Range.{Range}
-
--- between two prices
-abbrev pub distance : ℤ → ℤ → ℕ
-distance p q = unsigned_abs (p -ℤ q)
-
--- with one price more
-abbrev pub covered : ℤ → Option Range → Range
-covered p None = record { low = p; high = p }
-covered p (Some r) = record { low = lesser p r.low; high = greater p r.high }
 
 -- with the prices of trades
 abbrev pub with_deals : Option Range → List Deal → Option Range

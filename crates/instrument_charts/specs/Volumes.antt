@@ -5,9 +5,9 @@ use Rattle.page_text.specs.Parts.{Part}
 use Rattle.day_tables.specs.Parts.{each_from, framed, plain_part}
 use Rattle.day_tables.specs.Values.{grouped}
 use Rattle.instrument_charts.specs.declared.deals.Deal.{Deal}
-use Rattle.instrument_charts.specs.declared.scale.Scale.{Scale}
+use Rattle.chart_axes.specs.declared.scale.Scale.{Scale}
 use Rattle.instrument_charts.specs.declared.template.TheConstants.{BAR, VOLUME, VOLUME_END}
-use Rattle.instrument_charts.specs.Scales.{part_of}
+use Rattle.chart_axes.specs.Scales.{part_of}
 
 abbrev pub most_bars : ℕ
 most_bars = 60

@@ -3,7 +3,7 @@
 ghost use Rattle.std.specs.Prelude.{◌≡◌, ◌++◌, [], IfOk, OnOk, option_copied};
 ghost use Rattle.std.specs.List.{cons_option};
 ghost use Rattle.instrument_charts.specs.Deals.{deal_by, deal_of, deals, deals_in, first_moment, is_in, last_moment, moment_or_start};
-ghost use Rattle.instrument_charts.specs.Values.{kept_if};
+ghost use Rattle.day_tables.specs.Lists.{kept_if};
 
 use day_events::Event;
 use day_sections::report_of;

@@ -8,11 +8,10 @@ ghost use Rattle.instrument_charts.specs.Glyphs.{class_of, glyph_part, glyph_par
 ghost use Rattle.instrument_charts.specs.Values.{HasEach};
 
 use crate::deals::Deal;
-use crate::prices::{Range, covered};
-use crate::scale::{Scale, across, down, part_of};
 use crate::template::{GLYPH, GLYPH_ALONE, RANGE, RANGES, RANGES_END};
-use crate::values::{price_in, time_of, wide_number};
-use day_tables::{grouped_text, number_text};
+use crate::values::time_of;
+use chart_axes::{Range, Scale, across, covered, down, has_dates, part_of, wide_number};
+use day_tables::{grouped_text, number_text, ticked_price};
 use page_text::Page;
 use std::alloc::{AllocError, Global};
 
@@ -54,9 +53,9 @@ fn add_glyph(alloc: Global, page: &mut Page, scale: &Scale, deal: &Deal) -> Resu
     let tenth = wide_number(alloc, x / 10 % 10)?;
     let hundredth = wide_number(alloc, x % 10)?;
     let y = wide_number(alloc, down(scale, deal.price))?;
-    let time = time_of(alloc, deal.moment)?;
+    let time = time_of(alloc, has_dates(scale), deal.moment)?;
     let quantity = grouped_text(alloc, deal.quantity.get())?;
-    let price = price_in(alloc, scale.tick, deal.price)?;
+    let price = ticked_price(alloc, scale.tick, deal.price)?;
     page.add(
         glyph_template(deal.number),
         &[

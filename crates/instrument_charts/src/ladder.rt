@@ -3,12 +3,12 @@
 ghost use Rattle.std.specs.Prelude.{◌≡◌, ◌++◌, IfOk, OnOk, None, length, take};
 ghost use Rattle.std.specs.List.{flat_map};
 ghost use Rattle.page_text.specs.Parts.{with_part, with_parts};
+ghost use Rattle.day_tables.specs.Lists.{kept_if};
 ghost use Rattle.instrument_charts.specs.Ladders.{end_parts, firsts, is_at, is_new, ladder_parts, left_at, level_part, level_parts, more_part, most_levels, orders_at, quantity_at, rests_in, side_parts};
-ghost use Rattle.instrument_charts.specs.Values.{kept_if};
 
 use crate::template::{LADDER, LADDER_END, LEVEL, MORE, NO_SIDE};
-use crate::values::{price_in, quoted_side, sides_of};
-use day_tables::{grouped_text, number_text, wide_text};
+use crate::values::{quoted_side, sides_of};
+use day_tables::{grouped_text, number_text, ticked_price, wide_text};
 use fix_dictionary::{Amount, Price, Side};
 use page_text::Page;
 use std::alloc::{AllocError, Global};
@@ -138,7 +138,7 @@ fn add_level(
 ) -> Result<(), AllocError>
     ensures { OnOk result (page.new ≡ with_part page.old (level_part book.now.tick book.now.side book.now.rests.now first.now)) }
 {
-    let price = price_in(alloc, book.tick, first.price)?;
+    let price = ticked_price(alloc, book.tick, first.price)?;
     let quantity = wide_text(alloc, quantity_at(book.rests, first.price))?;
     let orders = grouped_text(alloc, orders_at(book.rests, first.price) as u64)?;
     let order = number_text(alloc, first.order)?;

@@ -8,10 +8,8 @@ mod laws;
 mod lines;
 mod prices;
 mod rests;
-mod scale;
 mod section;
 mod template;
-mod ticks;
 mod values;
 mod volume;
 
@@ -19,7 +17,5 @@ pub use deals::{Deal, deals_of, first_moment, last_moment};
 pub use ladder::Rest;
 pub use laws::every_trade_is_charted;
 pub use lines::Point;
-pub use prices::Range;
 pub use rests::rests_of;
-pub use scale::Scale;
 pub use section::{Charted, Shown, add_instruments};

@@ -5,9 +5,8 @@ ghost use Rattle.std.specs.List.{cons_option};
 ghost use Rattle.page_text.specs.Parts.{with_part, with_parts};
 ghost use Rattle.instrument_charts.specs.Lines.{line_parts, lines_parts, move_part, point_at, points_in, price_at, spaced, stands_before, step_part, stop_part, turn_parts};
 
-use crate::scale::{Scale, across, height_text};
 use crate::template::{LINES, LINES_END, MOVE, OFFERS, STEP, STOP};
-use crate::values::wide_number;
+use chart_axes::{Scale, across, height_text, wide_number};
 use day_events::Best;
 use fix_dictionary::{Price, Side};
 use page_text::Page;

@@ -1,54 +1,12 @@
 //! The range of the prices on a chart.
 
 ghost use Rattle.std.specs.Prelude.{◌≡◌};
-ghost use Rattle.day_tables.specs.Bulletin.{greater, lesser};
-ghost use Rattle.instrument_charts.specs.Prices.{beyond, covered, distance, is_near, range_by, range_of, reach, with_deals, with_point, with_points};
+ghost use Rattle.instrument_charts.specs.Prices.{beyond, is_near, range_by, range_of, reach, with_deals, with_point, with_points};
 
 use crate::deals::Deal;
 use crate::lines::Point;
+use chart_axes::{Range, covered, distance};
 use fix_dictionary::Price;
-
-/// The lowest and the highest of some prices.
-#[derive(Clone, Copy)]
-pub struct Range {
-    pub low: Price,
-    pub high: Price,
-}
-
-fn greater(a: Price, b: Price) -> Price
-    ensures { result ≡ greater a b }
-{
-    if a.get() < b.get() { b } else { a }
-}
-
-fn lesser(a: Price, b: Price) -> Price
-    ensures { result ≡ lesser a b }
-{
-    if b.get() < a.get() { b } else { a }
-}
-
-/// Between two prices, in millionths.
-pub(crate) fn distance(one: Price, other: Price) -> u64
-    ensures { result ≡ distance one other }
-{
-    one.get().abs_diff(other.get())
-}
-
-/// A range with one price more.
-pub(crate) fn covered(price: Price, range: Option<Range>) -> Range
-    ensures { result ≡ covered price range }
-{
-    match range {
-        None => Range {
-            low: price,
-            high: price,
-        },
-        Some(range) => Range {
-            low: lesser(price, range.low),
-            high: greater(price, range.high),
-        },
-    }
-}
 
 /// A range with the prices of trades.
 fn with_deals(others: Option<Range>, deals: &[Deal]) -> Option<Range>

@@ -2,7 +2,6 @@
 
 ghost use Rattle.std.specs.Prelude.{◌≡◌, OnOk, length};
 ghost use Rattle.page_text.specs.Parts.{with_part, with_parts};
-ghost use Rattle.instruments.specs.Listing.{tick_of};
 ghost use Rattle.day_tables.specs.Parts.{each_from};
 ghost use Rattle.instrument_charts.specs.Instruments.{are_folded, are_many, chart_part, chart_parts, content_parts, curve_parts, few_parts, instrument_parts, instruments_parts, labels_parts, opening_part, opening_template, sheet_of};
 
@@ -11,14 +10,13 @@ use crate::glyphs::{add_glyphs, add_ranges};
 use crate::ladder::{Rest, add_ladder};
 use crate::lines::{Point, add_lines, points_in};
 use crate::prices::range_of;
-use crate::scale::Scale;
 use crate::template::{
     CHART, CHART_END, FOLDED, INSTRUMENT_END, INSTRUMENTS, INSTRUMENTS_END, OPEN,
 };
-use crate::ticks::{add_prices, add_times};
 use crate::volume::add_volume;
+use chart_axes::{Scale, add_prices, add_times};
 use day_events::Best;
-use day_tables::{grouped_text, symbol_at};
+use day_tables::{grouped_text, symbol_at, tick_at};
 use fix_dictionary::Side;
 use instruments::Instruments;
 use page_text::Page;
@@ -152,17 +150,6 @@ fn add_chart(
     add_frame(alloc, page, shown)?;
     add_content(alloc, page, scale, shown)?;
     page.add(CHART_END, &[])
-}
-
-/// The tick of an instrument; a millionth where there is no such instrument.
-fn tick_at(instruments: &Instruments, instrument: u32) -> u64
-    ensures { result ≡ tick_of instruments.now instrument }
-{
-    if (instrument as usize) < instruments.len() {
-        instruments.get(instrument).tick
-    } else {
-        1
-    }
 }
 
 /// Adds an instrument, if it has a range of prices.

@@ -19,14 +19,6 @@ pub(crate) const FOLDED: &[u8] =
 pub(crate) const CHART: &[u8] =
     b"<div class=\"plot\"><span></span><svg class=\"x\" height=\"280\" role=\"img\" aria-label=\"$symbol;: prices and volume over the day; trades: $count;\"><line class=\"ax\" x1=\"0\" x2=\"100%\" y1=\"258\" y2=\"258\"/>";
 
-/// A price, with a line at it.
-pub(crate) const PRICE_TICK: &[u8] =
-    b"<svg y=\"$y;\" overflow=\"visible\"><line class=\"gl\" x2=\"100%\"/><text x=\"-8\" y=\"4\" text-anchor=\"end\">$price;</text></svg>";
-
-/// A time, with a stroke below the chart.
-pub(crate) const TIME_TICK: &[u8] =
-    b"<svg x=\"$x;.$x;$x;%\" y=\"258\" overflow=\"visible\"><line class=\"ax\" y2=\"5\"/><text y=\"18\" text-anchor=\"$anchor;\">$time;</text></svg>";
-
 /// The best bid, up to its line.
 pub(crate) const LINES: &[u8] =
     b"<svg width=\"100%\" height=\"204\" viewBox=\"0 0 10000 204\" preserveAspectRatio=\"none\"><path class=\"bid\" d=\"";

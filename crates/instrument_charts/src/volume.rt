@@ -7,9 +7,8 @@ ghost use Rattle.instrument_charts.specs.Values.{HasEach};
 ghost use Rattle.instrument_charts.specs.Volumes.{bar_or_none, bar_parts, counted, greatest_of, most_bars, pixels, stack_parts, volume_in, volume_parts};
 
 use crate::deals::Deal;
-use crate::scale::{Scale, part_of};
 use crate::template::{BAR, VOLUME, VOLUME_END};
-use crate::values::wide_number;
+use chart_axes::{Scale, part_of, wide_number};
 use day_tables::{number_text, wide_text};
 use page_text::Page;
 use std::alloc::{AllocError, Global};

@@ -2,7 +2,7 @@ use Rattle.std.proofs.Common.{◌∙◌, ap, sym, subst, ℕ, ◌<◌, Option}
 use Rattle.std.specs.Prelude.{None}
 use Rattle.page_text.specs.Parts.{with_parts}
 use Rattle.day_tables.specs.Parts.{each_from}
-use Rattle.instrument_charts.specs.declared.prices.Range.{Range}
+use Rattle.chart_axes.specs.declared.range.Range.{Range}
 use Rattle.instrument_charts.specs.Glyphs.{most_parts, range_or_none, range_parts}
 use Rattle.instrument_charts.proofs.Making.{within}
 use Rattle.instrument_charts.proofs.Walks.{counts_on, counts_out}

@@ -1,7 +1,7 @@
 use Rattle.std.proofs.Common.{◌∙◌, ap, sym, Option}
 use Rattle.std.proofs.lemmas.Result.{on_ok_weaker}
 use Rattle.page_text.specs.Parts.{with_parts}
-use Rattle.instrument_charts.specs.declared.prices.Range.{Range}
+use Rattle.chart_axes.specs.declared.range.Range.{Range}
 use Rattle.instrument_charts.specs.Glyphs.{range_or_none}
 use Rattle.instrument_charts.proofs.glyphs.add_part.Goals as goal
 

@@ -3,7 +3,7 @@ use Rattle.std.proofs.lemmas.Result.{on_ok_weaker}
 use Rattle.page_text.specs.Parts.{with_part, with_parts}
 use Rattle.instruments.specs.Listing.{symbol_of, tick_of}
 use Rattle.day_tables.specs.Parts.{plain_part}
-use Rattle.instrument_charts.specs.declared.prices.Range.{Range}
+use Rattle.chart_axes.specs.declared.range.Range.{Range}
 use Rattle.instrument_charts.specs.declared.template.TheConstants.{INSTRUMENT_END}
 use Rattle.instrument_charts.specs.Instruments.{are_folded, chart_parts, instrument_by, opening_part, ranged_parts, scale_of, sheet_of}
 use Rattle.instrument_charts.specs.Ladders.{ladder_parts}

@@ -1,5 +1,5 @@
 use Rattle.std.proofs.lemmas.Result.{on_ok_weaker}
-use Rattle.instrument_charts.specs.Ticks.{prices_parts, times_parts}
+use Rattle.chart_axes.specs.Ticks.{prices_parts, times_parts}
 use Rattle.instrument_charts.proofs.Walks.{in_turn}
 use Rattle.instrument_charts.proofs.section.add_labels.Goals as goal
 

@@ -1,8 +1,0 @@
-use Rattle.std.proofs.Common.{◌≡◌, drop}
-use Rattle.std.specs.List.{find}
-use Rattle.instrument_charts.specs.Ticks.{is_span}
-use Rattle.instrument_charts.proofs.ticks.span_of.Given as goal
-
--- what is found among the others is what is found among all
-abbrev pub invariant-loop-span : goal.invariant-loop-span
-invariant-loop-span l = find (is_span l.scale) (drop l.span-index l.spans) ≡ find (is_span l.scale) l.spans
