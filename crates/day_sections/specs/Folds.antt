@@ -51,13 +51,17 @@ folds_200 n = n / 200 + (if n % 200 == 0 then 0 else 1)
 abbrev pub fold_part : ℕ → ℕ → Part
 fold_part k count = record { template = FOLD.now; values = grouped (k * 200 + 1) ∷ grouped (k * 200 + count) ∷ [] }
 
+-- and its end
+abbrev pub fold_end : Part
+fold_end = plain_part FOLD_END.now
+
 -- the most things that have their part in folds of 200
 abbrev pub most_folded : ℕ
 most_folded = 10000
 
 -- a list in parts: up to 200 things whole, and else in folds
 abbrev pub folded : {X : Type 0} → (List X → List Part) → List X → ℕ → List Part
-folded table xs k = framed (fold_part k (length (of_200 k xs))) (table (of_200 k xs)) (plain_part FOLD_END.now)
+folded table xs k = framed (fold_part k (length (of_200 k xs))) (table (of_200 k xs)) fold_end
 
 abbrev pub whole_or_folded : {X : Type 0} → (List X → List Part) → List X → List Part
 whole_or_folded table xs = if nat_le (length xs) 200 then table xs else each_from (folded table xs) 0 (folds_200 (length xs))

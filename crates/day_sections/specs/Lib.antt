@@ -9,17 +9,14 @@ pub mod Picks
 pub mod Folds
 -- the day in six figures
 pub mod Figures
--- trades, by their reports
+-- trades, by their reports, and which are of linked orders
+pub mod Flags
 pub mod Reports
 pub mod Trades
 -- refusals by cause
 pub mod Refusals
 -- participants
 pub mod People
--- trades of linked orders
-pub mod Linked
--- alarms
-pub mod Alarms
 -- each trade has a report at its place
 pub mod Found
 -- folds leave nothing out

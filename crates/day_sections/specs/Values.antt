@@ -4,6 +4,7 @@ use Rattle.page_text.specs.Parts.{Part}
 use Rattle.participants.specs.ParticipantFile.{ParticipantFile}
 use Rattle.participants.specs.Relations.{name_of}
 use Rattle.venue_rules.specs.declared.trail.TrailRow.{TrailRow}
+use Rattle.day_tables.specs.Values.{are_dated}
 use Rattle.day_sections.specs.declared.template.TheConstants.{ROW_ALONE, ROW_LINK}
 
 abbrev pub or_empty : Option (List ℕ) → List ℕ
@@ -41,3 +42,7 @@ moment_of row = option_map (λ (r : TrailRow). r.moment) row
 
 abbrev pub last_moment : List TrailRow → Option ℕ
 last_moment rs = moment_of (slice_get rs (length rs - 1))
+
+-- its first and its last row are of two dates
+abbrev pub is_dated : List TrailRow → Bool
+is_dated rs = are_dated (moment_of (slice_get rs 0)) (last_moment rs)

@@ -2,9 +2,9 @@
 
 ghost use Rattle.std.specs.Prelude.{◌≡◌, ◌≤◌, ◌++◌, IfOk, OnOk, cond, drop, false, take};
 ghost use Rattle.page_text.specs.Parts.{with_part};
-ghost use Rattle.day_sections.specs.Folds.{ended, fold_part, folds, folds_200, folds_from, hour_of, of_200, start_after, within};
+ghost use Rattle.day_sections.specs.Folds.{ended, fold_end, fold_part, folds, folds_200, folds_from, hour_of, of_200, start_after, within};
 
-use crate::template::FOLD;
+use crate::template::{FOLD, FOLD_END};
 use day_tables::wide_text;
 use page_text::Page;
 use sef_moment::Moment;
@@ -127,10 +127,10 @@ pub fn folds_200(count: usize) -> usize
 }
 
 /// The most things that have their part in folds of 200.
-pub(crate) const MOST_FOLDED: usize = 10_000;
+pub const MOST_FOLDED: usize = 10_000;
 
 /// Adds the head of a fold: which things of the list it has.
-pub(crate) fn add_fold_head(
+pub fn add_fold_head(
     alloc: Global,
     page: &mut Page,
     number: usize,
@@ -142,4 +142,11 @@ pub(crate) fn add_fold_head(
     let from = wide_text(alloc, before + 1)?;
     let to = wide_text(alloc, before + count as u128)?;
     page.add(FOLD, &[&from, &to])
+}
+
+/// Adds its end.
+pub fn add_fold_end(page: &mut Page) -> Result<(), AllocError>
+    ensures { OnOk result (page.new ≡ with_part page.old fold_end) }
+{
+    page.add(FOLD_END, &[])
 }

@@ -4,18 +4,21 @@ ghost use Rattle.std.specs.Prelude.{◌≡◌, OnOk, IfOk, option_copied};
 ghost use Rattle.std.specs.List.{flat_map};
 ghost use Rattle.page_text.specs.Parts.{with_part, with_parts};
 ghost use Rattle.day_sections.specs.Folds.{folds};
-ghost use Rattle.day_sections.specs.Trades.{by_hour, deal_part, end_by, end_part, first_report, head_part, hour_at, hour_part, hour_parts, hour_text, hours, fold_parts, listed_parts, more_part, number_of, place_part, room_part, row_of_part, some_of_hour, some_trades, table_parts, time_text, trade_parts, trades_parts};
+ghost use Rattle.day_sections.specs.Trades.{by_hour, deal_part, end_by, end_part, first_report, head_part, hour_at, hour_part, hour_parts, hour_text, hours, fold_parts, linked_part, listed_parts, flag_part, more_part, number_of, place_part, room_part, row_of_part, sheet_of, some_of_hour, some_trades, table_parts, time_text, trade_parts, trades_parts};
 
+use crate::flags::{Flag, flag_at};
 use crate::folds::{Fold, folds_of, hour_of, up_to, within};
 use crate::reports::report_of;
 use crate::template::{
-    CELL_END, DEAL, FOLD_END, HOUR, HOUR_END_MORE, HOUR_LINE, IN_BOOK, IN_ROOM, LIST_END, NO_ROW,
-    NO_TRADE, TABLE_OF_TRADES, TRADE, TRADES, TRADES_END,
+    CELL_END, DEAL, FOLD_END, HELD_SIDE, HOUR, HOUR_END_MORE, HOUR_LINE, IN_BOOK, IN_ROOM,
+    LINKED_ORDERS, LIST_END, NO_ROW, NO_TRADE, TABLE_OF_TRADES, TRADE, TRADES, TRADES_END,
+    UNLINKED,
 };
 use crate::values::{MOST_TRADES, add_row_number};
 use day_events::Event;
 use day_tables::{
-    Place, grouped_text, name_at, number_text, price_bytes, quantity, symbol_at, time_in, wide_text,
+    Place, clock_text, grouped_text, name_at, number_text, quantity, symbol_at, tick_at,
+    ticked_price, wide_text,
 };
 use instruments::Instruments;
 use page_text::Page;
@@ -24,22 +27,28 @@ use sef_moment::print_utc;
 use std::alloc::{AllocError, Global};
 use venue_rules::TradeFact;
 
-/// The reports of the trades, and whether the rows are on the page.
+/// What the trades of a day are printed from.
 #[derive(Clone, Copy)]
 pub struct Reported<'a> {
-    pub linked: bool,
+    pub participants: &'a Participants,
+    pub instruments: &'a Instruments,
     pub reports: &'a [Event],
+    pub flags: &'a [Flag],
+    /// the rows are on the page
+    pub shown: bool,
+    /// the trail is of several dates
+    pub dated: bool,
 }
 
 /// The time of what is reported; empty where there is no report.
-fn time_text(alloc: Global, report: &Option<Event>) -> Result<Vec<u8>, AllocError>
-    ensures { IfOk result (λ text. text.items ≡ time_text report.now) }
+fn time_text(alloc: Global, dated: bool, report: &Option<Event>) -> Result<Vec<u8>, AllocError>
+    ensures { IfOk result (λ text. text.items ≡ time_text dated report.now) }
 {
     match report {
         None => Ok(Vec::new(alloc)),
         Some(report) => {
             let moment = print_utc(report.at.moment);
-            Vec::from_slice(alloc, time_in(&moment))
+            Vec::from_slice(alloc, clock_text(dated, &moment))
         }
     }
 }
@@ -48,16 +57,16 @@ fn time_text(alloc: Global, report: &Option<Event>) -> Result<Vec<u8>, AllocErro
 fn add_head(
     alloc: Global,
     page: &mut Page,
-    instruments: &Instruments,
+    reported: &Reported<'_>,
     trade: &TradeFact,
     report: &Option<Event>,
 ) -> Result<(), AllocError>
-    ensures { OnOk result (page.new ≡ with_part page.old (head_part instruments.now trade.now report.now)) }
+    ensures { OnOk result (page.new ≡ with_part page.old (head_part (sheet_of reported.now) trade.now report.now)) }
 {
     let number = number_text(alloc, trade.number)?;
-    let time = time_text(alloc, report)?;
+    let time = time_text(alloc, reported.dated, report)?;
     let instrument = number_text(alloc, u64::from(trade.instrument))?;
-    let symbol = symbol_at(instruments, trade.instrument);
+    let symbol = symbol_at(reported.instruments, trade.instrument);
     page.add(TRADE, &[&number, &number, &time, &instrument, symbol])
 }
 
@@ -78,19 +87,44 @@ fn add_place(alloc: Global, page: &mut Page, room: Option<u64>) -> Result<(), Al
     }
 }
 
+/// Adds that its orders are linked, with the template of this flag.
+fn add_linked(
+    alloc: Global,
+    page: &mut Page,
+    template: &'static [u8],
+    trade: u64,
+) -> Result<(), AllocError>
+    ensures { OnOk result (page.new ≡ with_part page.old (linked_part template.now trade)) }
+{
+    let number = number_text(alloc, trade)?;
+    page.add(template, &[&number])
+}
+
+/// Adds its flag: a link to its line among the trades of linked orders, if it has one.
+fn add_flag(alloc: Global, page: &mut Page, flag: Flag, trade: u64) -> Result<(), AllocError>
+    ensures { OnOk result (page.new ≡ with_part page.old (flag_part flag trade)) }
+{
+    match flag {
+        Flag::Unlinked => page.add(UNLINKED, &[]),
+        Flag::Linked => add_linked(alloc, page, LINKED_ORDERS, trade),
+        Flag::Held => add_linked(alloc, page, HELD_SIDE, trade),
+    }
+}
+
 /// Adds its quantity, price and parties.
 fn add_deal(
     alloc: Global,
     page: &mut Page,
-    participants: &Participants,
+    reported: &Reported<'_>,
     trade: &TradeFact,
 ) -> Result<(), AllocError>
-    ensures { OnOk result (page.new ≡ with_part page.old (deal_part participants.now trade.now)) }
+    ensures { OnOk result (page.new ≡ with_part page.old (deal_part (sheet_of reported.now) trade.now)) }
 {
     let quantity = grouped_text(alloc, trade.quantity.get())?;
-    let price = price_bytes(alloc, trade.price)?;
-    let buyer = name_at(participants, trade.buyer);
-    let seller = name_at(participants, trade.seller);
+    let tick = tick_at(reported.instruments, trade.instrument);
+    let price = ticked_price(alloc, tick, trade.price)?;
+    let buyer = name_at(reported.participants, trade.buyer);
+    let seller = name_at(reported.participants, trade.seller);
     page.add(DEAL, &[&quantity, &price, buyer, seller])
 }
 
@@ -98,14 +132,14 @@ fn add_deal(
 fn add_row_of(
     alloc: Global,
     page: &mut Page,
-    linked: bool,
+    shown: bool,
     report: &Option<Event>,
 ) -> Result<(), AllocError>
-    ensures { OnOk result (page.new ≡ with_part page.old (row_of_part linked report.now)) }
+    ensures { OnOk result (page.new ≡ with_part page.old (row_of_part shown report.now)) }
 {
     match report {
         None => page.add(NO_ROW, &[]),
-        Some(report) => add_row_number(alloc, page, linked, report.at.row),
+        Some(report) => add_row_number(alloc, page, shown, report.at.row),
     }
 }
 
@@ -113,18 +147,18 @@ fn add_row_of(
 fn add_trade(
     alloc: Global,
     page: &mut Page,
-    participants: &Participants,
-    instruments: &Instruments,
     reported: &Reported<'_>,
     trade: &TradeFact,
 ) -> Result<(), AllocError>
-    ensures { OnOk result (page.new ≡ with_parts page.old (trade_parts participants.now instruments.now reported.now.linked reported.now.reports.now trade.now)) }
+    ensures { OnOk result (page.new ≡ with_parts page.old (trade_parts (sheet_of reported.now) trade.now)) }
 {
     let report = report_of(reported.reports, trade.number);
-    add_head(alloc, page, instruments, trade, &report)?;
+    let flag = flag_at(reported.flags, trade.number);
+    add_head(alloc, page, reported, trade, &report)?;
     add_place(alloc, page, trade.room)?;
-    add_deal(alloc, page, participants, trade)?;
-    add_row_of(alloc, page, reported.linked, &report)?;
+    add_flag(alloc, page, flag, trade.number)?;
+    add_deal(alloc, page, reported, trade)?;
+    add_row_of(alloc, page, reported.shown, &report)?;
     page.add(CELL_END, &[])
 }
 
@@ -132,15 +166,13 @@ fn add_trade(
 fn add_each(
     alloc: Global,
     page: &mut Page,
-    participants: &Participants,
-    instruments: &Instruments,
     reported: &Reported<'_>,
     trades: &[TradeFact],
 ) -> Result<(), AllocError>
-    ensures { OnOk result (page.new ≡ with_parts page.old (flat_map (trade_parts participants.now instruments.now reported.now.linked reported.now.reports.now) trades.now)) }
+    ensures { OnOk result (page.new ≡ with_parts page.old (flat_map (trade_parts (sheet_of reported.now)) trades.now)) }
 {
     for trade in trades {
-        add_trade(alloc, page, participants, instruments, reported, trade)?;
+        add_trade(alloc, page, reported, trade)?;
     }
     Ok(())
 }
@@ -149,15 +181,13 @@ fn add_each(
 fn add_table(
     alloc: Global,
     page: &mut Page,
-    participants: &Participants,
-    instruments: &Instruments,
     reported: &Reported<'_>,
     trades: &[TradeFact],
 ) -> Result<(), AllocError>
-    ensures { OnOk result (page.new ≡ with_parts page.old (table_parts participants.now instruments.now reported.now.linked reported.now.reports.now trades.now)) }
+    ensures { OnOk result (page.new ≡ with_parts page.old (table_parts (sheet_of reported.now) trades.now)) }
 {
     page.add(TABLE_OF_TRADES, &[])?;
-    add_each(alloc, page, participants, instruments, reported, trades)?;
+    add_each(alloc, page, reported, trades)?;
     page.add(LIST_END, &[])
 }
 
@@ -273,22 +303,13 @@ struct Hour<'a> {
 fn add_some_of_hour(
     alloc: Global,
     page: &mut Page,
-    participants: &Participants,
-    instruments: &Instruments,
     reported: &Reported<'_>,
     hour: &Hour<'_>,
 ) -> Result<(), AllocError>
-    ensures { OnOk result (page.new ≡ with_parts page.old (some_of_hour participants.now instruments.now reported.now.linked reported.now.reports.now hour.now.all.now hour.now.listed.now)) }
+    ensures { OnOk result (page.new ≡ with_parts page.old (some_of_hour (sheet_of reported.now) hour.now.all.now hour.now.listed.now)) }
 {
     add_hour_head(alloc, page, HOUR, reported.reports, hour.all)?;
-    add_table(
-        alloc,
-        page,
-        participants,
-        instruments,
-        reported,
-        hour.listed,
-    )?;
+    add_table(alloc, page, reported, hour.listed)?;
     add_end(alloc, page, hour.all.len(), hour.listed.len())
 }
 
@@ -296,17 +317,15 @@ fn add_some_of_hour(
 fn add_hour(
     alloc: Global,
     page: &mut Page,
-    participants: &Participants,
-    instruments: &Instruments,
     reported: &Reported<'_>,
     hour: &Hour<'_>,
 ) -> Result<(), AllocError>
-    ensures { OnOk result (page.new ≡ with_parts page.old (hour_parts participants.now instruments.now reported.now.linked reported.now.reports.now hour.now.all.now hour.now.listed.now)) }
+    ensures { OnOk result (page.new ≡ with_parts page.old (hour_parts (sheet_of reported.now) hour.now.all.now hour.now.listed.now)) }
 {
     if hour.listed.len() == 0 {
         add_hour_head(alloc, page, HOUR_LINE, reported.reports, hour.all)
     } else {
-        add_some_of_hour(alloc, page, participants, instruments, reported, hour)
+        add_some_of_hour(alloc, page, reported, hour)
     }
 }
 
@@ -334,18 +353,16 @@ struct Day<'a> {
 fn add_each_hour(
     alloc: Global,
     page: &mut Page,
-    participants: &Participants,
-    instruments: &Instruments,
     reported: &Reported<'_>,
     day: &Day<'_>,
 ) -> Result<(), AllocError>
-    ensures { OnOk result (page.new ≡ with_parts page.old (flat_map (fold_parts participants.now instruments.now reported.now.linked reported.now.reports.now day.now.all.now day.now.listed.now) day.now.folds.now)) }
+    ensures { OnOk result (page.new ≡ with_parts page.old (flat_map (fold_parts (sheet_of reported.now) day.now.all.now day.now.listed.now) day.now.folds.now)) }
 {
     for fold in day.folds {
         let all = within(day.all, *fold);
         let listed = within(day.listed, *fold);
         let hour = Hour { all, listed };
-        add_hour(alloc, page, participants, instruments, reported, &hour)?;
+        add_hour(alloc, page, reported, &hour)?;
     }
     Ok(())
 }
@@ -354,12 +371,10 @@ fn add_each_hour(
 fn add_by_hour(
     alloc: Global,
     page: &mut Page,
-    participants: &Participants,
-    instruments: &Instruments,
     reported: &Reported<'_>,
     trades: &[TradeFact],
 ) -> Result<(), AllocError>
-    ensures { OnOk result (page.new ≡ with_parts page.old (by_hour participants.now instruments.now reported.now.linked reported.now.reports.now trades.now)) }
+    ensures { OnOk result (page.new ≡ with_parts page.old (by_hour (sheet_of reported.now) trades.now)) }
 {
     let folds = folds_by_hour(alloc, reported.reports, trades)?;
     let day = Day {
@@ -367,24 +382,22 @@ fn add_by_hour(
         listed: up_to(trades, MOST_TRADES),
         folds: &folds,
     };
-    add_each_hour(alloc, page, participants, instruments, reported, &day)
+    add_each_hour(alloc, page, reported, &day)
 }
 
 /// Adds the trades: a table, or the hours.
 fn add_listed(
     alloc: Global,
     page: &mut Page,
-    participants: &Participants,
-    instruments: &Instruments,
     reported: &Reported<'_>,
     trades: &[TradeFact],
 ) -> Result<(), AllocError>
-    ensures { OnOk result (page.new ≡ with_parts page.old (listed_parts participants.now instruments.now reported.now.linked reported.now.reports.now trades.now)) }
+    ensures { OnOk result (page.new ≡ with_parts page.old (listed_parts (sheet_of reported.now) trades.now)) }
 {
     if trades.len() <= 500 {
-        add_table(alloc, page, participants, instruments, reported, trades)
+        add_table(alloc, page, reported, trades)
     } else {
-        add_by_hour(alloc, page, participants, instruments, reported, trades)
+        add_by_hour(alloc, page, reported, trades)
     }
 }
 
@@ -392,16 +405,14 @@ fn add_listed(
 fn add_some(
     alloc: Global,
     page: &mut Page,
-    participants: &Participants,
-    instruments: &Instruments,
     reported: &Reported<'_>,
     trades: &[TradeFact],
 ) -> Result<(), AllocError>
-    ensures { OnOk result (page.new ≡ with_parts page.old (some_trades participants.now instruments.now reported.now.linked reported.now.reports.now trades.now)) }
+    ensures { OnOk result (page.new ≡ with_parts page.old (some_trades (sheet_of reported.now) trades.now)) }
 {
     let count = grouped_text(alloc, trades.len() as u64)?;
     page.add(TRADES, &[&count])?;
-    add_listed(alloc, page, participants, instruments, reported, trades)?;
+    add_listed(alloc, page, reported, trades)?;
     page.add(TRADES_END, &[])
 }
 
@@ -409,16 +420,14 @@ fn add_some(
 pub fn add_trades(
     alloc: Global,
     page: &mut Page,
-    participants: &Participants,
-    instruments: &Instruments,
     reported: &Reported<'_>,
     trades: &[TradeFact],
 ) -> Result<(), AllocError>
-    ensures { OnOk result (page.new ≡ with_parts page.old (trades_parts participants.now instruments.now reported.now.linked reported.now.reports.now trades.now)) }
+    ensures { OnOk result (page.new ≡ with_parts page.old (trades_parts (sheet_of reported.now) trades.now)) }
 {
     if trades.len() == 0 {
         page.add(NO_TRADE, &[])
     } else {
-        add_some(alloc, page, participants, instruments, reported, trades)
+        add_some(alloc, page, reported, trades)
     }
 }

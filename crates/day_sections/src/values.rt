@@ -1,10 +1,10 @@
 //! The values of the places of a section, and the numbers of rows.
 ghost use Rattle.std.specs.Prelude.{◌≡◌, IfOk, OnOk, option_copied};
 ghost use Rattle.page_text.specs.Parts.{with_part};
-ghost use Rattle.day_sections.specs.Values.{are_shown, is_listed, last_moment, moment_of, or_empty, row_alone, row_link, row_part, sender_of};
+ghost use Rattle.day_sections.specs.Values.{are_shown, is_dated, is_listed, last_moment, moment_of, or_empty, row_alone, row_link, row_part, sender_of};
 
 use crate::template::{ROW_ALONE, ROW_LINK};
-use day_tables::{name_at, number_text};
+use day_tables::{are_dated, name_at, number_text};
 use fix_dictionary::Identifier;
 use page_text::Page;
 use participants::{Participants, Who};
@@ -77,6 +77,13 @@ pub fn are_shown(rows: &[TrailRow]) -> bool
     ensures { result ≡ are_shown rows.now }
 {
     rows.len() <= 5_000
+}
+
+/// Whether a trail is of several dates.
+pub fn is_dated(rows: &[TrailRow]) -> bool
+    ensures { result ≡ is_dated rows.now }
+{
+    are_dated(moment_of(rows.first()), last_moment(rows))
 }
 
 /// The most trades that are on the page: the first, in the order of their numbers.

@@ -2,14 +2,13 @@ use Rattle.std.specs.List.{flat_map}
 use Rattle.std.proofs.lemmas.Result.{on_ok_weaker}
 use Rattle.day_tables.specs.Parts.{plain_part}
 use Rattle.day_sections.specs.declared.template.TheConstants.{LIST_END, TABLE_OF_TRADES}
-use Rattle.day_sections.specs.Trades.{trade_parts}
+use Rattle.day_sections.specs.Trades.{sheet_of, trade_parts}
 use Rattle.day_sections.proofs.Walks.{in_frame}
 use Rattle.day_sections.proofs.trades.add_table.Goals as goal
 
 pub returns : goal.returns
 returns c =
-    let r = c.args.reported.now in
     on_ok_weaker c.add-2.result
-    (in_frame c.args.page.now c.add.new.self c.add_each.new.page c.add-2.new.self (plain_part TABLE_OF_TRADES.now) (flat_map (trade_parts c.args.participants.now c.args.instruments.now r.linked r.reports.now) c.args.trades.now) (plain_part LIST_END.now)
+    (in_frame c.args.page.now c.add.new.self c.add_each.new.page c.add-2.new.self (plain_part TABLE_OF_TRADES.now) (flat_map (trade_parts (sheet_of c.args.reported.now)) c.args.trades.now) (plain_part LIST_END.now)
     c.in_ok-add.ensures.added c.in_ok-add_each.ensures)
     c.add-2.ensures.added

@@ -1,0 +1,14 @@
+use Rattle.std.proofs.Common.{◌∷◌, [], ◌∙◌}
+use Rattle.std.proofs.lemmas.Result.{on_ok_weaker}
+use Rattle.page_text.specs.Parts.{with_part}
+use Rattle.alarm_sections.specs.declared.template.TheConstants.{LINKED_TRADE}
+use Rattle.alarm_sections.proofs.linked.add_pair.Goals as goal
+
+pub returns : goal.returns
+returns c =
+    on_ok_weaker c.add.result
+    (λ e. e ∙ (λ j. with_part c.args.page.now (record {
+      template = LINKED_TRADE.now;
+      values = c.name_at-buyer.ensures j ∷ c.name_at-seller.ensures j ∷ (c.deref.ensures.value ∙ c.in_ok-first.ensures) j ∷ (c.deref-2.ensures.value ∙ c.in_ok-second.ensures) j ∷ [];
+    })))
+    c.add.ensures.added

@@ -1,0 +1,14 @@
+use Rattle.std.proofs.Common.{◌∷◌, [], ◌∙◌}
+use Rattle.std.proofs.lemmas.Result.{on_ok_weaker}
+use Rattle.page_text.specs.Parts.{with_part}
+use Rattle.alarm_sections.specs.declared.template.TheConstants.{TRADE_LINK}
+use Rattle.alarm_sections.proofs.linked.add_trade_link.Goals as goal
+
+pub returns : goal.returns
+returns c =
+    on_ok_weaker c.add.result
+    (λ e. e ∙ (λ j. with_part c.args.page.now (record {
+      template = TRADE_LINK.now;
+      values = (c.deref.ensures.value ∙ c.in_ok-number.ensures) j ∷ (c.deref-2.ensures.value ∙ c.in_ok-number.ensures) j ∷ (c.deref-3.ensures.value ∙ c.in_ok-number.ensures) j ∷ [];
+    })))
+    c.add.ensures.added

@@ -1,0 +1,4 @@
+-- trades of linked orders
+pub mod Linked
+-- alarms
+pub mod Alarms
