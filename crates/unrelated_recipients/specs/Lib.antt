@@ -1,0 +1,3 @@
+-- three unrelated recipients of a request, and the related pairs of those whom it names
+pub mod Threes
+pub mod Pairs
