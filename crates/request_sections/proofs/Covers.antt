@@ -29,7 +29,9 @@ use Rattle.request_sections.specs.Keys.{by_quote, by_room, in_bucket, key_of, na
 use Rattle.request_sections.specs.Lives.{axis_of, capped, end_moment, live_until, moment_if, moment_or, or_last, room_moment}
 use Rattle.request_sections.specs.declared.lives.Axis.{Axis}
 use Rattle.request_sections.specs.Picks.{is_asked_in, is_picked, is_silent, names_room}
-use Rattle.request_sections.specs.Requests.{Sheet, all_quotes, asked_in, asked_section, body_parts, fate_part, form_of, head_parts, if_quote_parts, if_traded, or_later, quote_by, quote_part, quoted_of, quotes_in, quotes_part, request_by, request_parts, rest_parts, silent_parts, trade_in, trade_moment, traded_at}
+use Rattle.recipient_sections.specs.Asked.{recipients_parts}
+use Rattle.request_sections.specs.Requests.{Sheet, all_quotes, asked_in, body_parts, fate_part, form_of, head_parts, if_quote_parts, if_traded, or_later, quote_by, quote_part, quoted_of, quotes_in, quotes_part, request_by, request_parts, rest_parts, silent_parts, tick_in, trade_in, trade_moment, traded_at}
+use Rattle.request_sections.specs.Refused.{is_name, is_refused, refused_in, refused_of, refused_section, refuses}
 use Rattle.request_sections.specs.Shown.{shown_section}
 use Rattle.day_sections.specs.Values.{row_part}
 
@@ -102,36 +104,37 @@ same_trade_moment r k c (e ∷ es) = trade_moment_step r k e es (k e) refl (c.un
 
 -- The parts of a request.
 
-same_quote : (file : ParticipantFile) (s : Sheet) (a : Axis) (room : ℕ) (k : Event → Bool) → Covers room k → (es : List Event) (e : Event) (w : What)
-    → if_quote_parts file s a (filter k es) room e w ≡ if_quote_parts file s a es room e w
-same_quote file s a room k c es e (what.Entered x) = refl
-same_quote file s a room k c es e (what.TooRecent x) = refl
-same_quote file s a room k c es e (what.Filled x) = refl
-same_quote file s a room k c es e (what.Cancelled x) = refl
-same_quote file s a room k c es e (what.Replaced x) = refl
-same_quote file s a room k c es e (what.Asked x) = refl
-same_quote file s a room k c es e (what.Quoted x) =
+same_quote : (file : ParticipantFile) (s : Sheet) (tick : ℕ) (a : Axis) (room : ℕ) (k : Event → Bool) → Covers room k → (es : List Event) (e : Event) (w : What)
+    → if_quote_parts file s tick a (filter k es) room e w ≡ if_quote_parts file s tick a es room e w
+same_quote file s tick a room k c es e (what.Entered x) = refl
+same_quote file s tick a room k c es e (what.TooRecent x) = refl
+same_quote file s tick a room k c es e (what.Filled x) = refl
+same_quote file s tick a room k c es e (what.Cancelled x) = refl
+same_quote file s tick a room k c es e (what.Replaced x) = refl
+same_quote file s tick a room k c es e (what.Asked x) = refl
+same_quote file s tick a room k c es e (what.Quoted x) =
     let q : Quoted = quoted_of room e x in
-    λ j. quote_by file s.linked a e x (moment_or (end_moment q s.events) (capped q.end (or_last (same_room_moment room k c q refl es j) s.last))) (first_or (end_in q s.events) (same_room room k c q refl s.last es j))
-same_quote file s a room k c es e (what.Withdrawn x) = refl
-same_quote file s a room k c es e what.Passed = refl
-same_quote file s a room k c es e (what.Traded x) = refl
-same_quote file s a room k c es e (what.Refused x) = refl
+    λ j. quote_by file s tick a e x (moment_or (end_moment q s.events) (capped q.end (or_last (same_room_moment room k c q refl es j) s.last))) (first_or (end_in q s.events) (same_room room k c q refl s.last es j))
+same_quote file s tick a room k c es e (what.Withdrawn x) = refl
+same_quote file s tick a room k c es e what.Passed = refl
+same_quote file s tick a room k c es e (what.Traded x) = refl
+same_quote file s tick a room k c es e (what.Refused x) = refl
 
-same_body : (file : ParticipantFile) (s : Sheet) (room : ℕ) (k : Event → Bool) → Covers room k → (es : List Event) (e : Event) (asked quotes : List Event)
-    → body_parts file s (filter k es) e room asked quotes ≡ body_parts file s es e room asked quotes
-same_body file s room k c es e asked quotes =
+same_body : (file : ParticipantFile) (s : Sheet) (tick : ℕ) (room : ℕ) (k : Event → Bool) → Covers room k → (es : List Event) (e : Event) (asked quotes : List Event)
+    → body_parts file s tick (filter k es) e room asked quotes ≡ body_parts file s tick es e room asked quotes
+same_body file s tick room k c es e asked quotes =
     let a : Axis = axis_of e.at.moment (trade_moment room es) quotes in
-    ap (λ (o : Option ℕ). asked_section file s.linked e.at.row room asked ++ (shown_section s.shown quotes ++ all_quotes file s (axis_of e.at.moment o quotes) (filter k es) room asked quotes)) (same_trade_moment room k c es)
-    ∙ λ j. asked_section file s.linked e.at.row room asked
-    ++ (shown_section s.shown quotes
-    ++ framed (quotes_part room) (flat_map (λ (x : Event). same_quote file s a room k c es x x.what j) quotes ++ silent_parts file (filter (is_silent quotes) asked)) (plain_part ROOM_END.now))
+    ap (λ (o : Option ℕ). recipients_parts file s.linked e room asked ++ (shown_section tick s.shown quotes ++ (refused_section file s.dated s.linked (refused_in e.at.row room quotes s.events) ++ all_quotes file s tick (axis_of e.at.moment o quotes) (filter k es) room asked quotes))) (same_trade_moment room k c es)
+    ∙ λ j. recipients_parts file s.linked e room asked
+    ++ (shown_section tick s.shown quotes
+    ++ (refused_section file s.dated s.linked (refused_in e.at.row room quotes s.events)
+    ++ framed (quotes_part room) (flat_map (λ (x : Event). same_quote file s tick a room k c es x x.what j) quotes ++ silent_parts file (filter (is_silent quotes) asked)) (plain_part ROOM_END.now)))
 
-same_rest : (f : Form) (file : ParticipantFile) (s : Sheet) (room : ℕ) (k : Event → Bool) → Covers room k → (es : List Event) (e : Event) (asked quotes : List Event)
-    → rest_parts f file s (filter k es) e room asked quotes ≡ rest_parts f file s es e room asked quotes
-same_rest form.Open file s room k c es e asked quotes = same_body file s room k c es e asked quotes
-same_rest form.Folded file s room k c es e asked quotes = same_body file s room k c es e asked quotes
-same_rest form.Line file s room k c es e asked quotes = refl
+same_rest : (f : Form) (file : ParticipantFile) (s : Sheet) (tick : ℕ) (room : ℕ) (k : Event → Bool) → Covers room k → (es : List Event) (e : Event) (asked quotes : List Event)
+    → rest_parts f file s tick (filter k es) e room asked quotes ≡ rest_parts f file s tick es e room asked quotes
+same_rest form.Open file s tick room k c es e asked quotes = same_body file s tick room k c es e asked quotes
+same_rest form.Folded file s tick room k c es e asked quotes = same_body file s tick room k c es e asked quotes
+same_rest form.Line file s tick room k c es e asked quotes = refl
 
 same_request : (file : ParticipantFile) (s : Sheet) (es : List Event) (e : Event) (r : NewRequest) (k : Event → Bool) → Covers r.room k
     → request_parts file s (filter k es) e r ≡ request_parts file s es e r
@@ -140,9 +143,10 @@ same_request file s es e r k c =
     let quotes : quotes_in r.room (filter k es) ≡ quotes_in r.room es = skipped (is_picked (pick.Quotes r.room)) k c.quotes es in
     let trade : trade_in r.room (filter k es) ≡ trade_in r.room es = same_trade r.room k c es in
     let f : Form = form_of s.count (is_some (trade_in r.room es)) in
-    let head : List Part = head_parts f file e r (asked_in r.room es) (quotes_in r.room es) (trade_in r.room es) in
-    (λ j. request_by file s (filter k es) e r (asked j) (quotes j) (trade j))
-    ∙ ap (λ (l : List Part). head ++ l) (same_rest f file s r.room k c es e (asked_in r.room es) (quotes_in r.room es))
+    let tick : ℕ = tick_in s.instruments r in
+    let head : List Part = head_parts f file s.dated tick e r (asked_in r.room es) (quotes_in r.room es) (trade_in r.room es) in
+    (λ j. request_by file s tick (filter k es) e r (asked j) (quotes j) (trade j))
+    ∙ ap (λ (l : List Part). head ++ l) (same_rest f file s tick r.room k c es e (asked_in r.room es) (quotes_in r.room es))
 
 -- What is not in the bucket of a room is not of it.
 
@@ -238,6 +242,37 @@ ended_late n q o (what.Withdrawn id) late = rw (other_quote n q.quote id late) r
 ended_late n q o what.Passed late = rw (other_quote n q.quote o.named late) refl
 ended_late n q o (what.Traded x) late = refl
 ended_late n q o (what.Refused x) late = refl
+
+-- what was refused, by what it names
+
+no_id : (n : ℕ) (id named : List ℕ) (is : Bool) → bytes_eq id named ≡ is → (name_key named % n == name_key id % n) ≡ false → is ≡ false
+no_id n id named true same late = absurd (true≢false (sym (here n (name_key named) (name_key id) (ap name_key (sym ((bytes_eq-Decides id named).0 same)))) ∙ late))
+no_id n id named false same late = refl
+
+other_id : (n : ℕ) (id : List ℕ) (named : Option (List ℕ)) → in_bucket n (name_key id % n) (named_key named) ≡ false → is_name id named ≡ false
+other_id n id None late = refl
+other_id n id (Some x) late = no_id n id x (bytes_eq id x) refl late
+
+not_all : (a b : Bool) → b ≡ false → (a && b) ≡ false
+not_all true b h = h
+not_all false b h = refl
+
+refused_late : (n : ℕ) (id : List ℕ) (later : Bool) (own named : Option (List ℕ)) (w : What) → in_bucket n (name_key id % n) (by_room named w) ≡ false → (is_refused w && (later && (is_some own && is_name id named))) ≡ false
+refused_late n id later own named (what.Entered x) late = refl
+refused_late n id later own named (what.TooRecent x) late = refl
+refused_late n id later own named (what.Filled x) late = refl
+refused_late n id later own named (what.Cancelled x) late = refl
+refused_late n id later own named (what.Replaced x) late = refl
+refused_late n id later own named (what.Asked x) late = refl
+refused_late n id later own named (what.Quoted x) late = refl
+refused_late n id later own named (what.Withdrawn x) late = refl
+refused_late n id later own named what.Passed late = refl
+refused_late n id later own named (what.Traded x) late = refl
+refused_late n id later own named (what.Refused x) late = not_all later (is_some own && is_name id named) (not_all (is_some own) (is_name id named) (other_id n id named late))
+
+pub refused_found : (n row : ℕ) (id : List ℕ) (es said : List Event) → said ≡ filter (λ x. in_bucket n (name_key id % n) (key_of by.Room x)) es → refused_of row id said ≡ refused_of row id es
+refused_found n row id es said is =
+    ap (refused_of row id) is ∙ skipped (refuses row id) (λ x. in_bucket n (name_key id % n) (key_of by.Room x)) (λ x late. refused_late n id (nat_lt row x.at.row) x.at.own x.at.named x.what late) es
 
 bucket_covers : (n r : ℕ) → Covers r (λ e. in_bucket n (room_key r % n) (key_of by.Room e))
 bucket_covers n r = record {

@@ -1,3 +1,4 @@
 pub mod Covers
 pub mod Filing
 pub mod Rising
+pub mod Appends

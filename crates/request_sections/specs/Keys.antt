@@ -26,11 +26,12 @@ room_key n = name_key (printed 82 n)
 abbrev pub quote_key : ℕ → ℕ
 quote_key n = name_key (printed 81 n)
 
--- a request, a quote and a trade by their room
+-- a request, a quote and a trade by their room, and a refused message by what it names
 abbrev pub by_room : Option (List ℕ) → What → Option ℕ
 by_room named (what.Asked x) = Some (room_key x.room)
 by_room named (what.Quoted x) = named_key named
 by_room named (what.Traded x) = Some (room_key x.room)
+by_room named (what.Refused x) = named_key named
 by_room named _ = None
 
 -- a withdrawn or passed quote by its identifier

@@ -6,5 +6,7 @@ pub mod Fate
 pub mod Lives
 pub mod Prices
 pub mod Shown
+-- what was refused
+pub mod Refused
 -- the section
 pub mod Requests

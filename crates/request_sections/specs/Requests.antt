@@ -3,11 +3,12 @@ use Rattle.std.specs.Prelude.{◌≡◌, ℕ, ℤ, ◌<◌, ◌-◌, ◌==◌, B
 use Rattle.std.specs.List.{flat_map}
 use Rattle.fix_dictionary.specs.declared.values.Side.{Side}
 use Rattle.fix_dictionary.specs.declared.values.Side.TheVariants.{Buy, Sell}
-use Rattle.fix_fields.specs.Forms.{price_text}
+use Rattle.instruments.specs.declared.instruments.Instrument.{Instrument}
+use Rattle.instruments.specs.Listing.{instrument_of, tick_of}
 use Rattle.page_text.specs.Parts.{Part}
 use Rattle.participants.specs.ParticipantFile.{ParticipantFile}
-use Rattle.participants.specs.Relations.{name_of}
 use Rattle.sef_moment.specs.Utc.{utc_text}
+use Rattle.venue_rules.specs.declared.trail.TrailRow.{TrailRow}
 use Rattle.day_events.specs.declared.event.Event.{Event}
 use Rattle.day_events.specs.declared.event.NewQuote.{NewQuote}
 use Rattle.day_events.specs.declared.event.NewRequest.{NewRequest}
@@ -15,7 +16,7 @@ use Rattle.day_events.specs.declared.event.RoomTrade.{RoomTrade}
 use Rattle.day_events.specs.declared.event.What.{What}
 use Rattle.day_events.specs.declared.event.What.TheVariants as what
 use Rattle.day_events.specs.declared.shown.ShownPrice.{ShownPrice}
-use Rattle.request_sections.specs.declared.template.TheConstants.{ASKED_ROW, CELL_END, HIT, HIT_ALONE, HOUR_OF_REQUESTS, HOUR_OF_REQUESTS_END, LIVE, NAME, NOT_TAKEN, NO_QUOTE, NO_REQUEST, PASSED, QUOTE, QUOTES, RAN_OUT, REPLACED, REQUESTS, ROOM, ROOM_ASKED, ROOM_END, ROOM_FOLDED, ROOM_IDLE, ROOM_LINE, ROOM_LINE_END, ROOM_OPEN, ROOM_TRADED, ROOM_TRADED_ALONE, SECTION_END, WITHDRAWN}
+use Rattle.request_sections.specs.declared.template.TheConstants.{CELL_END, HIT, HIT_ALONE, HOUR_OF_REQUESTS, HOUR_OF_REQUESTS_END, LIVE, NOT_TAKEN, NO_QUOTE, NO_REQUEST, PASSED, QUOTE, QUOTES, RAN_OUT, REPLACED, REQUESTS, ROOM, ROOM_END, ROOM_FOLDED, ROOM_IDLE, ROOM_LINE, ROOM_LINE_END, ROOM_OPEN, ROOM_TRADED, ROOM_TRADED_ALONE, SECTION_END, WITHDRAWN}
 use Rattle.request_sections.specs.declared.day.Day.{Day}
 use Rattle.request_sections.specs.declared.day.Form.{Form}
 use Rattle.request_sections.specs.declared.day.Form.TheVariants as form
@@ -29,24 +30,33 @@ use Rattle.request_sections.specs.Fate.{outcome_of}
 use Rattle.request_sections.specs.Keys.{AreFiled}
 use Rattle.request_sections.specs.Lives.{axis_of, end_part, life_part, live_until}
 use Rattle.request_sections.specs.Picks.{is_picked, is_silent}
+use Rattle.request_sections.specs.Refused.{refused_in, refused_section}
 use Rattle.request_sections.specs.Shown.{rises, shown_section}
 use Rattle.day_sections.specs.Folds.{folds, hour_of, within}
 use Rattle.day_sections.specs.declared.folds.Fold.{Fold}
-use Rattle.day_sections.specs.Values.{is_listed, or_empty, row_part, sender_of}
+use Rattle.day_sections.specs.Rooms.{rooms}
+use Rattle.day_sections.specs.Values.{are_shown, is_dated, is_listed, last_moment, or_empty, row_part, sender_of}
+use Rattle.recipient_sections.specs.Asked.{name_parts, recipients_parts}
 use Rattle.day_tables.specs.Parts.{framed, plain_part}
-use Rattle.day_tables.specs.Values.{grouped, time_in}
+use Rattle.day_tables.specs.Values.{clock_text, grouped, price_in}
 
--- What the section shows of a day: whether its rows are on the page, the moment of the last, how many requests there
--- are, the events, and the prices shown.
+-- What the section shows of a day: whether its rows are on the page, whether times stand with their dates, the moment
+-- of the last row, how many requests there are, the events, the prices shown, and the instruments.
 pub record Sheet : Type 0 where
   pub linked : Bool
+  pub dated : Bool
   pub last : Option ℕ
   pub count : ℕ
   pub events : List Event
   pub shown : List ShownPrice
+  pub instruments : List Instrument
 
 abbrev pub sheet_of : Day → Sheet
-sheet_of d = record { linked = d.linked; last = d.last; count = d.count; events = d.events.now; shown = d.shown.now }
+sheet_of d = record { linked = d.linked; dated = d.dated; last = d.last; count = d.count; events = d.events.now; shown = d.shown.now; instruments = d.instruments.now }
+
+-- the tick of the instrument of a request
+abbrev pub tick_in : List Instrument → NewRequest → ℕ
+tick_in xs r = tick_of xs (instrument_of xs r.symbol)
 
 -- the events are filed by room and by quote, and it is known whether the prices shown come in order
 pub record IsKept (d : Day) : Type 0 where
@@ -77,10 +87,10 @@ side_words None = codes "to buy or sell"
 side_words (Some Buy) = codes "to buy"
 side_words (Some Sell) = codes "to sell"
 
-abbrev pub room_part : ParticipantFile → Event → NewRequest → ℕ → Part
-room_part file e r asked = record {
+abbrev pub room_part : ParticipantFile → Bool → Event → NewRequest → ℕ → Part
+room_part file dated e r asked = record {
   template = ROOM.now;
-  values = decimal r.room ∷ time_in (utc_text e.at.moment) ∷ sender_of file e.at.from ∷ grouped asked ∷ side_words r.side ∷ grouped r.quantity ∷ r.symbol ∷ or_empty e.at.own ∷ [];
+  values = decimal r.room ∷ clock_text dated (utc_text e.at.moment) ∷ sender_of file e.at.from ∷ grouped asked ∷ side_words r.side ∷ grouped r.quantity ∷ r.symbol ∷ or_empty e.at.own ∷ [];
 }
 
 abbrev pub idle_part : ℕ → Part
@@ -88,41 +98,30 @@ idle_part quotes = record { template = ROOM_IDLE.now; values = grouped quotes �
 
 -- its trade: a link, if that is on the page
 
-abbrev pub trade_link : RoomTrade → Part
-trade_link t = record { template = ROOM_TRADED.now; values = decimal t.trade ∷ decimal t.trade ∷ price_text t.price ∷ [] }
+abbrev pub trade_link : ℕ → RoomTrade → Part
+trade_link tick t = record { template = ROOM_TRADED.now; values = decimal t.trade ∷ decimal t.trade ∷ price_in tick t.price ∷ [] }
 
-abbrev pub trade_alone : RoomTrade → Part
-trade_alone t = record { template = ROOM_TRADED_ALONE.now; values = decimal t.trade ∷ price_text t.price ∷ [] }
+abbrev pub trade_alone : ℕ → RoomTrade → Part
+trade_alone tick t = record { template = ROOM_TRADED_ALONE.now; values = decimal t.trade ∷ price_in tick t.price ∷ [] }
 
-abbrev pub traded_part : RoomTrade → Part
-traded_part t = if is_listed t.trade then trade_link t else trade_alone t
+abbrev pub traded_part : ℕ → RoomTrade → Part
+traded_part tick t = if is_listed t.trade then trade_link tick t else trade_alone tick t
 
-abbrev pub outcome_part : Option RoomTrade → ℕ → Part
-outcome_part None quotes = idle_part quotes
-outcome_part (Some t) quotes = traded_part t
-
--- whom it asked, and its row
-
-abbrev pub asked_parts : ParticipantFile → Event → List Part
-asked_parts file e = record { template = NAME.now; values = name_of file e.to ∷ [] } ∷ []
-
-abbrev pub asked_part : ℕ → Part
-asked_part room = record { template = ROOM_ASKED.now; values = decimal room ∷ [] }
-
-abbrev pub asked_section : ParticipantFile → Bool → ℕ → ℕ → List Event → List Part
-asked_section file linked row room asked = framed (asked_part room) (flat_map (asked_parts file) asked) (plain_part ASKED_ROW.now) ++ row_part linked row ∷ []
+abbrev pub outcome_part : ℕ → Option RoomTrade → ℕ → Part
+outcome_part tick None quotes = idle_part quotes
+outcome_part tick (Some t) quotes = traded_part tick t
 
 -- its quotes
 
-abbrev pub optional_price : Option ℤ → List ℕ
-optional_price None = []
-optional_price (Some p) = price_text p
+abbrev pub optional_price : ℕ → Option ℤ → List ℕ
+optional_price tick None = []
+optional_price tick (Some p) = price_in tick p
 
-abbrev pub quote_part : ParticipantFile → Event → NewQuote → Part
-quote_part file e q = record {
+abbrev pub quote_part : ParticipantFile → Bool → ℕ → Event → NewQuote → Part
+quote_part file dated tick e q = record {
   template = QUOTE.now;
-  values = decimal q.quote ∷ decimal q.quote ∷ sender_of file e.at.from ∷ or_empty e.at.own ∷ optional_price q.bid ∷ optional_price q.offer
-      ∷ time_in (utc_text e.at.moment) ∷ time_in (utc_text q.end) ∷ [];
+  values = decimal q.quote ∷ decimal q.quote ∷ sender_of file e.at.from ∷ or_empty e.at.own ∷ optional_price tick q.bid ∷ optional_price tick q.offer
+      ∷ clock_text dated (utc_text e.at.moment) ∷ clock_text dated (utc_text q.end) ∷ [];
 }
 
 abbrev pub once_part : List ℕ → ℕ → Part
@@ -156,17 +155,17 @@ abbrev pub quoted_of : ℕ → Event → NewQuote → Quoted
 quoted_of room e q = record { quote = q.quote; room = room; from = e.at.from; end = q.end }
 
 -- how long it was live, what became of it, its row
-abbrev pub quote_by : ParticipantFile → Bool → Axis → Event → NewQuote → ℕ → Fate → List Part
-quote_by file linked a e q until f =
-    quote_part file e q ∷ life_part a e.at.moment until q.end ∷ end_part a.traded ∷ fate_part f ∷ row_part linked e.at.row ∷ plain_part CELL_END.now ∷ []
+abbrev pub quote_by : ParticipantFile → Sheet → ℕ → Axis → Event → NewQuote → ℕ → Fate → List Part
+quote_by file s tick a e q until f =
+    quote_part file s.dated tick e q ∷ life_part a e.at.moment until q.end ∷ end_part a.traded ∷ fate_part f ∷ row_part s.linked e.at.row ∷ plain_part CELL_END.now ∷ []
 
-abbrev pub quote_parts : ParticipantFile → Sheet → Axis → List Event → ℕ → Event → NewQuote → List Part
-quote_parts file s a said room e q =
-    quote_by file s.linked a e q (live_until (quoted_of room e q) s.last said s.events) (outcome_of (quoted_of room e q) s.last said s.events)
+abbrev pub quote_parts : ParticipantFile → Sheet → ℕ → Axis → List Event → ℕ → Event → NewQuote → List Part
+quote_parts file s tick a said room e q =
+    quote_by file s tick a e q (live_until (quoted_of room e q) s.last said s.events) (outcome_of (quoted_of room e q) s.last said s.events)
 
-abbrev pub if_quote_parts : ParticipantFile → Sheet → Axis → List Event → ℕ → Event → What → List Part
-if_quote_parts file s a said room e (what.Quoted q) = quote_parts file s a said room e q
-if_quote_parts file s a said room e _ = []
+abbrev pub if_quote_parts : ParticipantFile → Sheet → ℕ → Axis → List Event → ℕ → Event → What → List Part
+if_quote_parts file s tick a said room e (what.Quoted q) = quote_parts file s tick a said room e q
+if_quote_parts file s tick a said room e _ = []
 
 abbrev pub quotes_part : ℕ → Part
 quotes_part room = record { template = QUOTES.now; values = decimal room ∷ [] }
@@ -174,14 +173,14 @@ quotes_part room = record { template = QUOTES.now; values = decimal room ∷ [] 
 -- who was asked and sent none
 
 abbrev pub some_silent : ParticipantFile → List Event → List Part
-some_silent file silent = framed (plain_part NO_QUOTE.now) (flat_map (asked_parts file) silent) (plain_part CELL_END.now)
+some_silent file silent = framed (plain_part NO_QUOTE.now) (flat_map (name_parts file) silent) (plain_part CELL_END.now)
 
 abbrev pub silent_parts : ParticipantFile → List Event → List Part
 silent_parts file silent = if length silent == 0 then [] else some_silent file silent
 
-abbrev pub all_quotes : ParticipantFile → Sheet → Axis → List Event → ℕ → List Event → List Event → List Part
-all_quotes file s a said room asked quotes =
-    framed (quotes_part room) (flat_map (λ e. if_quote_parts file s a said room e e.what) quotes ++ silent_parts file (filter (is_silent quotes) asked)) (plain_part ROOM_END.now)
+abbrev pub all_quotes : ParticipantFile → Sheet → ℕ → Axis → List Event → ℕ → List Event → List Event → List Part
+all_quotes file s tick a said room asked quotes =
+    framed (quotes_part room) (flat_map (λ e. if_quote_parts file s tick a said room e e.what) quotes ++ silent_parts file (filter (is_silent quotes) asked)) (plain_part ROOM_END.now)
 
 -- A request: up to 12 are open, up to 300 closed, and of more those without a trade have their line alone.
 
@@ -203,7 +202,7 @@ opening_part form.Open room = plain_part ROOM_OPEN.now
 opening_part form.Folded room = plain_part ROOM_FOLDED.now
 opening_part form.Line room = record { template = ROOM_LINE.now; values = decimal room ∷ [] }
 
--- whom it asked, and its quotes
+-- whom it asked, its quotes and what was refused
 
 abbrev pub asked_in : ℕ → List Event → List Event
 asked_in room said = filter (is_picked (pick.Asked room)) said
@@ -212,26 +211,28 @@ abbrev pub quotes_in : ℕ → List Event → List Event
 quotes_in room said = filter (is_picked (pick.Quotes room)) said
 
 -- what stands behind the head
-abbrev pub body_parts : ParticipantFile → Sheet → List Event → Event → ℕ → List Event → List Event → List Part
-body_parts file s said e room asked quotes =
-    asked_section file s.linked e.at.row room asked ++ (shown_section s.shown quotes ++ all_quotes file s (axis_of e.at.moment (trade_moment room said) quotes) said room asked quotes)
+abbrev pub body_parts : ParticipantFile → Sheet → ℕ → List Event → Event → ℕ → List Event → List Event → List Part
+body_parts file s tick said e room asked quotes =
+    recipients_parts file s.linked e room asked
+    ++ (shown_section tick s.shown quotes
+    ++ (refused_section file s.dated s.linked (refused_in e.at.row room quotes s.events) ++ all_quotes file s tick (axis_of e.at.moment (trade_moment room said) quotes) said room asked quotes))
 
-abbrev pub rest_parts : Form → ParticipantFile → Sheet → List Event → Event → ℕ → List Event → List Event → List Part
-rest_parts form.Open file s said e room asked quotes = body_parts file s said e room asked quotes
-rest_parts form.Folded file s said e room asked quotes = body_parts file s said e room asked quotes
-rest_parts form.Line file s said e room asked quotes = plain_part ROOM_LINE_END.now ∷ []
+abbrev pub rest_parts : Form → ParticipantFile → Sheet → ℕ → List Event → Event → ℕ → List Event → List Event → List Part
+rest_parts form.Open file s tick said e room asked quotes = body_parts file s tick said e room asked quotes
+rest_parts form.Folded file s tick said e room asked quotes = body_parts file s tick said e room asked quotes
+rest_parts form.Line file s tick said e room asked quotes = plain_part ROOM_LINE_END.now ∷ []
 
-abbrev pub head_parts : Form → ParticipantFile → Event → NewRequest → List Event → List Event → Option RoomTrade → List Part
-head_parts f file e r asked quotes trade =
-    opening_part f r.room ∷ room_part file e r (length asked) ∷ outcome_part trade (length quotes) ∷ []
+abbrev pub head_parts : Form → ParticipantFile → Bool → ℕ → Event → NewRequest → List Event → List Event → Option RoomTrade → List Part
+head_parts f file dated tick e r asked quotes trade =
+    opening_part f r.room ∷ room_part file dated e r (length asked) ∷ outcome_part tick trade (length quotes) ∷ []
 
-abbrev pub request_by : ParticipantFile → Sheet → List Event → Event → NewRequest → List Event → List Event → Option RoomTrade → List Part
-request_by file s said e r asked quotes trade =
-    head_parts (form_of s.count (is_some trade)) file e r asked quotes trade ++ rest_parts (form_of s.count (is_some trade)) file s said e r.room asked quotes
+abbrev pub request_by : ParticipantFile → Sheet → ℕ → List Event → Event → NewRequest → List Event → List Event → Option RoomTrade → List Part
+request_by file s tick said e r asked quotes trade =
+    head_parts (form_of s.count (is_some trade)) file s.dated tick e r asked quotes trade ++ rest_parts (form_of s.count (is_some trade)) file s tick said e r.room asked quotes
 
 -- by what is said of its room
 abbrev pub request_parts : ParticipantFile → Sheet → List Event → Event → NewRequest → List Part
-request_parts file s said e r = request_by file s said e r (asked_in r.room said) (quotes_in r.room said) (trade_in r.room said)
+request_parts file s said e r = request_by file s (tick_in s.instruments r) said e r (asked_in r.room said) (quotes_in r.room said) (trade_in r.room said)
 
 abbrev pub if_request_parts : ParticipantFile → Sheet → Event → What → List Part
 if_request_parts file s e (what.Asked r) = request_parts file s s.events e r
@@ -292,6 +293,17 @@ some_requests file s rs = framed (count_part rs) (listed_parts file s rs) (plain
 abbrev pub sections_of : ParticipantFile → Sheet → List Event → List Part
 sections_of file s rs = if length rs == 0 then plain_part NO_REQUEST.now ∷ [] else some_requests file s rs
 
--- of a day, with its requests
-abbrev pub requests_parts : ParticipantFile → Bool → Option ℕ → List Event → List ShownPrice → List Event → List Part
-requests_parts file linked last es ps rs = sections_of file (record { linked = linked; last = last; count = length rs; events = es; shown = ps }) rs
+-- of a day
+abbrev pub day_sheet : List Instrument → List TrailRow → List Event → List ShownPrice → Sheet
+day_sheet xs rows es ps = record {
+  linked = are_shown rows;
+  dated = is_dated rows;
+  last = last_moment rows;
+  count = length (rooms es);
+  events = es;
+  shown = ps;
+  instruments = xs;
+}
+
+abbrev pub requests_parts : ParticipantFile → List Instrument → List TrailRow → List Event → List ShownPrice → List Part
+requests_parts file xs rows es ps = sections_of file (day_sheet xs rows es ps) (rooms es)

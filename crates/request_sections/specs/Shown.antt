@@ -1,17 +1,16 @@
--- What was shown with the first quote of a request: the prices at the row of that quote.
+-- What was shown with the first quote of a request: the prices at the row of that quote, with the decimals of a tick.
 use Rattle.std.specs.Prelude.{ℕ, ◌-◌, ◌==◌, ◌&&◌, Bool, true, false, not, List, [], ◌∷◌, ◌++◌, filter, length, nat_le, take, decimal, sum_by, if◌then◌else◌}
 use Rattle.std.specs.List.{flat_map}
 use Rattle.fix_dictionary.specs.declared.values.Side.{Side}
 use Rattle.fix_dictionary.specs.declared.values.Side.TheVariants.{Buy, Sell}
-use Rattle.fix_fields.specs.Forms.{price_text}
 use Rattle.page_text.specs.Parts.{Part}
 use Rattle.day_events.specs.declared.event.Event.{Event}
 use Rattle.day_events.specs.declared.event.What.{What}
 use Rattle.day_events.specs.declared.event.What.TheVariants as what
 use Rattle.day_events.specs.declared.shown.ShownPrice.{ShownPrice}
-use Rattle.day_tables.specs.Parts.{framed, plain_part}
-use Rattle.day_tables.specs.Values.{grouped}
-use Rattle.request_sections.specs.declared.template.TheConstants.{BIDS, MORE_SHOWN, NOBODY_QUOTED, NOTHING_RESTED, NO_BID, NO_OFFER, OFFERS, ROOM_SHOWN, SHOWN, SHOWN_END, SHOWN_WITH}
+use Rattle.day_tables.specs.Parts.{plain_part}
+use Rattle.day_tables.specs.Values.{grouped, price_in}
+use Rattle.request_sections.specs.declared.template.TheConstants.{BIDS, MORE_SHOWN, NOBODY_QUOTED, NOTHING_RESTED, NO_BID, NO_OFFER, OFFERS, ROOM_SHOWN, SHOWN, SHOWN_WITH}
 
 -- the rows of a day come in order
 abbrev pub rises : ℕ → List ShownPrice → Bool
@@ -36,11 +35,11 @@ most_shown = 4
 abbrev pub total : List ShownPrice → ℕ
 total ps = sum_by (λ x. x.left) ps
 
-abbrev pub price_part : ShownPrice → Part
-price_part x = record { template = SHOWN.now; values = grouped x.left ∷ price_text x.price ∷ decimal x.order ∷ [] }
+abbrev pub price_part : ℕ → ShownPrice → Part
+price_part tick x = record { template = SHOWN.now; values = grouped x.left ∷ price_in tick x.price ∷ decimal x.order ∷ [] }
 
-abbrev pub price_parts : ShownPrice → List Part
-price_parts x = price_part x ∷ []
+abbrev pub price_parts : ℕ → ShownPrice → List Part
+price_parts tick x = price_part tick x ∷ []
 
 -- how many more there are, and the quantity of all
 abbrev pub more_part : List ShownPrice → Part
@@ -57,17 +56,17 @@ abbrev pub no_price_part : Bool → Part
 no_price_part true = plain_part NO_BID.now
 no_price_part false = plain_part NO_OFFER.now
 
-abbrev pub some_prices : Bool → List ShownPrice → List Part
-some_prices bid ps = word_part bid ∷ (flat_map price_parts (take most_shown ps) ++ more_parts ps)
+abbrev pub some_prices : ℕ → Bool → List ShownPrice → List Part
+some_prices tick bid ps = word_part bid ∷ (flat_map (price_parts tick) (take most_shown ps) ++ more_parts ps)
 
-abbrev pub side_parts : Bool → List ShownPrice → List Part
-side_parts bid ps = if length ps == 0 then no_price_part bid ∷ [] else some_prices bid ps
+abbrev pub side_parts : ℕ → Bool → List ShownPrice → List Part
+side_parts tick bid ps = if length ps == 0 then no_price_part bid ∷ [] else some_prices tick bid ps
 
-abbrev pub both_parts : List ShownPrice → List Part
-both_parts ps = side_parts true (on_side true ps) ++ side_parts false (on_side false ps)
+abbrev pub both_parts : ℕ → List ShownPrice → List Part
+both_parts tick ps = side_parts tick true (on_side true ps) ++ side_parts tick false (on_side false ps)
 
-abbrev pub prices_parts : List ShownPrice → List Part
-prices_parts ps = if length ps == 0 then plain_part NOTHING_RESTED.now ∷ [] else both_parts ps
+abbrev pub prices_parts : ℕ → List ShownPrice → List Part
+prices_parts tick ps = if length ps == 0 then plain_part NOTHING_RESTED.now ∷ [] else both_parts tick ps
 
 -- with which quote
 
@@ -78,13 +77,13 @@ abbrev pub with_parts_of : What → List Part
 with_parts_of (what.Quoted q) = with_part_of q.quote ∷ []
 with_parts_of _ = []
 
-abbrev pub first_parts : List ShownPrice → Event → List Part
-first_parts ps q = prices_parts (at_row q.at.row ps) ++ with_parts_of q.what
+abbrev pub first_parts : ℕ → List ShownPrice → Event → List Part
+first_parts tick ps q = prices_parts tick (at_row q.at.row ps) ++ with_parts_of q.what
 
 -- by the quotes of the room
-abbrev pub shown_parts : List ShownPrice → List Event → List Part
-shown_parts ps [] = plain_part NOBODY_QUOTED.now ∷ []
-shown_parts ps (q ∷ qs) = first_parts ps q
+abbrev pub shown_parts : ℕ → List ShownPrice → List Event → List Part
+shown_parts tick ps [] = plain_part NOBODY_QUOTED.now ∷ []
+shown_parts tick ps (q ∷ qs) = first_parts tick ps q
 
-abbrev pub shown_section : List ShownPrice → List Event → List Part
-shown_section ps quotes = framed (plain_part ROOM_SHOWN.now) (shown_parts ps quotes) (plain_part SHOWN_END.now)
+abbrev pub shown_section : ℕ → List ShownPrice → List Event → List Part
+shown_section tick ps quotes = plain_part ROOM_SHOWN.now ∷ shown_parts tick ps quotes

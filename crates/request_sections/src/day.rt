@@ -5,6 +5,7 @@ ghost use Rattle.request_sections.specs.Requests.{form_of, traded_form};
 
 use crate::filed::Bucket;
 use day_events::{Event, ShownPrice};
+use instruments::Instruments;
 use sef_moment::Moment;
 
 /// The events of a day, also filed by room and by quote, and the prices shown.
@@ -12,12 +13,15 @@ use sef_moment::Moment;
 pub struct Day<'a> {
     /// whether its rows are on the page
     pub linked: bool,
+    /// whether times stand with their dates
+    pub dated: bool,
     /// the moment of the last
     pub last: Option<Moment>,
     /// how many requests there are
     pub count: usize,
     pub events: &'a [Event],
     pub shown: &'a [ShownPrice],
+    pub instruments: &'a Instruments,
     /// whether these come in the order of their rows
     pub ordered: bool,
     pub rooms: &'a [Bucket],

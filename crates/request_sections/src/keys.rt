@@ -16,7 +16,7 @@ pub enum By {
 }
 
 /// The bytes as digits of a number, modulo 2^64.
-fn name_key(name: &[u8]) -> u64
+pub(crate) fn name_key(name: &[u8]) -> u64
     ensures { result ≡ name_key name.now }
 {
     let mut key: u64 = 0;
@@ -59,6 +59,7 @@ fn by_room(named: &Option<Identifier>, what: &What) -> Option<u64>
         What::Asked(request) => Some(room_key(request.room)),
         What::Quoted(_) => named_key(named),
         What::Traded(trade) => Some(room_key(trade.room)),
+        What::Refused(_) => named_key(named),
         _ => None,
     }
 }

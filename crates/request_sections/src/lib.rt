@@ -8,6 +8,7 @@ mod keys;
 mod lives;
 mod picks;
 mod prices;
+mod refused;
 mod requests;
 mod section;
 mod shown;

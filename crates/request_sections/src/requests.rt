@@ -7,7 +7,7 @@ ghost use Rattle.request_sections.specs.declared.keys.By.TheVariants as by;
 ghost use Rattle.request_sections.specs.Fate.{outcome_of};
 ghost use Rattle.request_sections.specs.Keys.{in_bucket, key_of, quote_key, room_key};
 ghost use Rattle.request_sections.specs.Picks.{is_silent};
-ghost use Rattle.request_sections.specs.Requests.{IsKept, all_quotes, asked_in, asked_parts, asked_section, body_parts, each_request, fate_part, form_of, head_parts, hit_part, idle_part, if_quote_parts, if_request_parts, if_traded, once_part, opening_part, optional_price, outcome_part, quote_part, quote_parts, quotes_in, request_by, request_parts, rest_parts, room_part, sheet_of, side_words, silent_parts, some_silent, trade_alone, trade_in, trade_link, trade_moment, traded_part, twice_part};
+ghost use Rattle.request_sections.specs.Requests.{IsKept, all_quotes, asked_in, body_parts, each_request, fate_part, form_of, head_parts, hit_part, idle_part, if_quote_parts, if_request_parts, if_traded, once_part, opening_part, optional_price, outcome_part, quote_part, quote_parts, quotes_in, request_by, request_parts, rest_parts, room_part, sheet_of, side_words, silent_parts, some_silent, trade_alone, trade_in, trade_link, trade_moment, traded_part, twice_part};
 
 use crate::day::{Day, Form, form_of};
 use crate::fate::{Fate, Quoted, outcome_of};
@@ -15,25 +15,28 @@ use crate::filed::found;
 use crate::keys::{quote_key, room_key};
 use crate::lives::{Axis, add_life, add_life_end, axis_of, live_until};
 use crate::picks::{Pick, picked, silent};
+use crate::refused::add_refusals_in;
 use crate::shown::add_shown;
 use crate::template::{
-    ASKED_ROW, CELL_END, HIT, HIT_ALONE, LIVE, NAME, NO_QUOTE, NOT_TAKEN, PASSED, QUOTE, QUOTES,
-    RAN_OUT, REPLACED, ROOM, ROOM_ASKED, ROOM_END, ROOM_FOLDED, ROOM_IDLE, ROOM_LINE,
-    ROOM_LINE_END, ROOM_OPEN, ROOM_TRADED, ROOM_TRADED_ALONE, WITHDRAWN,
+    CELL_END, HIT, HIT_ALONE, LIVE, NO_QUOTE, NOT_TAKEN, PASSED, QUOTE, QUOTES, RAN_OUT, REPLACED,
+    ROOM, ROOM_END, ROOM_FOLDED, ROOM_IDLE, ROOM_LINE, ROOM_LINE_END, ROOM_OPEN, ROOM_TRADED,
+    ROOM_TRADED_ALONE, WITHDRAWN,
 };
 use day_events::{Event, NewQuote, NewRequest, RoomTrade, What};
 use day_sections::{add_row_number, id_text, is_listed, many, sender_at, text_or_empty};
-use day_tables::{grouped_text, name_at, number_text, price_bytes, time_in};
+use day_tables::{clock_text, grouped_text, number_text, tick_by, ticked_price};
 use fix_dictionary::{Price, Side};
 use page_text::Page;
 use participants::Participants;
+use recipient_sections::{add_names, add_recipients};
 use sef_moment::print_utc;
 use std::alloc::{AllocError, Global};
 
-/// A room, what may be said of it, and among that whom it asked and its quotes.
+/// A room and the tick of its instrument, what may be said of it, and among that whom it asked and its quotes.
 #[derive(Clone, Copy)]
 struct Said<'a> {
     room: u64,
+    tick: u64,
     events: &'a [Event],
     asked: &'a [Event],
     quotes: &'a [Event],
@@ -102,11 +105,12 @@ fn add_room(
     alloc: Global,
     page: &mut Page,
     participants: &Participants,
+    dated: bool,
     opened: &Event,
     request: &NewRequest,
     asked: u64,
 ) -> Result<(), AllocError>
-    ensures { OnOk result (page.new ≡ with_part page.old (room_part participants.now opened.now request.now asked)) }
+    ensures { OnOk result (page.new ≡ with_part page.old (room_part participants.now dated opened.now request.now asked)) }
 {
     let room = number_text(alloc, request.room)?;
     let moment = print_utc(opened.at.moment);
@@ -119,7 +123,7 @@ fn add_room(
         ROOM,
         &[
             &room,
-            time_in(&moment),
+            clock_text(dated, &moment),
             sender_at(participants, opened.at.from),
             &count,
             &side,
@@ -139,31 +143,46 @@ fn add_idle(alloc: Global, page: &mut Page, quotes: u64) -> Result<(), AllocErro
 }
 
 /// Adds the trade of a request, which is on the page.
-fn add_trade_link(alloc: Global, page: &mut Page, trade: &RoomTrade) -> Result<(), AllocError>
-    ensures { OnOk result (page.new ≡ with_part page.old (trade_link trade.now)) }
+fn add_trade_link(
+    alloc: Global,
+    page: &mut Page,
+    tick: u64,
+    trade: &RoomTrade,
+) -> Result<(), AllocError>
+    ensures { OnOk result (page.new ≡ with_part page.old (trade_link tick trade.now)) }
 {
     let number = number_text(alloc, trade.trade)?;
-    let price = price_bytes(alloc, trade.price)?;
+    let price = ticked_price(alloc, tick, trade.price)?;
     page.add(ROOM_TRADED, &[&number, &number, &price])
 }
 
 /// Adds one that is not.
-fn add_trade_alone(alloc: Global, page: &mut Page, trade: &RoomTrade) -> Result<(), AllocError>
-    ensures { OnOk result (page.new ≡ with_part page.old (trade_alone trade.now)) }
+fn add_trade_alone(
+    alloc: Global,
+    page: &mut Page,
+    tick: u64,
+    trade: &RoomTrade,
+) -> Result<(), AllocError>
+    ensures { OnOk result (page.new ≡ with_part page.old (trade_alone tick trade.now)) }
 {
     let number = number_text(alloc, trade.trade)?;
-    let price = price_bytes(alloc, trade.price)?;
+    let price = ticked_price(alloc, tick, trade.price)?;
     page.add(ROOM_TRADED_ALONE, &[&number, &price])
 }
 
 /// Adds the trade of a request.
-fn add_traded(alloc: Global, page: &mut Page, trade: &RoomTrade) -> Result<(), AllocError>
-    ensures { OnOk result (page.new ≡ with_part page.old (traded_part trade.now)) }
+fn add_traded(
+    alloc: Global,
+    page: &mut Page,
+    tick: u64,
+    trade: &RoomTrade,
+) -> Result<(), AllocError>
+    ensures { OnOk result (page.new ≡ with_part page.old (traded_part tick trade.now)) }
 {
     if is_listed(trade.trade) {
-        add_trade_link(alloc, page, trade)
+        add_trade_link(alloc, page, tick, trade)
     } else {
-        add_trade_alone(alloc, page, trade)
+        add_trade_alone(alloc, page, tick, trade)
     }
 }
 
@@ -171,64 +190,25 @@ fn add_traded(alloc: Global, page: &mut Page, trade: &RoomTrade) -> Result<(), A
 fn add_outcome(
     alloc: Global,
     page: &mut Page,
+    tick: u64,
     trade: &Option<RoomTrade>,
     quotes: u64,
 ) -> Result<(), AllocError>
-    ensures { OnOk result (page.new ≡ with_part page.old (outcome_part trade.now quotes)) }
+    ensures { OnOk result (page.new ≡ with_part page.old (outcome_part tick trade.now quotes)) }
 {
     match trade {
         None => add_idle(alloc, page, quotes),
-        Some(trade) => add_traded(alloc, page, trade),
+        Some(trade) => add_traded(alloc, page, tick, trade),
     }
-}
-
-/// Adds a name in a list.
-fn add_name(page: &mut Page, participants: &Participants, asked: &Event) -> Result<(), AllocError>
-    ensures { OnOk result (page.new ≡ with_parts page.old (asked_parts participants.now asked.now)) }
-{
-    let name = name_at(participants, asked.to);
-    page.add(NAME, &[name])
-}
-
-/// Adds the names of those who were asked.
-fn add_names(
-    page: &mut Page,
-    participants: &Participants,
-    asked: &[Event],
-) -> Result<(), AllocError>
-    ensures { OnOk result (page.new ≡ with_parts page.old (flat_map (asked_parts participants.now) asked.now)) }
-{
-    for event in asked {
-        add_name(page, participants, event)?;
-    }
-    Ok(())
-}
-
-/// Adds whom a request asked, and its row.
-fn add_asked(
-    alloc: Global,
-    page: &mut Page,
-    participants: &Participants,
-    day: &Day<'_>,
-    opened: &Event,
-    said: &Said<'_>,
-) -> Result<(), AllocError>
-    ensures { OnOk result (page.new ≡ with_parts page.old (asked_section participants.now day.now.linked opened.now.at.row said.now.room said.now.asked.now)) }
-{
-    let number = number_text(alloc, said.room)?;
-    page.add(ROOM_ASKED, &[&number])?;
-    add_names(page, participants, said.asked)?;
-    page.add(ASKED_ROW, &[])?;
-    add_row_number(alloc, page, day.linked, opened.at.row)
 }
 
 /// A price, or nothing.
-fn optional_price(alloc: Global, price: Option<Price>) -> Result<Vec<u8>, AllocError>
-    ensures { IfOk result (λ text. text.items ≡ optional_price price) }
+fn optional_price(alloc: Global, tick: u64, price: Option<Price>) -> Result<Vec<u8>, AllocError>
+    ensures { IfOk result (λ text. text.items ≡ optional_price tick price) }
 {
     match price {
         None => Ok(Vec::new(alloc)),
-        Some(price) => price_bytes(alloc, price),
+        Some(price) => ticked_price(alloc, tick, price),
     }
 }
 
@@ -237,16 +217,18 @@ fn add_quote_head(
     alloc: Global,
     page: &mut Page,
     participants: &Participants,
+    dated: bool,
+    tick: u64,
     event: &Event,
     quote: &NewQuote,
 ) -> Result<(), AllocError>
-    ensures { OnOk result (page.new ≡ with_part page.old (quote_part participants.now event.now quote.now)) }
+    ensures { OnOk result (page.new ≡ with_part page.old (quote_part participants.now dated tick event.now quote.now)) }
 {
     let number = number_text(alloc, quote.quote)?;
     let maker = sender_at(participants, event.at.from);
     let id = text_or_empty(alloc, &event.at.own)?;
-    let bid = optional_price(alloc, quote.bid)?;
-    let offer = optional_price(alloc, quote.offer)?;
+    let bid = optional_price(alloc, tick, quote.bid)?;
+    let offer = optional_price(alloc, tick, quote.offer)?;
     let moment = print_utc(event.at.moment);
     let end = print_utc(quote.end);
     page.add(
@@ -258,8 +240,8 @@ fn add_quote_head(
             &id,
             &bid,
             &offer,
-            time_in(&moment),
-            time_in(&end),
+            clock_text(dated, &moment),
+            clock_text(dated, &end),
         ],
     )
 }
@@ -318,7 +300,7 @@ fn add_quote(
     quote: &NewQuote,
 ) -> Result<(), AllocError>
     requires kept { IsKept day.now }
-    ensures { OnOk result (page.new ≡ with_parts page.old (quote_parts participants.now (sheet_of day.now) axis.now said.now.events.now said.now.room event.now quote.now)) }
+    ensures { OnOk result (page.new ≡ with_parts page.old (quote_parts participants.now (sheet_of day.now) said.now.tick axis.now said.now.events.now said.now.room event.now quote.now)) }
 {
     let quoted = Quoted {
         quote: quote.quote,
@@ -329,7 +311,15 @@ fn add_quote(
     let ends = found(day.ends, quote_key(quote.quote));
     let end = outcome_of(&quoted, day.last, said.events, ends);
     let until = live_until(&quoted, day.last, said.events, ends);
-    add_quote_head(alloc, page, participants, event, quote)?;
+    add_quote_head(
+        alloc,
+        page,
+        participants,
+        day.dated,
+        said.tick,
+        event,
+        quote,
+    )?;
     add_life(
         alloc,
         page,
@@ -355,7 +345,7 @@ fn add_if_quote(
     event: &Event,
 ) -> Result<(), AllocError>
     requires kept { IsKept day.now }
-    ensures { OnOk result (page.new ≡ with_parts page.old (if_quote_parts participants.now (sheet_of day.now) axis.now said.now.events.now said.now.room event.now event.now.what)) }
+    ensures { OnOk result (page.new ≡ with_parts page.old (if_quote_parts participants.now (sheet_of day.now) said.now.tick axis.now said.now.events.now said.now.room event.now event.now.what)) }
 {
     match &event.what {
         What::Quoted(quote) => add_quote(alloc, page, participants, day, axis, said, event, quote),
@@ -372,7 +362,7 @@ fn add_each_quote(
     said: &Said<'_>,
 ) -> Result<(), AllocError>
     requires kept { IsKept day.now }
-    ensures { OnOk result (page.new ≡ with_parts page.old (flat_map (λ e. if_quote_parts participants.now (sheet_of day.now) axis.now said.now.events.now said.now.room e e.what) said.now.quotes.now)) }
+    ensures { OnOk result (page.new ≡ with_parts page.old (flat_map (λ e. if_quote_parts participants.now (sheet_of day.now) said.now.tick axis.now said.now.events.now said.now.room e e.what) said.now.quotes.now)) }
 {
     for event in said.quotes {
         add_if_quote(alloc, page, participants, day, axis, said, event)?;
@@ -417,7 +407,7 @@ fn add_quotes(
     said: &Said<'_>,
 ) -> Result<(), AllocError>
     requires kept { IsKept day.now }
-    ensures { OnOk result (page.new ≡ with_parts page.old (all_quotes participants.now (sheet_of day.now) axis.now said.now.events.now said.now.room said.now.asked.now said.now.quotes.now)) }
+    ensures { OnOk result (page.new ≡ with_parts page.old (all_quotes participants.now (sheet_of day.now) said.now.tick axis.now said.now.events.now said.now.room said.now.asked.now said.now.quotes.now)) }
 {
     let number = number_text(alloc, said.room)?;
     let silent = silent(alloc, said.asked, said.quotes)?;
@@ -444,16 +434,25 @@ fn add_head(
     page: &mut Page,
     participants: &Participants,
     form: Form,
+    dated: bool,
     opened: &Event,
     request: &NewRequest,
     said: &Said<'_>,
     trade: &Option<RoomTrade>,
 ) -> Result<(), AllocError>
-    ensures { OnOk result (page.new ≡ with_parts page.old (head_parts form participants.now opened.now request.now said.now.asked.now said.now.quotes.now trade.now)) }
+    ensures { OnOk result (page.new ≡ with_parts page.old (head_parts form participants.now dated said.now.tick opened.now request.now said.now.asked.now said.now.quotes.now trade.now)) }
 {
     add_opening(alloc, page, form, request.room)?;
-    add_room(alloc, page, participants, opened, request, many(said.asked))?;
-    add_outcome(alloc, page, trade, many(said.quotes))
+    add_room(
+        alloc,
+        page,
+        participants,
+        dated,
+        opened,
+        request,
+        many(said.asked),
+    )?;
+    add_outcome(alloc, page, said.tick, trade, many(said.quotes))
 }
 
 /// Adds what stands behind the head of a request.
@@ -466,12 +465,29 @@ fn add_body(
     said: &Said<'_>,
 ) -> Result<(), AllocError>
     requires kept { IsKept day.now }
-    ensures { OnOk result (page.new ≡ with_parts page.old (body_parts participants.now (sheet_of day.now) said.now.events.now opened.now said.now.room said.now.asked.now said.now.quotes.now)) }
+    ensures { OnOk result (page.new ≡ with_parts page.old (body_parts participants.now (sheet_of day.now) said.now.tick said.now.events.now opened.now said.now.room said.now.asked.now said.now.quotes.now)) }
 {
     let hit = trade_moment(said.room, said.events);
     let axis = axis_of(opened.at.moment.ms(), hit, said.quotes);
-    add_asked(alloc, page, participants, day, opened, said)?;
-    add_shown(alloc, page, day, said.quotes)?;
+    add_recipients(
+        alloc,
+        page,
+        participants,
+        day.linked,
+        opened,
+        said.room,
+        said.asked,
+    )?;
+    add_shown(alloc, page, said.tick, day, said.quotes)?;
+    add_refusals_in(
+        alloc,
+        page,
+        participants,
+        day,
+        opened.at.row,
+        said.room,
+        said.quotes,
+    )?;
     add_quotes(alloc, page, participants, day, &axis, said)
 }
 
@@ -485,7 +501,7 @@ fn add_rest(
     said: &Said<'_>,
 ) -> Result<(), AllocError>
     requires kept { IsKept day.now }
-    ensures { OnOk result (page.new ≡ with_parts page.old (rest_parts form participants.now (sheet_of day.now) said.now.events.now opened.now said.now.room said.now.asked.now said.now.quotes.now)) }
+    ensures { OnOk result (page.new ≡ with_parts page.old (rest_parts form participants.now (sheet_of day.now) said.now.tick said.now.events.now opened.now said.now.room said.now.asked.now said.now.quotes.now)) }
 {
     match form {
         Form::Open => add_body(alloc, page, participants, day, opened, said),
@@ -513,6 +529,7 @@ fn add_request(
     let form = form_of(day.count, trade.is_some());
     let said = Said {
         room: request.room,
+        tick: tick_by(day.instruments, request.symbol.as_slice()),
         events,
         asked: &asked,
         quotes: &quotes,
@@ -522,6 +539,7 @@ fn add_request(
         page,
         participants,
         form,
+        day.dated,
         opened,
         request,
         &said,

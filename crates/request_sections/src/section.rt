@@ -4,8 +4,6 @@ ghost use Rattle.std.specs.Prelude.{◌≡◌, ◌≤◌, OnOk, IfOk, cond, coun
 ghost use Rattle.page_text.specs.Parts.{with_part, with_parts};
 ghost use Rattle.std.specs.List.{flat_map};
 ghost use Rattle.day_sections.specs.Folds.{folds, within};
-ghost use Rattle.day_sections.specs.Rooms.{rooms};
-ghost use Rattle.day_sections.specs.Values.{are_shown, last_moment};
 ghost use Rattle.request_sections.specs.Requests.{IsKept, by_hour, has_trade, hour_part, hour_parts, hour_text, hours, listed_parts, requests_parts, room_of, room_text, sections_of, sheet_of, some_requests, trade_in};
 
 use crate::day::Day;
@@ -15,8 +13,11 @@ use crate::prices::rises;
 use crate::requests::{add_each, said_of, trade_in};
 use crate::template::{HOUR_OF_REQUESTS, HOUR_OF_REQUESTS_END, NO_REQUEST, REQUESTS, SECTION_END};
 use day_events::{Event, ShownPrice, What};
-use day_sections::{Fold, are_shown, folds_of, hour_of, last_moment, rooms_of, up_to, within};
+use day_sections::{
+    Fold, are_shown, folds_of, hour_of, is_dated, last_moment, rooms_of, up_to, within,
+};
 use day_tables::{grouped_text, number_text};
+use instruments::Instruments;
 use page_text::Page;
 use participants::Participants;
 use sef_moment::print_utc;
@@ -235,16 +236,18 @@ fn add_rooms(
 }
 
 /// Adds the section of the requests for quotes, by the rows of the day, what its answers said and the prices shown.
-/// Rows are links, if they are on the page.
+/// Rows are links, if they are on the page. Prices have the decimals of their instruments' ticks. Times stand with
+/// their dates, if the first and the last row are of two.
 pub fn add_requests(
     alloc: Global,
     page: &mut Page,
     participants: &Participants,
+    instruments: &Instruments,
     rows: &[TrailRow],
     events: &[Event],
     shown: &[ShownPrice],
 ) -> Result<(), AllocError>
-    ensures { OnOk result (page.new ≡ with_parts page.old (requests_parts participants.now (are_shown rows.now) (last_moment rows.now) events.now shown.now (rooms events.now))) }
+    ensures { OnOk result (page.new ≡ with_parts page.old (requests_parts participants.now instruments.now rows.now events.now shown.now)) }
 {
     let requests = rooms_of(alloc, events)?;
     let count = requests.len();
@@ -252,10 +255,12 @@ pub fn add_requests(
     let ends = filed(alloc, events, By::Quote, count)?;
     let day = Day {
         linked: are_shown(rows),
+        dated: is_dated(rows),
         last: last_moment(rows),
         count,
         events,
         shown,
+        instruments,
         ordered: rises(shown),
         rooms: &rooms,
         ends: &ends,

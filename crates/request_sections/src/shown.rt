@@ -10,11 +10,11 @@ use crate::day::Day;
 use crate::prices::{at_row, on_side, total};
 use crate::template::{
     BIDS, MORE_SHOWN, NO_BID, NO_OFFER, NOBODY_QUOTED, NOTHING_RESTED, OFFERS, ROOM_SHOWN, SHOWN,
-    SHOWN_END, SHOWN_WITH,
+    SHOWN_WITH,
 };
 use day_events::{Event, ShownPrice, What};
 use day_sections::up_to;
-use day_tables::{grouped_text, number_text, price_bytes, wide_text};
+use day_tables::{grouped_text, number_text, ticked_price, wide_text};
 use page_text::Page;
 use std::alloc::{AllocError, Global};
 
@@ -22,20 +22,30 @@ use std::alloc::{AllocError, Global};
 const MOST_SHOWN: usize = 4;
 
 /// Adds a resting order that was shown.
-fn add_price(alloc: Global, page: &mut Page, shown: &ShownPrice) -> Result<(), AllocError>
-    ensures { OnOk result (page.new ≡ with_parts page.old (price_parts shown.now)) }
+fn add_price(
+    alloc: Global,
+    page: &mut Page,
+    tick: u64,
+    shown: &ShownPrice,
+) -> Result<(), AllocError>
+    ensures { OnOk result (page.new ≡ with_parts page.old (price_parts tick shown.now)) }
 {
     let quantity = grouped_text(alloc, shown.left.get())?;
-    let price = price_bytes(alloc, shown.price)?;
+    let price = ticked_price(alloc, tick, shown.price)?;
     let order = number_text(alloc, shown.order)?;
     page.add(SHOWN, &[&quantity, &price, &order])
 }
 
-fn add_each_price(alloc: Global, page: &mut Page, prices: &[ShownPrice]) -> Result<(), AllocError>
-    ensures { OnOk result (page.new ≡ with_parts page.old (flat_map price_parts prices.now)) }
+fn add_each_price(
+    alloc: Global,
+    page: &mut Page,
+    tick: u64,
+    prices: &[ShownPrice],
+) -> Result<(), AllocError>
+    ensures { OnOk result (page.new ≡ with_parts page.old (flat_map (price_parts tick) prices.now)) }
 {
     for price in prices {
-        add_price(alloc, page, price)?;
+        add_price(alloc, page, tick, price)?;
     }
     Ok(())
 }
@@ -83,13 +93,14 @@ fn add_no_price(page: &mut Page, bid: bool) -> Result<(), AllocError>
 fn add_some_prices(
     alloc: Global,
     page: &mut Page,
+    tick: u64,
     prices: &[ShownPrice],
     bid: bool,
 ) -> Result<(), AllocError>
-    ensures { OnOk result (page.new ≡ with_parts page.old (some_prices bid prices.now)) }
+    ensures { OnOk result (page.new ≡ with_parts page.old (some_prices tick bid prices.now)) }
 {
     add_word(page, bid)?;
-    add_each_price(alloc, page, up_to(prices, MOST_SHOWN))?;
+    add_each_price(alloc, page, tick, up_to(prices, MOST_SHOWN))?;
     add_more(alloc, page, prices)
 }
 
@@ -97,35 +108,46 @@ fn add_some_prices(
 fn add_side(
     alloc: Global,
     page: &mut Page,
+    tick: u64,
     prices: &[ShownPrice],
     bid: bool,
 ) -> Result<(), AllocError>
-    ensures { OnOk result (page.new ≡ with_parts page.old (side_parts bid prices.now)) }
+    ensures { OnOk result (page.new ≡ with_parts page.old (side_parts tick bid prices.now)) }
 {
     if prices.len() == 0 {
         add_no_price(page, bid)
     } else {
-        add_some_prices(alloc, page, prices, bid)
+        add_some_prices(alloc, page, tick, prices, bid)
     }
 }
 
-fn add_both(alloc: Global, page: &mut Page, prices: &[ShownPrice]) -> Result<(), AllocError>
-    ensures { OnOk result (page.new ≡ with_parts page.old (both_parts prices.now)) }
+fn add_both(
+    alloc: Global,
+    page: &mut Page,
+    tick: u64,
+    prices: &[ShownPrice],
+) -> Result<(), AllocError>
+    ensures { OnOk result (page.new ≡ with_parts page.old (both_parts tick prices.now)) }
 {
     let bids = on_side(alloc, prices, true)?;
     let offers = on_side(alloc, prices, false)?;
-    add_side(alloc, page, &bids, true)?;
-    add_side(alloc, page, &offers, false)
+    add_side(alloc, page, tick, &bids, true)?;
+    add_side(alloc, page, tick, &offers, false)
 }
 
 /// Adds the prices of both sides, or that nothing rested.
-fn add_prices(alloc: Global, page: &mut Page, prices: &[ShownPrice]) -> Result<(), AllocError>
-    ensures { OnOk result (page.new ≡ with_parts page.old (prices_parts prices.now)) }
+fn add_prices(
+    alloc: Global,
+    page: &mut Page,
+    tick: u64,
+    prices: &[ShownPrice],
+) -> Result<(), AllocError>
+    ensures { OnOk result (page.new ≡ with_parts page.old (prices_parts tick prices.now)) }
 {
     if prices.len() == 0 {
         page.add(NOTHING_RESTED, &[])
     } else {
-        add_both(alloc, page, prices)
+        add_both(alloc, page, tick, prices)
     }
 }
 
@@ -148,12 +170,18 @@ fn add_with(alloc: Global, page: &mut Page, what: &What) -> Result<(), AllocErro
 }
 
 /// Adds what was shown with a quote.
-fn add_first(alloc: Global, page: &mut Page, day: &Day<'_>, first: &Event) -> Result<(), AllocError>
+fn add_first(
+    alloc: Global,
+    page: &mut Page,
+    tick: u64,
+    day: &Day<'_>,
+    first: &Event,
+) -> Result<(), AllocError>
     requires kept { IsKept day.now }
-    ensures { OnOk result (page.new ≡ with_parts page.old (first_parts day.now.shown.now first.now)) }
+    ensures { OnOk result (page.new ≡ with_parts page.old (first_parts tick day.now.shown.now first.now)) }
 {
     let prices = at_row(alloc, day.shown, day.ordered, first.at.row)?;
-    add_prices(alloc, page, &prices)?;
+    add_prices(alloc, page, tick, &prices)?;
     add_with(alloc, page, &first.what)
 }
 
@@ -161,15 +189,16 @@ fn add_first(alloc: Global, page: &mut Page, day: &Day<'_>, first: &Event) -> Re
 fn add_with_first(
     alloc: Global,
     page: &mut Page,
+    tick: u64,
     day: &Day<'_>,
     quotes: &[Event],
 ) -> Result<(), AllocError>
     requires kept { IsKept day.now }
-    ensures { OnOk result (page.new ≡ with_parts page.old (shown_parts day.now.shown.now quotes.now)) }
+    ensures { OnOk result (page.new ≡ with_parts page.old (shown_parts tick day.now.shown.now quotes.now)) }
 {
     match quotes.split_first() {
         None => page.add(NOBODY_QUOTED, &[]),
-        Some((first, _)) => add_first(alloc, page, day, first),
+        Some((first, _)) => add_first(alloc, page, tick, day, first),
     }
 }
 
@@ -177,13 +206,13 @@ fn add_with_first(
 pub(crate) fn add_shown(
     alloc: Global,
     page: &mut Page,
+    tick: u64,
     day: &Day<'_>,
     quotes: &[Event],
 ) -> Result<(), AllocError>
     requires kept { IsKept day.now }
-    ensures { OnOk result (page.new ≡ with_parts page.old (shown_section day.now.shown.now quotes.now)) }
+    ensures { OnOk result (page.new ≡ with_parts page.old (shown_section tick day.now.shown.now quotes.now)) }
 {
     page.add(ROOM_SHOWN, &[])?;
-    add_with_first(alloc, page, day, quotes)?;
-    page.add(SHOWN_END, &[])
+    add_with_first(alloc, page, tick, day, quotes)
 }

@@ -5,7 +5,7 @@ pub(crate) const CELL_END: &[u8] = b"</td></tr>";
 
 /// The head of the requests for quotes.
 pub(crate) const REQUESTS: &[u8] =
-    b"<section id=\"requests\">\n<h2>Requests for quotes<small>$count;</small></h2>\n<p class=\"lead\">To whom each request went, what was shown with its first quote, each quote and what became of it, and the trade (17 CFR 37.9(a)(2), (a)(3)). Of more than 300 requests those without a trade have their line alone: <code>sef_replay --answers --room</code> prints what was said of them. The bar is how long a quote was live, the thin line goes on to its stated end, dashes are the hit; each request has its own scale.</p>\n";
+    b"<section id=\"requests\">\n<h2>Requests for quotes<small>$count;</small></h2>\n<p class=\"lead\">To whom each request went, three of them who are unrelated, what was shown with its first quote, what was refused, each quote and what became of it, and the trade (17 CFR 37.9(a)(2), (a)(3)). Of more than 300 requests those without a trade have their line alone: <code>sef_replay --answers --room</code> prints what was said of them. Refused here are first messages that name the request, then those that name a quote of it. The bar is how long a quote was live, the thin line goes on to its stated end, dashes are the hit; each request has its own scale.</p>\n";
 
 /// An hour with requests, up to these.
 pub(crate) const HOUR_OF_REQUESTS: &[u8] =
@@ -42,16 +42,6 @@ pub(crate) const ROOM_TRADED_ALONE: &[u8] =
 pub(crate) const ROOM_IDLE: &[u8] =
     b"<span class=\"out\">no trade <small>quotes: $quotes;</small></span>";
 
-/// Whom it asked, up to the names.
-pub(crate) const ROOM_ASKED: &[u8] =
-    b"</summary>\n<dl class=\"asked\" id=\"R$room;\"><dt>Asked together</dt><dd>";
-
-/// A name in a list.
-pub(crate) const NAME: &[u8] = b"<span class=\"lo\">$name;</span> ";
-
-/// The row of a request, up to its number.
-pub(crate) const ASKED_ROW: &[u8] = b"row ";
-
 /// What was shown with the first quote, up to the orders.
 pub(crate) const ROOM_SHOWN: &[u8] = b"</dd><dt>Shown with the first quote</dt><dd>";
 
@@ -60,7 +50,7 @@ pub(crate) const SHOWN: &[u8] =
     b"<span class=\"w\">$quantity; @ $price; <small>O$order;</small></span> ";
 
 /// How many more of a side were shown, and the quantity of all.
-pub(crate) const MORE_SHOWN: &[u8] = b"and $count; more orders, quantity of all $quantity;";
+pub(crate) const MORE_SHOWN: &[u8] = b"more orders: $count;, quantity of that side: $quantity;";
 
 /// The bids, up to the first.
 pub(crate) const BIDS: &[u8] = b"bids ";
@@ -84,8 +74,17 @@ pub(crate) const NOBODY_QUOTED: &[u8] = b"nothing was shown, since no quote was 
 /// An empty book.
 pub(crate) const NOTHING_RESTED: &[u8] = b"nothing rested in the book";
 
-/// The end of what was shown.
-pub(crate) const SHOWN_END: &[u8] = b"</dd></dl>\n";
+/// What was refused in a request, up to the first.
+pub(crate) const REFUSED_HERE: &[u8] = b"</dd><dt>Refused here</dt><dd>";
+
+/// A message that was refused, up to its row.
+pub(crate) const REFUSED: &[u8] = b"<div>$sender; on $named; at $time;: $cause; <small>row ";
+
+/// The end of that.
+pub(crate) const REFUSED_END: &[u8] = b"</small></div>";
+
+/// The end of what stands before the quotes.
+pub(crate) const ASKED_END: &[u8] = b"</dd></dl>\n";
 
 /// The head of the quotes.
 pub(crate) const QUOTES: &[u8] =

@@ -6,8 +6,8 @@ use Rattle.request_sections.proofs.requests.add_each_quote.Goals as goal
 
 pub loop-event-preserved : goal.loop-event-preserved
 loop-event-preserved c =
-    goes_on (λ e. if_quote_parts c.args.participants.now (sheet_of c.args.day.now) c.args.axis.now c.args.said.now.events.now c.args.said.now.room e e.what) c.args.said.now.quotes.now c.loop-event.event-index c.event-item.result c.loop-event.page c.add_if_quote.new.page (with_parts c.args.page.now (flat_map (λ e. if_quote_parts c.args.participants.now (sheet_of c.args.day.now) c.args.axis.now c.args.said.now.events.now c.args.said.now.room e e.what) c.args.said.now.quotes.now))
+    goes_on (λ e. if_quote_parts c.args.participants.now (sheet_of c.args.day.now) c.args.said.now.tick c.args.axis.now c.args.said.now.events.now c.args.said.now.room e e.what) c.args.said.now.quotes.now c.loop-event.event-index c.event-item.result c.loop-event.page c.add_if_quote.new.page (with_parts c.args.page.now (flat_map (λ e. if_quote_parts c.args.participants.now (sheet_of c.args.day.now) c.args.said.now.tick c.args.axis.now c.args.said.now.events.now c.args.said.now.room e e.what) c.args.said.now.quotes.now))
     c.loop-event-test.true c.event-item.is c.in_ok-add_if_quote.ensures c.loop-event.invariant
 
 pub returns : goal.returns
-returns c = goes_out (λ e. if_quote_parts c.args.participants.now (sheet_of c.args.day.now) c.args.axis.now c.args.said.now.events.now c.args.said.now.room e e.what) c.args.said.now.quotes.now c.loop-event.event-index c.loop-event.page (with_parts c.args.page.now (flat_map (λ e. if_quote_parts c.args.participants.now (sheet_of c.args.day.now) c.args.axis.now c.args.said.now.events.now c.args.said.now.room e e.what) c.args.said.now.quotes.now)) c.loop-event-test.false c.loop-event.invariant
+returns c = goes_out (λ e. if_quote_parts c.args.participants.now (sheet_of c.args.day.now) c.args.said.now.tick c.args.axis.now c.args.said.now.events.now c.args.said.now.room e e.what) c.args.said.now.quotes.now c.loop-event.event-index c.loop-event.page (with_parts c.args.page.now (flat_map (λ e. if_quote_parts c.args.participants.now (sheet_of c.args.day.now) c.args.said.now.tick c.args.axis.now c.args.said.now.events.now c.args.said.now.room e e.what) c.args.said.now.quotes.now)) c.loop-event-test.false c.loop-event.invariant

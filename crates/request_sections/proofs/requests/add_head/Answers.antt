@@ -12,7 +12,7 @@ returns c =
     let file = c.args.participants.now in
     let r = c.args.request.now in
     let e = c.args.opened.now in
-    let room = c.in_ok-add_room.ensures ∙ (λ j. with_part (c.in_ok-add_opening.ensures j) (room_part file e r (c.many.ensures j))) in
+    let room = c.in_ok-add_room.ensures ∙ (λ j. with_part (c.in_ok-add_opening.ensures j) (room_part file c.args.dated e r (c.many.ensures j))) in
     on_ok_weaker c.add_outcome.result
-    (λ h. h ∙ (λ j. with_part (room j) (outcome_part c.args.trade.now (c.many-2.ensures j))))
+    (λ h. h ∙ (λ j. with_part (room j) (outcome_part c.args.said.now.tick c.args.trade.now (c.many-2.ensures j))))
     c.add_outcome.ensures

@@ -15,7 +15,7 @@ pub returns : goal.returns
 returns c =
     let said = c.args.said.now in
     let file = c.args.participants.now in
-    let quotes : List Part = flat_map (λ e. if_quote_parts file (sheet_of c.args.day.now) c.args.axis.now said.events.now said.room e e.what) said.quotes.now in
+    let quotes : List Part = flat_map (λ e. if_quote_parts file (sheet_of c.args.day.now) said.tick c.args.axis.now said.events.now said.room e e.what) said.quotes.now in
     let silent : List Part = silent_parts file (filter (is_silent said.quotes.now) said.asked.now) in
     on_ok_weaker c.add-2.result
     (in_frame c.args.page.now c.add.new.self c.add_silent.new.page c.add-2.new.self (quotes_part said.room) (quotes ++ silent) (plain_part ROOM_END.now)

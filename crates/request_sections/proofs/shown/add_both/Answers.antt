@@ -13,7 +13,7 @@ pub returns : goal.returns
 returns c =
     let ps = c.args.prices.now in
     on_ok_weaker c.add_side-2.result
-    (λ e. in_turn c.args.page.now c.add_side.new.page c.add_side-2.new.page (side_parts true (on_side true ps)) (side_parts false (on_side false ps))
-    (c.in_ok-add_side.ensures ∙ ap (λ (l : List ShownPrice). with_parts c.args.page.now (side_parts true l)) (c.deref.ensures.value ∙ c.in_ok-bids.ensures))
-    (e ∙ ap (λ (l : List ShownPrice). with_parts c.add_side.new.page (side_parts false l)) (c.deref-2.ensures.value ∙ c.in_ok-offers.ensures)))
+    (λ e. in_turn c.args.page.now c.add_side.new.page c.add_side-2.new.page (side_parts c.args.tick true (on_side true ps)) (side_parts c.args.tick false (on_side false ps))
+    (c.in_ok-add_side.ensures ∙ ap (λ (l : List ShownPrice). with_parts c.args.page.now (side_parts c.args.tick true l)) (c.deref.ensures.value ∙ c.in_ok-bids.ensures))
+    (e ∙ ap (λ (l : List ShownPrice). with_parts c.add_side.new.page (side_parts c.args.tick false l)) (c.deref-2.ensures.value ∙ c.in_ok-offers.ensures)))
     c.add_side-2.ensures

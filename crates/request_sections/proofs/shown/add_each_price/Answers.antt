@@ -6,8 +6,8 @@ use Rattle.request_sections.proofs.shown.add_each_price.Goals as goal
 
 pub loop-price-preserved : goal.loop-price-preserved
 loop-price-preserved c =
-    goes_on (price_parts) c.args.prices.now c.loop-price.price-index c.price-item.result c.loop-price.page c.add_price.new.page (with_parts c.args.page.now (flat_map (price_parts) c.args.prices.now))
+    goes_on (price_parts c.args.tick) c.args.prices.now c.loop-price.price-index c.price-item.result c.loop-price.page c.add_price.new.page (with_parts c.args.page.now (flat_map (price_parts c.args.tick) c.args.prices.now))
     c.loop-price-test.true c.price-item.is c.in_ok-add_price.ensures c.loop-price.invariant
 
 pub returns : goal.returns
-returns c = goes_out (price_parts) c.args.prices.now c.loop-price.price-index c.loop-price.page (with_parts c.args.page.now (flat_map (price_parts) c.args.prices.now)) c.loop-price-test.false c.loop-price.invariant
+returns c = goes_out (price_parts c.args.tick) c.args.prices.now c.loop-price.price-index c.loop-price.page (with_parts c.args.page.now (flat_map (price_parts c.args.tick) c.args.prices.now)) c.loop-price-test.false c.loop-price.invariant

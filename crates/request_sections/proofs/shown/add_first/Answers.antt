@@ -13,6 +13,6 @@ returns c =
     let ps = c.args.day.now.shown.now in
     let q = c.args.first.now in
     on_ok_weaker c.add_with.result
-    (λ e. in_turn c.args.page.now c.add_prices.new.page c.add_with.new.page (prices_parts (at_row q.at.row ps)) (with_parts_of q.what)
-    (c.in_ok-add_prices.ensures ∙ ap (λ (l : List ShownPrice). with_parts c.args.page.now (prices_parts l)) (c.deref.ensures.value ∙ c.in_ok-prices.ensures)) e)
+    (λ e. in_turn c.args.page.now c.add_prices.new.page c.add_with.new.page (prices_parts c.args.tick (at_row q.at.row ps)) (with_parts_of q.what)
+    (c.in_ok-add_prices.ensures ∙ ap (λ (l : List ShownPrice). with_parts c.args.page.now (prices_parts c.args.tick l)) (c.deref.ensures.value ∙ c.in_ok-prices.ensures)) e)
     c.add_with.ensures

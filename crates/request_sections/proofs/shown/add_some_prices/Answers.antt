@@ -13,6 +13,6 @@ returns c =
     let ps = c.args.prices.now in
     let head : Part = word_part c.args.bid in
     on_ok_weaker c.add_more.result
-    (λ e. in_turn (with_part c.args.page.now head) c.add_each_price.new.page c.add_more.new.page (flat_map price_parts (take most_shown ps)) (more_parts ps)
-    (c.in_ok-add_each_price.ensures ∙ (λ j. with_parts (c.in_ok-add_word.ensures j) (flat_map price_parts (c.up_to.ensures j)))) e)
+    (λ e. in_turn (with_part c.args.page.now head) c.add_each_price.new.page c.add_more.new.page (flat_map (price_parts c.args.tick) (take most_shown ps)) (more_parts ps)
+    (c.in_ok-add_each_price.ensures ∙ (λ j. with_parts (c.in_ok-add_word.ensures j) (flat_map (price_parts c.args.tick) (c.up_to.ensures j)))) e)
     c.add_more.ensures

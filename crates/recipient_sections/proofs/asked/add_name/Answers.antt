@@ -1,8 +1,8 @@
-use Rattle.std.proofs.Common.{◌∷◌, [], ◌∙◌, ap, sym, List, ℕ, length}
+use Rattle.std.proofs.Common.{◌∷◌, [], ◌∙◌}
 use Rattle.std.proofs.lemmas.Result.{on_ok_weaker}
-use Rattle.page_text.specs.Parts.{with_part, with_parts}
-use Rattle.request_sections.specs.declared.template.TheConstants.{NAME}
-use Rattle.request_sections.proofs.requests.add_name.Goals as goal
+use Rattle.page_text.specs.Parts.{with_part}
+use Rattle.recipient_sections.specs.declared.template.TheConstants.{NAME}
+use Rattle.recipient_sections.proofs.asked.add_name.Goals as goal
 
 pub returns : goal.returns
 returns c =

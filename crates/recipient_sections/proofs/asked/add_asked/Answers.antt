@@ -1,20 +1,19 @@
-use Rattle.std.proofs.Common.{◌∷◌, [], ◌∙◌, ◌≡◌, ◌++◌, ap, sym, List, ℕ, length, take, Bool}
+use Rattle.std.proofs.Common.{◌∷◌, [], ◌∙◌, List}
 use Rattle.std.proofs.lemmas.Result.{on_ok_weaker}
 use Rattle.std.specs.List.{flat_map}
-use Rattle.page_text.specs.Parts.{Part, with_part, with_parts}
+use Rattle.page_text.specs.Parts.{Part, with_part}
 use Rattle.day_tables.specs.Parts.{framed, plain_part}
 use Rattle.day_sections.proofs.Walks.{in_frame, in_turn}
-use Rattle.request_sections.specs.Requests.{asked_part, asked_parts}
-use Rattle.request_sections.specs.declared.template.TheConstants.{ASKED_ROW, ROOM_ASKED}
 use Rattle.day_sections.specs.Values.{row_part}
-use Rattle.request_sections.proofs.requests.add_asked.Goals as goal
+use Rattle.recipient_sections.specs.Asked.{asked_part, name_parts}
+use Rattle.recipient_sections.specs.declared.template.TheConstants.{ASKED_ROW, ROOM_ASKED}
+use Rattle.recipient_sections.proofs.asked.add_asked.Goals as goal
 
 pub returns : goal.returns
 returns c =
-    let said = c.args.said.now in
-    let head : Part = asked_part said.room in
-    let names : List Part = flat_map (asked_parts c.args.participants.now) said.asked.now in
-    let row : Part = row_part c.args.day.now.linked c.args.opened.now.at.row in
+    let head : Part = asked_part c.args.room in
+    let names : List Part = flat_map (name_parts c.args.participants.now) c.args.asked.now in
+    let row : Part = row_part c.args.linked c.args.opened.now.at.row in
     on_ok_weaker c.add_row_number.result
     (in_turn c.args.page.now c.add-2.new.self c.add_row_number.new.page (framed head names (plain_part ASKED_ROW.now)) (row ∷ [])
     (in_frame c.args.page.now c.add.new.self c.add_names.new.page c.add-2.new.self head names (plain_part ASKED_ROW.now)
