@@ -1,0 +1,4 @@
+-- the crosses of a day
+pub mod Crosses
+-- their section
+pub mod Section
