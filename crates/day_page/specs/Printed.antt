@@ -14,11 +14,11 @@ use Rattle.day_events.specs.Days.{events, shown}
 use Rattle.day_page.specs.Rows.{listed}
 use Rattle.day_page.specs.Sections.{Said, page_parts}
 
--- a page of this history, of which this is said, with the messages that the rows on it spell
-pub record IsPage (m : Market) (t : Trail) (h : History) (d : Said) (page : List ℕ) : Type 0 where
+-- a page of this history and of these inputs, of which this is said, with the messages that the rows on it spell
+pub record IsPage (m : Market) (t : Trail) (h : History) (items : List Input) (d : Said) (page : List ℕ) : Type 0 where
   pub read : List Input
   pub read_of : AreEmitted (listed t.rows) read
-  pub is : page ≡ page_of (page_parts m t h d read)
+  pub is : page ≡ page_of (page_parts m t h items d read)
 
 -- what is said of the run of these inputs, by the replies of that run
 abbrev pub said_in : Market → List TrailRow → List Input → Said
@@ -31,7 +31,7 @@ pub record IsDay (m : Market) (t : Trail) (page : List ℕ) : Type 0 where
   pub emitted : AreOf t.rows items
   pub read : List Input
   pub read_of : AreOf (listed t.rows) read
-  pub is : page ≡ page_of (page_parts m t (run m items).history (said_in m t.rows items) read)
+  pub is : page ≡ page_of (page_parts m t (run m items).history items (said_in m t.rows items) read)
 
 -- that page was written, and no other byte
 pub record EmitsPage (m : Market) (t : Trail) (before after : Option (List ℕ)) : Type 0 where

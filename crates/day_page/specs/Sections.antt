@@ -25,16 +25,19 @@ use Rattle.surveillance.specs.Deeds.{deeds}
 use Rattle.surveillance.specs.Pairs.{linked_in}
 use Rattle.surveillance.specs.Thresholds.{usual}
 use Rattle.rule_counts.specs.Rules.{rules_parts}
-use Rattle.day_sections.specs.Alarms.{alarms_parts}
+use Rattle.alarm_sections.specs.Alarms.{alarms_parts}
 use Rattle.day_sections.specs.Figures.{figures_part}
-use Rattle.day_sections.specs.Linked.{linked_trades_parts}
+use Rattle.alarm_sections.specs.Linked.{linked_trades_parts}
+use Rattle.cross_sections.specs.Crosses.{crosses}
+use Rattle.cross_sections.specs.Section.{crosses_parts}
+use Rattle.day_sections.specs.Flags.{flags}
 use Rattle.day_sections.specs.People.{people_parts}
 use Rattle.day_sections.specs.Refusals.{causes, refusals_parts}
 use Rattle.day_sections.specs.Reports.{reports}
 use Rattle.request_sections.specs.Requests.{requests_parts}
 use Rattle.day_sections.specs.Rooms.{rooms}
 use Rattle.day_sections.specs.Trades.{trades_parts}
-use Rattle.day_sections.specs.Values.{are_shown, last_moment as end_moment}
+use Rattle.day_sections.specs.Values.{are_shown, is_dated}
 use Rattle.day_tables.specs.Bulletin.{bulletin_parts}
 use Rattle.day_tables.specs.Parts.{plain_part}
 use Rattle.day_tables.specs.Values.{date_in, date_of, grouped, moment_of}
@@ -130,29 +133,46 @@ charted m rs h reports bs = record {
 abbrev pub charts_parts : Market → List TrailRow → History → List Event → List Best → List Part
 charts_parts m rs h reports bs = instruments_parts m.instruments (charted m rs h reports bs)
 
--- the trades, each with the row that reports it
-abbrev pub reported_parts : Market → List TrailRow → History → List Event → List Part
-reported_parts m rs h reports = trades_parts m.participants m.instruments (are_shown rs) reports (trade_facts h.facts)
+-- the trades, each with the row that reports it, and those of linked orders with a link to their line
+abbrev pub reported_parts : Market → List TrailRow → History → List Event → List LinkedTrade → List Part
+reported_parts m rs h reports linked = trades_parts (record {
+  participants = m.participants;
+  instruments = m.instruments;
+  reports = reports;
+  flags = flags linked (length (trade_facts h.facts));
+  shown = are_shown rs;
+  dated = is_dated rs;
+}) (trade_facts h.facts)
 
 -- the day in six figures, the rules, the bulletin, the instruments and the trades
 abbrev pub tables_parts : Market → List TrailRow → History → Said → List LinkedTrade → List Part
-tables_parts m rs h d linked = counts_parts m rs h d linked ++ (charts_parts m rs h (reports d.events) d.bests ++ reported_parts m rs h (reports d.events))
+tables_parts m rs h d linked = counts_parts m rs h d linked ++ (charts_parts m rs h (reports d.events) d.bests ++ reported_parts m rs h (reports d.events) linked)
 
 -- the requests for quotes, the refusals and the participants
 abbrev pub answered_parts : Market → List TrailRow → History → Said → List Deed → List Part
 answered_parts m rs h d ds =
-    requests_parts m.participants (are_shown rs) (end_moment rs) d.events d.shown (rooms d.events)
+    requests_parts m.participants m.instruments rs d.events d.shown
     ++ (refusals_parts m.participants (are_shown rs) d.events (causes d.events)
     ++ people_parts m.participants rs (trade_facts h.facts) d.events ds)
 
--- the trades of linked orders, and the alarms
-abbrev pub watched_parts : Market → List TrailRow → Found → List Part
-watched_parts m rs f = linked_trades_parts m.participants (are_shown rs) f.linked ++ alarms_parts m.participants (are_shown rs) f.alarms
+-- the crosses
+abbrev pub crossed_parts : Market → List TrailRow → List Input → List Event → List Part
+crossed_parts m rs items es = crosses_parts (record { market = m; shown = are_shown rs; dated = is_dated rs }) (crosses m.instruments items es)
 
-abbrev pub page_with : Market → Trail → History → Said → Found → List Input → List Part
-page_with m t h d f read =
-    head_parts m t ++ (tables_parts m t.rows h d f.linked ++ (answered_parts m t.rows h d f.deeds ++ (watched_parts m t.rows f ++ (rows_parts m.participants t.rows read ++ plain_part END.now ∷ []))))
+-- the trades of linked orders, the crosses, and the alarms
+abbrev pub watched_parts : Market → List TrailRow → List Input → Said → Found → List Part
+watched_parts m rs items d f =
+    linked_trades_parts m.participants (are_shown rs) (is_dated rs) f.linked
+    ++ (crossed_parts m rs items d.events ++ alarms_parts m.participants (are_shown rs) f.alarms)
 
--- the page of a trail, whose rows led to this history, of which this is said, and spell these inputs
-abbrev pub page_parts : Market → Trail → History → Said → List Input → List Part
-page_parts m t h d read = page_with m t h d (found_in m (trade_facts h.facts) d) read
+abbrev pub page_with : Market → Trail → History → List Input → Said → Found → List Input → List Part
+page_with m t h items d f read =
+    head_parts m t
+    ++ (tables_parts m t.rows h d f.linked
+    ++ (answered_parts m t.rows h d f.deeds
+    ++ (watched_parts m t.rows items d f ++ (rows_parts m.participants t.rows read ++ plain_part END.now ∷ []))))
+
+-- the page of a trail, whose rows have these inputs and led to this history, of which this is said; the rows on it
+-- spell these messages
+abbrev pub page_parts : Market → Trail → History → List Input → Said → List Input → List Part
+page_parts m t h items d read = page_with m t h items d (found_in m (trade_facts h.facts) d) read

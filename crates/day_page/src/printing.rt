@@ -1,25 +1,28 @@
 //! The page of a day, written.
 
-ghost use Rattle.std.specs.Prelude.{◌≡◌, ◌≤◌, All, IfErr, IfOk, OnOk, length};
+ghost use Rattle.std.specs.Prelude.{◌≡◌, ◌≤◌, All, IfErr, IfOk, List, OnOk, length};
 ghost use Rattle.std.specs.Io.KnownBytes.{Appends, Keeps};
 ghost use Rattle.page_text.specs.Parts.{with_parts};
 ghost use Rattle.trade_blotter.specs.declared.printing.PrintFault.TheVariants.{Memory, Output};
 ghost use Rattle.trail_digest.specs.Trail.{trail_of};
 ghost use Rattle.venue_core.specs.Plan.{most_items};
-ghost use Rattle.venue_core.specs.Replay.{IsItem};
+ghost use Rattle.venue_core.specs.Replay.{AreEmitted, IsItem};
 ghost use Rattle.venue_core.specs.VenueFacts.{IsHistory};
 ghost use Rattle.venue_rules.specs.Facts.{History};
 ghost use Rattle.venue_rules.specs.Readings.{trade_facts};
+ghost use Rattle.venue_rules.specs.Run.{Input};
 ghost use Rattle.day_page.specs.Printed.{EmitsPage, IsDay, IsPage};
-ghost use Rattle.day_page.specs.Sections.{answered_parts, charts_parts, counts_parts, found_in, found_of, law_parts, reported_parts, said_of, tables_parts, watched_parts};
+ghost use Rattle.day_page.specs.Sections.{answered_parts, charts_parts, counts_parts, crossed_parts, found_in, found_of, law_parts, reported_parts, said_of, tables_parts, watched_parts};
 
 use crate::head::add_head;
 use crate::rows::add_rows;
 use crate::template::END;
+use alarm_sections::{Lines, add_alarms, add_linked};
+use cross_sections::{Form, add_crosses, crosses_of};
 use day_events::{Event, PricedDay, priced_day_of};
 use day_sections::{
-    Counted, Reported, add_alarms, add_figures, add_linked, add_people, add_refusals, add_trades,
-    are_shown, many, reports_of, rooms_of,
+    Counted, Reported, add_figures, add_people, add_refusals, add_trades, are_shown, flags_of,
+    is_dated, many, reports_of, rooms_of,
 };
 use day_tables::add_bulletin;
 use instrument_charts::{Charted, add_instruments, deals_of, first_moment, last_moment, rests_of};
@@ -123,24 +126,34 @@ fn add_charts(
     add_instruments(alloc, page, venue.instruments(), &charted)
 }
 
+/// The reports of a day's trades, and those of linked orders.
+#[derive(Clone, Copy)]
+struct Traded<'a> {
+    reports: &'a [Event],
+    linked: &'a [LinkedTrade],
+}
+
 /// Adds the trades, each with the row at which it was reported.
 fn add_reported(
     alloc: Global,
     page: &mut Page,
     day: &PricedDay,
     rows: &[TrailRow],
-    reports: &[Event],
+    traded: &Traded<'_>,
 ) -> Result<(), AllocError>
-    ensures { (h : History) → IsHistory day.now.venue h → OnOk result (page.new ≡ with_parts page.old (reported_parts day.now.venue.market rows.now h reports.now)) }
+    ensures { (h : History) → IsHistory day.now.venue h → OnOk result (page.new ≡ with_parts page.old (reported_parts day.now.venue.market rows.now h traded.now.reports.now traded.now.linked.now)) }
 {
-    let participants = day.venue.participants();
-    let instruments = day.venue.instruments();
     let trades = day.venue.trades();
+    let flags = flags_of(alloc, traded.linked, trades.len())?;
     let reported = Reported {
-        linked: are_shown(rows),
-        reports,
+        participants: day.venue.participants(),
+        instruments: day.venue.instruments(),
+        reports: traded.reports,
+        flags: &flags,
+        shown: are_shown(rows),
+        dated: is_dated(rows),
     };
-    add_trades(alloc, page, participants, instruments, &reported, trades)
+    add_trades(alloc, page, &reported, trades)
 }
 
 /// Adds the day in six figures, the rules, the bulletin, the instruments and the trades.
@@ -156,7 +169,11 @@ fn add_tables(
     let reports = reports_of(alloc, &day.events)?;
     add_counts(alloc, page, day, rows, linked)?;
     add_charts(alloc, page, day, rows, &reports)?;
-    add_reported(alloc, page, day, rows, &reports)
+    let traded = Traded {
+        reports: &reports,
+        linked,
+    };
+    add_reported(alloc, page, day, rows, &traded)
 }
 
 /// Adds the requests for quotes, the refusals and the participants.
@@ -170,6 +187,7 @@ fn add_answered(
     ensures { (h : History) → IsHistory day.now.venue h → OnOk result (page.new ≡ with_parts page.old (answered_parts day.now.venue.market rows.now h (said_of day.now) deeds.now)) }
 {
     let participants = day.venue.participants();
+    let instruments = day.venue.instruments();
     let linked = are_shown(rows);
     let counted = Counted {
         rows,
@@ -177,12 +195,41 @@ fn add_answered(
         events: &day.events,
         deeds,
     };
-    add_requests(alloc, page, participants, rows, &day.events, &day.shown)?;
+    add_requests(
+        alloc,
+        page,
+        participants,
+        instruments,
+        rows,
+        &day.events,
+        &day.shown,
+    )?;
     add_refusals(alloc, page, participants, linked, &day.events)?;
     add_people(alloc, page, participants, &counted)
 }
 
-/// Adds the trades of linked orders, and the alarms.
+/// Adds the crosses.
+fn add_crossed(
+    alloc: Global,
+    page: &mut Page,
+    day: &PricedDay,
+    rows: &[TrailRow],
+) -> Result<(), AllocError>
+    requires kept { All IsItem rows.now }
+    ensures { (items : List Input) → AreEmitted rows.now items → OnOk result (page.new ≡ with_parts page.old (crossed_parts day.now.venue.market rows.now items day.now.events.items)) }
+{
+    let instruments = day.venue.instruments();
+    let crosses = crosses_of(alloc, instruments, rows, &day.events)?;
+    let form = Form {
+        participants: day.venue.participants(),
+        instruments,
+        shown: are_shown(rows),
+        dated: is_dated(rows),
+    };
+    add_crosses(alloc, page, &form, &crosses)
+}
+
+/// Adds the trades of linked orders, the crosses, and the alarms.
 fn add_watched(
     alloc: Global,
     page: &mut Page,
@@ -190,17 +237,24 @@ fn add_watched(
     rows: &[TrailRow],
     found: &Findings,
 ) -> Result<(), AllocError>
-    ensures { OnOk result (page.new ≡ with_parts page.old (watched_parts day.now.venue.market rows.now (found_of found.now))) }
+    requires kept { All IsItem rows.now }
+    ensures { (items : List Input) → AreEmitted rows.now items → OnOk result (page.new ≡ with_parts page.old (watched_parts day.now.venue.market rows.now items (said_of day.now) (found_of found.now))) }
 {
     let participants = day.venue.participants();
-    add_linked(alloc, page, participants, are_shown(rows), &found.linked)?;
+    let lines = Lines {
+        participants,
+        shown: are_shown(rows),
+        dated: is_dated(rows),
+    };
+    add_linked(alloc, page, &lines, &found.linked)?;
+    add_crossed(alloc, page, day, rows)?;
     add_alarms(alloc, page, participants, are_shown(rows), &found.alarms)
 }
 
 /// The page of a trail, whose rows led to this day.
 fn page_made(alloc: Global, day: &PricedDay, trail: &Contents) -> Result<Page, AllocError>
     requires kept { All IsItem (trail_of trail.now).rows }
-    ensures { (h : History) → IsHistory day.now.venue h → IfOk result (λ page. IsPage day.now.venue.market (trail_of trail.now) h (said_of day.now) page) }
+    ensures { (h : History) → IsHistory day.now.venue h → (items : List Input) → AreEmitted (trail_of trail.now).rows items → IfOk result (λ page. IsPage day.now.venue.market (trail_of trail.now) h items (said_of day.now) page) }
 {
     let participants = day.venue.participants();
     let instruments = day.venue.instruments();

@@ -104,7 +104,7 @@ a:hover .dot,a:hover .dia{stroke:var(--accent);stroke-width:3}
 /* requests */
 .rfq{border-top:1px solid var(--rule);padding:7px 0 3px;break-inside:avoid}
 .rfq[open]{padding-bottom:16px}
-.rfq>summary,.short{display:grid;grid-template-columns:46px 96px minmax(0,1fr) minmax(0,330px);gap:0 12px;align-items:baseline;font-variant-numeric:tabular-nums lining-nums}
+.rfq>summary,.short{display:grid;grid-template-columns:46px minmax(96px,auto) minmax(0,1fr) minmax(0,330px);gap:0 12px;align-items:baseline;font-variant-numeric:tabular-nums lining-nums}
 .rfq>summary::-webkit-details-marker{display:none}
 .rfq>summary>b,.short>b{font:600 16px/1.3 var(--serif)}
 .rfq>summary>b::before{content:\"\";display:inline-block;border:4px solid transparent;border-left-color:var(--soft);margin:0 2px 1px -10px}
@@ -206,7 +206,7 @@ table{font-size:7.4pt}
 td,tbody th,thead th{padding:1.6pt 6pt 1.6pt 0}
 .v{padding-left:6pt}
 .lead{font-size:8.4pt}
-.rfq>summary,.short{font-size:8.4pt;grid-template-columns:34pt 62pt minmax(0,1fr) minmax(0,215pt);gap:0 8pt}
+.rfq>summary,.short{font-size:8.4pt;grid-template-columns:34pt minmax(62pt,auto) minmax(0,1fr) minmax(0,215pt);gap:0 8pt}
 .rfq>summary>b,.short>b{font-size:10pt}
 .rfq>summary>b::before{display:none}
 .asked{grid-template-columns:108pt minmax(0,1fr);margin:4pt 0 5pt}

@@ -13,10 +13,10 @@ pub returns : goal.returns
 returns c = λ h is.
     let day = c.args.day.now in
     on_ok_weaker c.add_people.result
-    (answered_are day.venue.market c.args.rows.now h (said_of day) c.args.deeds.now c.are_shown-linked.result c.participants-participants.result.now c.trades.result.now
+    (answered_are day.venue.market c.args.rows.now h (said_of day) c.args.deeds.now c.are_shown-linked.result c.participants-participants.result.now c.instruments-instruments.result.now c.trades.result.now
     c.deref-2.result.now c.deref-4.result.now c.deref.result.now c.deref-3.result.now
     c.args.page.now c.add_requests.new.page c.add_refusals.new.page c.add_people.new.page
-    c.participants-participants.ensures (c.trades.ensures h is) c.are_shown-linked.ensures
+    c.participants-participants.ensures c.instruments-instruments.ensures (c.trades.ensures h is) c.are_shown-linked.ensures
     c.deref-2.ensures.value c.deref-4.ensures.value c.deref.ensures.value c.deref-3.ensures.value
     c.in_ok-add_requests.ensures c.in_ok-add_refusals.ensures)
     c.add_people.ensures

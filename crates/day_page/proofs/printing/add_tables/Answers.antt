@@ -25,5 +25,5 @@ returns c = λ h is.
     (c.in_ok-reports.ensures ∙ ap reports c.deref.ensures.value)
     (c.in_ok-add_counts.ensures h is)
     (c.in_ok-add_charts.ensures h is ∙ (λ j. with_parts c.add_counts.new.page (charts_parts m rs h (c.deref-2.ensures.value j) day.bests.items)))
-    (e ∙ (λ j. with_parts c.add_charts.new.page (reported_parts m rs h (c.deref-3.ensures.value j)))))
+    (e ∙ (λ j. with_parts c.add_charts.new.page (reported_parts m rs h (c.deref-3.ensures.value j) c.args.linked.now))))
     (c.add_reported.ensures h is)

@@ -10,4 +10,4 @@ returns c =
     let m : Market = record { participants = c.args.participants; instruments = c.args.instruments } in
     let day = c.in_ok-day.day in
     let are = c.in_ok-day.ensures in
-    IfOk-weaker c.page_made.result _ _ (λ page. day_is c.rows_have_their_inputs.ensures m (trail_of c.args.trail.now) day.venue (said_of day) page are) (c.page_made.ensures _ are.events.stands.history)
+    IfOk-weaker c.page_made.result _ _ (λ page. day_is c.rows_have_their_inputs.ensures m (trail_of c.args.trail.now) day.venue (said_of day) page are) (c.page_made.ensures _ are.events.stands.history are.events.items are.events.emitted)
