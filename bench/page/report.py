@@ -16,6 +16,7 @@ sys.dont_write_bytecode = True
 HERE = os.path.dirname(os.path.abspath(__file__))
 TOP = os.path.join(HERE, "..", "..")
 sys.path[:0] = [os.path.join(TOP, "tests", "page"), os.path.join(TOP, "bench", "replay")]
+import cases  # noqa: E402
 import days  # noqa: E402
 import make_trail  # noqa: E402
 
@@ -49,10 +50,21 @@ def orders(rows, path, many):
     days.invented(path, TABLES, days.numbered(messages), NAMES, instruments)
 
 
+def crosses(rows, path):
+    """Crosses 20 ms apart in eight instruments, of which 750 sides are held; each then meets its first."""
+    instruments = [f"I{k}" for k in range(1, 9)]
+    messages = []
+    for n in range(rows):
+        text = cases.cross(f"k{n}", instruments[n % 8], 2.5, 10, f"b{n}", f"s{n}", str(1 + n % 2))
+        messages += [(1 + n % len(NAMES), days.START + 20 * n, text), (0, days.START + 20 * n + 15001, "")]
+    messages.sort(key=lambda it: it[1])
+    days.invented(path, TABLES, days.numbered(messages[:rows]), NAMES, instruments)
+
+
 DAYS = {
     "trades": ("IRS5Y", make_trail.make), "requests": ("IRS5Y", requests),
     "2 instruments": ("I1", lambda rows, path: orders(rows, path, 2)),
-    "256 instruments": ("I1", lambda rows, path: orders(rows, path, 256)),
+    "256 instruments": ("I1", lambda rows, path: orders(rows, path, 256)), "crosses": ("I1", crosses),
 }
 
 

@@ -93,6 +93,10 @@ def refusals_of(rows):
     return [replies[0] for replies in refusing if replies]
 
 
+def cause_of(reply):
+    return reply.get("58") or "no such quote is live (297)"
+
+
 def is_hit(reply):
     """A trade in a room, as the maker is sent it."""
     return reply.get("880") is not None and reply.get("37")[0] == "R" and reply.get("693") is None

@@ -2,7 +2,8 @@
 import itertools
 from datetime import datetime, timedelta
 
-from book import Book, price_text
+from book import Book
+from values import with_decimals
 
 MOST_CHARTS, MOST_GLYPHS, MOST_LEVELS, MOST_TRADES, PARTS, BARS = 12, 400, 8, 10000, 200, 60
 MOST_TIMES, MOST_PRICES = 5, 6
@@ -26,17 +27,11 @@ def utc(ms):
     return f"{datetime(1970, 1, 1) + timedelta(milliseconds=ms):%Y%m%d-%H:%M:%S.%f}"[:-3]
 
 
-def with_decimals(price, tick):
-    """A price with as many decimals as its instrument's tick, or all its own if it has more."""
-    decimals = [len(price_text(it).partition(".")[2]) for it in (price, tick)]
-    return price_text(price) + ("." if decimals[0] == 0 < decimals[1] else "") + "0" * (decimals[1] - decimals[0])
-
-
 class Chart:
     """The trades and best prices of an instrument over the day; the places on it are whole numbers, cut off."""
 
-    def __init__(self, page, rows, trades, tops, tick):
-        self.page, self.trades, self.tops, self.tick = page, trades, tops, tick
+    def __init__(self, page, values, rows, trades, tops, tick):
+        self.page, self.values, self.trades, self.tops, self.tick = page, values, trades, tops, tick
         self.first, self.last = rows[0].ms, rows[-1].ms
         prices = [t.millionths for t in trades]
         best = [price for _, *top in tops for price in top if price is not None]
@@ -123,7 +118,7 @@ class Chart:
         for t in self.trades:
             shape, name = ("b", "dot") if t.room is None else ("r", "dia")
             self.page.add("GLYPH" if t.number <= MOST_TRADES else "GLYPH_ALONE", trade=t.number, shape=shape,
-                          x=self.percent(t.row.ms), y=self.down(t.millionths), time=t.row.utc[9:],
+                          x=self.percent(t.row.ms), y=self.down(t.millionths), time=self.values.time(t.row.utc),
                           quantity=f"{t.quantity:,}", price=self.price(t.millionths), **{"class": name})
 
     def ranges(self):
@@ -151,8 +146,8 @@ def ladder(page, book, symbol, tick):
     page.add("LADDER_END")
 
 
-def instruments(page, ticks, rows, trades):
-    """The instruments, of which `ticks` has the symbols with their least steps of a price in millionths."""
+def instruments(page, values, rows, trades):
+    ticks = values.ticks
     book, changes = Book(), {symbol: [] for symbol in ticks}
     for row in rows:
         for symbol, bid, offer in book.take(row):
@@ -162,7 +157,7 @@ def instruments(page, ticks, rows, trades):
         of = [t for t in trades if t.symbol == symbol]
         if not of and not changes[symbol]:
             continue
-        chart = Chart(page, rows, of, changes[symbol], tick)
+        chart = Chart(page, values, rows, of, changes[symbol], tick)
         page.add("OPEN" if len(ticks) <= MOST_CHARTS else "FOLDED", symbol=symbol, count=f"{len(of):,}")
         page.add("CHART", symbol=symbol, count=f"{len(of):,}")
         chart.price_ticks()

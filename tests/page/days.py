@@ -12,6 +12,8 @@ import sqlite3
 import sys
 
 sys.dont_write_bytecode = True
+import cases  # noqa: E402
+
 CLI = os.path.join(os.path.dirname(os.path.abspath(__file__)), "..", "cli")
 NAMES = ("<script>", "\"><b>", "&lt;", "'x'", "</td>")
 START = 1741012200000
@@ -25,6 +27,8 @@ ROWS = (
     (5, "35=Z|117=Q2|298=1|"),
     (1, "35=AJ|693=<style>|117=Q1|694=1|"),
     (4, "35=F|11=<a href=\"x\">|41=none|"),
+    (5, "35=S|117=<!-- -->|131=R1|55=<i>|133=2.5555|"),
+    (3, "35=s|548=</tr>|549=4|550=1|552=2|54=1|11=<s>|38=10|54=2|11=&quot;|38=10|55=<i>|40=2|44=2.5|"),
 )
 
 
@@ -100,10 +104,11 @@ class Invented:
 
 
 def numbered(messages):
-    """The rows of messages, each given with its participant's place and its moment."""
-    numbers, rows = {}, []
+    """The rows of messages, each given with its participant's place, or 0 for the clock, and its moment."""
+    numbers, rows = {0: 0}, []
     for n, (who, moment, text) in enumerate(messages, 1):
-        numbers[who] = numbers.get(who, 1) + 1
+        if who:
+            numbers[who] = numbers.get(who, 1) + 1
         rows.append((n, who, numbers[who], moment, text.replace("|", "\1").encode()))
     return rows
 
@@ -138,32 +143,42 @@ def charted_rows():
 
 def many_rows():
     """120 trades of two participants; then, in 56 batches, 10,640 of five with themselves, a delay after their offers
-    came; an hour later, one in a request and one in the next instrument."""
+    came, in all but three batches by crosses; an hour later, one in a request and one in the next instrument."""
     texts = []
     for k in range(120):
         texts += [(who, 400, order(f"t{k}", "I1", side, 5, 2500000 + 2500 * (k % 17))) for who, side in ((1, 2), (2, 1))]
     for batch in range(56):
         who, price = 1 + batch % 5, 2500000 - 2500 * batch
         for side, wait in ((2, 120000), (1, 16000)):
-            texts += [(who, 2 if k else wait, order(f"b{batch}.{side}.{k}", "I1", side, 5, price)) for k in range(190)]
+            names = [f"b{batch}.{side}.{k}" for k in range(190)]
+            if batch < 3:
+                of = [(who, order(it, "I1", side, 5, price)) for it in names]
+            elif side == 2:
+                of = [(who, cases.cross(it, "I1", price / 1000000, 5, it + "b", it + "s", "2")) for it in names]
+            else:
+                of = [(0, "") for _ in names]
+            texts += [(it, 2 if k else wait, text) for k, (it, text) in enumerate(of)]
     parties = "".join(f"448={name}|447=D|452=35|" for name in ("BETA", "GAMMA", "DELTA"))
     texts += [(1, 3600000, f"35=R|131=r|146=1|55=I1|54=1|38=100|453=3|{parties}")]
     texts += [(who, 400, f"35=S|117=s|131=R1|55=I1|133={price}|") for who, price in ((2, 2.5), (3, 2.4975))]
-    texts += [(1, 400, "35=AJ|693=h|117=Q2|694=1|"), (4, 400, order("l", "I2", 2, 9, 2500000))]
+    texts += [(who, 400, text) for who, text in (
+        (5, "35=S|117=s|131=R1|55=I1|133=2.5|"), (4, "35=AJ|693=w|117=Q1|694=1|"), (1, "35=AJ|693=h|117=Q2|694=1|"))]
+    texts += [(4, 400, order("l", "I2", 2, 9, 2500000))]
     texts += [(5, 400, order("m", "I2", 1, 9, 2500000)), (5, 400, order("n", "I2", 1, 9, 2400000))]
     moments = itertools.accumulate(ms for _, ms, _ in texts)
     return numbered([(who, START + moment, text) for (who, _, text), moment in zip(texts, moments)])
 
 
 # Days at the limits of the folds, and one past them: how many requests, trades, trades of linked orders, orders that
-# are cancelled at once, and rows.
+# are cancelled at once, rows, and crosses whose second sides are cancelled.
 LIMITS = {
-    "most_12": (12, 0, 0, 0, 120), "past_12": (13, 0, 0, 0, 121), "most_60": (60, 500, 0, 199, 1460),
-    "past_60": (61, 501, 0, 200, 1470), "most_300": (300, 400, 200, 0, 5000), "past_300": (301, 401, 201, 0, 5001),
+    "most_12": (12, 0, 0, 0, 120, 0), "past_12": (13, 0, 0, 0, 121, 0), "most_60": (60, 500, 0, 199, 1860, 200),
+    "past_60": (61, 501, 0, 200, 1870, 201), "most_300": (300, 400, 200, 0, 5000, 0),
+    "past_300": (301, 401, 201, 0, 5001, 0),
 }
 
 
-def limit_rows(requests, trades, linked, cancelled, rows):
+def limit_rows(requests, trades, linked, cancelled, rows, crosses):
     parties = "".join(f"448={name}|447=D|452=35|" for name in ("BETA", "GAMMA", "DELTA"))
     texts = [(1, 1000, f"35=R|131=r{k}|146=1|55=I1|54=1|38=100|453=3|{parties}") for k in range(requests)]
     for k in range(trades):
@@ -174,6 +189,10 @@ def limit_rows(requests, trades, linked, cancelled, rows):
             texts += [(who, wait if k == batch else 5, order(f"b{k}", "I2", side, 5, 2500000, f"583=L{k}|")) for k in of]
     for k in range(cancelled):
         texts += [(1, 5, order(f"c{k}", "I2", 1, 5, 2400000)), (1, 5, f"35=F|11=d{k}|41=c{k}|")]
+    for k in range(crosses):
+        price, first, second = (2.9, "2", "y") if k % 2 else (2.3, "1", "x")
+        texts += [(2, 5, cases.cross(f"k{k}", "I2", price, 5, f"y{k}", f"x{k}", first)),
+                  (2, 5, cases.cancel(f"z{k}", f"{second}{k}"))]
     texts += [(5, 5, f"35=F|11=f{k}|41=none|") for k in range(rows - len(texts))]
     moments = itertools.accumulate(ms for _, ms, _ in texts)
     return numbered([(who, START + moment, text) for (who, _, text), moment in zip(texts, moments)])
@@ -193,13 +212,18 @@ SMALL = {
 }
 
 
-def invented(path, tables, rows, names, instruments):
+def invented(path, tables, rows, names, instruments, pairs=(), ticks=None, delays=None):
+    """A trail of rows; `pairs` are the participants who are related; instruments have a tick of 2,500 millionths and a
+    delay of 15,000 ms, where `ticks` and `delays` have no other of theirs."""
     db = sqlite3.connect(path)
     db.executescript(tables)
     participants = 'venue = "SEF"\n' + "".join(f"[[participant]]\nname = {quoted(name)}\n" for name in names)
-    listed = "".join(f"[[instrument]]\nsymbol = {quoted(it)}\ntick = 2500\nleast = 5\nrfq_life = 20\n" for it in instruments)
+    participants += "".join(f"[[related]]\na = {quoted(a)}\nb = {quoted(b)}\n" for a, b in pairs)
+    listed = "".join(f"[[instrument]]\nsymbol = {quoted(it)}\ntick = {(ticks or {}).get(it, 2500)}\nleast = 5\n"
+                     "rfq_life = 20\n" for it in instruments)
     db.execute("INSERT INTO head VALUES (1, 3, ?, ?)", (participants.encode(), listed.encode()))
-    db.executemany("INSERT INTO delay VALUES (?, 15000)", ((x,) for x in range(1, len(instruments) + 1)))
+    db.executemany("INSERT INTO delay VALUES (?, ?)",
+                   ((x, (delays or {}).get(it, 15000)) for x, it in enumerate(instruments, 1)))
     db.executemany("INSERT INTO item VALUES (?, ?, ?, ?, ?)", rows)
     db.commit()
     db.close()
@@ -213,16 +237,22 @@ def main(folder):
     with open(os.path.join(os.path.dirname(check_activity.DAYS["sample"]), "day.sql"), encoding="utf-8") as file:
         tables = "".join(line for line in file if line.startswith("CREATE TABLE"))
     hostile(os.path.join(folder, "hostile"), tables)
-    names, instruments = check_activity.PARTICIPANTS, list(check_activity.INSTRUMENTS)
+    names = check_activity.PARTICIPANTS
     invented(os.path.join(folder, "charted"), tables, charted_rows(), names, [f"I{k}" for k in range(1, 14)])
     invented(os.path.join(folder, "many"), tables, many_rows(), names, ["I1", "I2"])
     for day, limits in LIMITS.items():
         invented(os.path.join(folder, day), tables, limit_rows(*limits), names, ["I1", "I2"])
     for day, messages in SMALL.items():
         invented(os.path.join(folder, day), tables, numbered(messages), names, ["I1"])
+    for day, texts, instruments, more in (
+            ("crosses", cases.CROSSES, cases.DELAYS, {"delays": cases.DELAYS}),
+            ("asked", cases.REQUESTS, ("I1", "I2"), {}), ("ticked", cases.TICKED, cases.TICKS, {"ticks": cases.TICKS}),
+            ("two_dates", cases.TWO_DATES, ("I1",), {})):
+        messages = [(who, START + ms, text) for who, ms, text in texts]
+        invented(os.path.join(folder, day), tables, numbered(messages), cases.NAMES, instruments, cases.PAIRS, **more)
     for many in LONG:
-        rows = Invented(many, names, instruments).rows
-        invented(os.path.join(folder, f"long_{many}"), tables, rows, names, instruments)
+        rows = Invented(many, names, list(check_activity.INSTRUMENTS)).rows
+        invented(os.path.join(folder, f"long_{many}"), tables, rows, names, check_activity.INSTRUMENTS)
         print(f"long_{many}: {sum(b'35=R' in row[4].split(SOH) for row in rows)} requests")
 
 

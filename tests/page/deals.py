@@ -1,4 +1,5 @@
-"""The sections Trades, Linked orders and Alarms of the page of a day."""
+"""The sections Trades, Linked orders and Alarms of the page of a day. A trade of linked orders leads to its line, which
+says whether the second order is a held side, that is, was entered by the clock."""
 import itertools
 
 from watched import alarms_of, linked_of
@@ -6,15 +7,22 @@ from watched import alarms_of, linked_of
 MOST_WHOLE, MOST_TRADES, IN_FOLD, MOST_LISTED = 500, 10000, 200, 10000
 
 
-def trade(page, symbols, t, row_number):
-    page.add("TRADE", trade=t.number, time=t.row.utc[9:], instrument=symbols.index(t.symbol), symbol=t.symbol)
+def trade(page, values, t, held_in, row_number):
+    page.add("TRADE", trade=t.number, time=values.time(t.row.utc), instrument=values.places[t.symbol], symbol=t.symbol)
     page.add("IN_BOOK") if t.room is None else page.add("IN_ROOM", room=t.room)
-    page.add("DEAL", quantity=f"{t.quantity:,}", price=t.price, buyer=t.buyer, seller=t.seller)
+    if t.number in held_in:
+        page.add("HELD_SIDE" if held_in[t.number] else "LINKED_ORDERS", trade=t.number)
+    else:
+        page.add("UNLINKED")
+    page.add("DEAL", quantity=f"{t.quantity:,}", price=values.price(t.symbol, t.price), buyer=t.buyer,
+             seller=t.seller)
     row_number(t.row)
     page.add("CELL_END")
 
 
-def trade_list(page, symbols, trades, row_number):
+def trade_list(page, values, trades, day, row_number):
+    # of each trade of linked orders whether the second is a held side
+    held_in = {int(it["trade"][1:]): held for it, _, (_, held, _) in linked_of(day)}
     if not trades:
         page.add("NO_TRADE")
         return
@@ -22,7 +30,7 @@ def trade_list(page, symbols, trades, row_number):
     def table(of):
         page.add("TABLE_OF_TRADES")
         for t in of:
-            trade(page, symbols, t, row_number)
+            trade(page, values, t, held_in, row_number)
         page.add("day_sections.LIST_END")
 
     page.add("TRADES", count=f"{len(trades):,}")
@@ -42,13 +50,13 @@ def trade_list(page, symbols, trades, row_number):
     page.add("TRADES_END")
 
 
-def folded(page, name, head, more, found, add):
-    """A list: whole where it is short, else in folds."""
+def folded(page, crate, name, head, more, found, add):
+    """A list of a crate's: whole where it is short, else in folds."""
     def table(of):
         page.add(head)
         for it in of:
             add(it)
-        page.add("day_sections.LIST_END")
+        page.add(f"{crate}.LIST_END")
 
     page.add(name, count=f"{len(found):,}")
     if len(found) <= IN_FOLD:
@@ -62,15 +70,16 @@ def folded(page, name, head, more, found, add):
     if len(found) > MOST_LISTED:
         page.add(more, count=f"{len(found) - MOST_LISTED:,}")
     else:
-        page.add("day_sections.SECTION_END")
+        page.add(f"{crate}.SECTION_END")
 
 
-def linked(page, rows, day, row_number):
+def linked(page, values, rows, day, row_number):
     def add(found):
         it, (first, _, _), (second, held, _) = found
         one, other, number = rows[first - 1], rows[second - 1], it["trade"][1:]
         page.add("TRADE_LINK" if int(number) <= MOST_TRADES else "TRADE_ALONE", trade=number)
-        page.add("LINKED_TRADE", buyer=it["buyer"], seller=it["seller"], first=one.utc[9:], second=other.utc[9:])
+        page.add("LINKED_TRADE", buyer=it["buyer"], seller=it["seller"], first=values.time(one.utc),
+                 second=values.time(other.utc))
         page.add("BY_CLOCK" if held else "BY_MESSAGE")
         page.add("LINKED_TIMES", between=f"{other.ms - one.ms:,}", delay=f"{day.delay[it['instrument']]:,}")
         row_number(one)
@@ -78,7 +87,10 @@ def linked(page, rows, day, row_number):
         page.add("CELL_END")
 
     found = linked_of(day)
-    folded(page, "LINKED", "TABLE_OF_LINKED", "MORE_LINKED", found, add) if found else page.add("NO_LINKED")
+    if found:
+        folded(page, "alarm_sections", "LINKED", "TABLE_OF_LINKED", "MORE_LINKED", found, add)
+    else:
+        page.add("NO_LINKED")
 
 
 def alarms(page, rows, day, row_number):
@@ -89,4 +101,7 @@ def alarms(page, rows, day, row_number):
         page.add("CELL_END")
 
     found = alarms_of(day)
-    folded(page, "ALARMS", "TABLE_OF_ALARMS", "MORE_ALARMS", found, add) if found else page.add("NO_ALARM")
+    if found:
+        folded(page, "alarm_sections", "ALARMS", "TABLE_OF_ALARMS", "MORE_ALARMS", found, add)
+    else:
+        page.add("NO_ALARM")

@@ -12,16 +12,20 @@ sys.dont_write_bytecode = True
 CLI = os.path.join(os.path.dirname(os.path.abspath(__file__)), "..", "cli")
 sys.path.insert(0, CLI)
 import check_digest
-from answers import all_replies, is_hit, refusals_of, rows_of, trades_of
+from answers import all_replies, cause_of, is_hit, refusals_of, rows_of, trades_of
 from charts import instruments
+from crosses import cross_list
 from deals import alarms, linked, trade_list
 from parts import Page, grouped, templates
 from people import participants_list
 from rooms import requests
 from rules import rules
+from values import Values, with_decimals
 from watched import Watched
 
 MOST_ROWS, MOST_OPEN, MOST_NAMED, IN_FOLD = 5000, 120, 24, 200
+# Parts that no page has: each accepted request has three who are unrelated.
+NEVER = {"recipient_sections.NO_THREE"}
 
 
 def figures(page, people, rows, trades):
@@ -40,29 +44,30 @@ def figures(page, people, rows, trades):
              book=(f"{len(book):,}", f"{sum(t.quantity for t in book):,}"))
 
 
-def bulletin(page, symbols, trades):
+def bulletin(page, values, trades):
     if not trades:
         page.add("NO_BULLETIN")
         return
     page.add("BULLETIN")
-    for place, symbol in enumerate(symbols):
+    for symbol, place in values.places.items():
         of = [t for t in trades if t.symbol == symbol]
         if not of:
             continue
-        prices = [t.price for t in of]
+        prices = sorted(t.millionths for t in of)
+        shown = {"open": of[0].millionths, "high": prices[-1], "low": prices[0], "last": of[-1].millionths}
         volumes, counts = ([f"{sum(count(t) for t in part):,}" for part in (
             of, [t for t in of if t.room is None], [t for t in of if t.room is not None])]
             for count in (lambda t: t.quantity, lambda t: 1))
-        page.add("TRADED", instrument=place, symbol=symbol, open=prices[0], high=max(prices, key=float),
-                 low=min(prices, key=float), last=prices[-1], volume=volumes[0], trades=counts[0],
-                 book=(volumes[1], counts[1]), requests=(volumes[2], counts[2]))
+        page.add("TRADED", instrument=place, symbol=symbol, volume=volumes[0], trades=counts[0],
+                 book=(volumes[1], counts[1]), requests=(volumes[2], counts[2]),
+                 **{name: with_decimals(price, values.ticks[symbol]) for name, price in shown.items()})
     page.add("BULLETIN_END")
 
 
 def refusals(page, rows, row_number):
     causes = {}
     for reply in refusals_of(rows):
-        causes.setdefault(reply.get("58") or "no such quote is live (297)", []).append(reply)
+        causes.setdefault(cause_of(reply), []).append(reply)
     if not causes:
         page.add("NO_REFUSAL")
         return
@@ -70,7 +75,7 @@ def refusals(page, rows, row_number):
     for cause, of in causes.items():
         page.add("CAUSE", cause=cause, count=f"{len(of):,}")
         for reply in of[:MOST_NAMED]:
-            page.add("REFUSED", name=reply.to)
+            page.add("day_sections.REFUSED", name=reply.to)
             row_number(reply.row)
         page.add("MORE_ROWS" if len(of) > MOST_NAMED else "NO_MORE_ROWS")
     page.add("TABLE_END")
@@ -133,7 +138,7 @@ def main(trail, answers, used=None):
     ticks = {it["symbol"]: it["tick"] for it in tomllib.loads(stored[2].decode())["instrument"]}
     rows = rows_of(answers)
     trades = trades_of(rows)
-    page = Page()
+    page, values = Page(), Values(rows, ticks)
 
     def row_number(row):
         page.add("ROW_LINK" if len(rows) <= MOST_ROWS else "ROW_ALONE", row=row.n)
@@ -142,13 +147,14 @@ def main(trail, answers, used=None):
     watched = Watched(rows, trades, participants, symbols, stored[3])
     figures(page, len(names), rows, trades)
     rules(page, rows, trades, watched)
-    bulletin(page, symbols, trades)
-    instruments(page, ticks, rows, trades)
-    trade_list(page, symbols, trades, row_number)
-    requests(page, rows, trades, row_number)
+    bulletin(page, values, trades)
+    instruments(page, values, rows, trades)
+    trade_list(page, values, trades, watched, row_number)
+    requests(page, values, rows, trades, watched.related, row_number)
     refusals(page, rows, row_number)
     participants_list(page, rows, trades, watched)
-    linked(page, rows, watched, row_number)
+    linked(page, values, rows, watched, row_number)
+    cross_list(page, values, rows, watched.delay, row_number)
     alarms(page, rows, watched, row_number)
     row_list(page, rows)
     page.add("END")
@@ -161,7 +167,7 @@ def main(trail, answers, used=None):
 def lacking(used):
     """The parts that no page had."""
     with open(used, encoding="ascii") as file:
-        names = sorted(set(templates()) - set(file.read().split()))
+        names = sorted(set(templates()) - NEVER - set(file.read().split()))
     if names:
         sys.exit(f"tests/page: no page that is compared has {', '.join(names)}")
 

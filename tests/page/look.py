@@ -11,7 +11,7 @@ WIDTHS = (390, 800, 1280)
 COUNTS = {
     "sections": "section", "instruments": "#bulletin tbody tr", "charts": "#instruments > details", "trades": "#trades tbody tr",
     "requests": "#requests .rfq", "causes": "#refusals tbody tr", "participants": "#participants tbody tr",
-    "linked": "#linked tbody tr", "alarms": "#alarms tbody tr", "rows": "#rows tbody tr",
+    "linked": "#linked tbody tr", "crosses": "#crosses tbody tr", "alarms": "#alarms tbody tr", "rows": "#rows tbody tr",
 }
 # links to an anchor that is not there
 LOST = "[...document.querySelectorAll('a[href],use[href]')].map(a=>a.getAttribute('href'))" \

@@ -2,6 +2,7 @@
 import itertools
 
 from answers import full, milliseconds
+from asked import refused, refused_by_name, three
 
 MOST_OPEN, MOST_FLAT, MOST_WHOLE, MOST_SHOWN, MOST_TRADES = 12, 60, 300, 4, 10000
 
@@ -11,7 +12,7 @@ class Room:
     orders shown, and of each quote what ended it first."""
 
     def __init__(self, number, sent):
-        self.number, self.row, self.sent = number, sent.row, [sent]
+        self.number, self.row, self.sent, self.symbol = number, sent.row, [sent], sent.get("55")
         self.quotes, self.shown, self.ends, self.trade = [], {}, {}, None
 
     def end(self, quote, row, *fate):
@@ -87,7 +88,7 @@ def fate(page, room, quote, last):
         page.add(name, **dict([value] if value else []))
 
 
-def shown(page, room):
+def shown(page, values, room):
     """What was sent with the first quote: of each side the best orders, and the quantity of all."""
     page.add("ROOM_SHOWN")
     if not room.quotes:
@@ -102,7 +103,8 @@ def shown(page, room):
         if orders:
             page.add(f"request_sections.{name}" if of else none)
         for it in of[:MOST_SHOWN]:
-            page.add("SHOWN", quantity=f"{int(it['271']):,}", price=it["270"], order=it["278"][1:])
+            page.add("SHOWN", quantity=f"{int(it['271']):,}", price=values.price(room.symbol, it["270"]),
+                     order=it["278"][1:])
         if len(of) > MOST_SHOWN:
             quantity = sum(int(it["271"]) for it in of)
             page.add("MORE_SHOWN", count=f"{len(of) - MOST_SHOWN:,}", quantity=f"{quantity:,}")
@@ -124,12 +126,12 @@ def timeline(page, room, quote, last):
     page.add("LIFE_END" if room.trade is None else "HIT_AT")
 
 
-def quotes(page, room, last, row_number):
+def quotes(page, values, room, last, row_number):
     page.add("QUOTES", room=room.number)
     for quote in room.quotes:
-        page.add("QUOTE", quote=quote.get("117")[1:], maker=quote.row.who, id=quote.row.get("117"),
-                 bid=quote.get("132") or "", offer=quote.get("133") or "", time=quote.row.utc[9:],
-                 end=full(quote.get("62"))[9:])
+        bid, offer = (values.price(room.symbol, quote.get(tag)) for tag in ("132", "133"))
+        page.add("QUOTE", quote=quote.get("117")[1:], maker=quote.row.who, id=quote.row.get("117"), bid=bid,
+                 offer=offer, time=values.time(quote.row.utc), end=values.time(full(quote.get("62"))))
         timeline(page, room, quote, last)
         fate(page, room, quote, last)
         row_number(quote.row)
@@ -143,35 +145,41 @@ def quotes(page, room, last, row_number):
         page.add("CELL_END")
 
 
-def head(page, room):
+def head(page, values, room):
     row, asked = room.row, room.sent[0].get
-    page.add("ROOM", room=room.number, time=row.utc[9:], requester=row.who, asked=f"{len(room.sent):,}",
+    page.add("ROOM", room=room.number, time=values.time(row.utc), requester=row.who, asked=f"{len(room.sent):,}",
              side={None: "to buy or sell", "1": "to buy", "2": "to sell"}[asked("54")],
              quantity=f"{int(asked('38')):,}", symbol=asked("55"), id=row.get("131"))
     t = room.trade
     if t is None:
         page.add("ROOM_IDLE", quotes=f"{len(room.quotes):,}")
     else:
-        page.add("ROOM_TRADED" if t.number <= MOST_TRADES else "ROOM_TRADED_ALONE", trade=t.number, price=t.price)
+        page.add("ROOM_TRADED" if t.number <= MOST_TRADES else "ROOM_TRADED_ALONE", trade=t.number,
+                 price=values.price(room.symbol, t.price))
 
 
-def body(page, room, last, row_number):
+def body(page, values, room, known, row_number):
+    """`known` are the pairs who are related, the refusals by what they name, and the last row."""
+    related, refusals, last = known
     page.add("ROOM_ASKED", room=room.number)
     for sent in room.sent:
         page.add("NAME", name=sent.to)
     page.add("ASKED_ROW")
     row_number(room.row)
-    shown(page, room)
-    page.add("SHOWN_END")
-    quotes(page, room, last, row_number)
+    three(page, room, related)
+    shown(page, values, room)
+    refused(page, values, room, refusals, row_number)
+    page.add("ASKED_END")
+    quotes(page, values, room, last, row_number)
     page.add("ROOM_END")
 
 
-def requests(page, rows, trades, row_number):
+def requests(page, values, rows, trades, related, row_number):
     rooms = rooms_of(rows, trades)
     if not rooms:
         page.add("NO_REQUEST")
         return
+    known = related, refused_by_name(rows), rows[-1]
     page.add("REQUESTS", count=f"{len(rooms):,}")
     hours = itertools.groupby(rooms, lambda room: room.row.utc[:11] if len(rooms) > MOST_FLAT else None)
     for hour, of in hours:
@@ -183,12 +191,12 @@ def requests(page, rows, trades, row_number):
         for room in of:
             if len(rooms) > MOST_WHOLE and room.trade is None:
                 page.add("ROOM_LINE", room=room.number)
-                head(page, room)
+                head(page, values, room)
                 page.add("ROOM_LINE_END")
             else:
                 page.add("ROOM_OPEN" if len(rooms) <= MOST_OPEN else "ROOM_FOLDED")
-                head(page, room)
-                body(page, room, rows[-1], row_number)
+                head(page, values, room)
+                body(page, values, room, known, row_number)
         if hour:
             page.add("HOUR_OF_REQUESTS_END")
     page.add("request_sections.SECTION_END")
