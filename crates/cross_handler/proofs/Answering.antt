@@ -25,9 +25,10 @@ use Rattle.venue_request.specs.declared.counts.Counts.{Counts}
 use Rattle.order_handler.specs.Parts.{Parts, answer_of, book_answer_of}
 use Rattle.order_handler.specs.Reads.{IsReadAlone}
 use Rattle.cross_handler.specs.declared.terms.Cause.{Cause}
-use Rattle.cross_handler.specs.declared.terms.Cause.TheVariants.{Refused, PriceMissing}
+use Rattle.cross_handler.specs.declared.terms.Cause.TheVariants.{Refused, Duplicate, PriceMissing}
+use Rattle.cross_handler.specs.declared.refusing.Named.{Named}
 use Rattle.cross_handler.specs.declared.terms.Terms.{Terms}
-use Rattle.cross_handler.specs.Crossing.{IsPassed, IsSound, IsTermsOf, IsTurnedAway, cross_order, rejection}
+use Rattle.cross_handler.specs.Crossing.{IsPassed, IsSound, IsTermsOf, IsTurnedAway, cross_order, cross_refused_naming, rejection}
 use Rattle.cross_handler.proofs.Turning.{taken-alone}
 
 -- The answer to a cross depends on the book and the held sides alone.
@@ -38,10 +39,14 @@ abbrev pub counted : ℕ → History
 counted n = record { facts = []; reports = n }
 
 refused-counted : (h : History) (n : ℕ) (s : Sender) (d : NewOrderCross) (cause : CrossRefusal) → h.reports ≡ n → cross_refused (counted n) s d cause ≡ cross_refused h s d cause
-refused-counted h n s d cause e = ap (λ k. answers (numbered k (side_refused s d cause d.first ∷ side_refused s d cause d.second ∷ []))) (sym e)
+refused-counted h n s d cause e = ap (λ k. answers (numbered k (side_refused None s d cause d.first ∷ side_refused None s d cause d.second ∷ []))) (sym e)
+
+naming-counted : (h : History) (n : ℕ) (s : Sender) (d : NewOrderCross) (named : Named) (cause : CrossRefusal) → h.reports ≡ n → cross_refused_naming named (counted n) s d cause ≡ cross_refused_naming named h s d cause
+naming-counted h n s d named cause e = ap (λ k. answers (numbered k (side_refused named.first s d cause d.first ∷ side_refused named.second s d cause d.second ∷ []))) (sym e)
 
 turned-counted : (h : History) (n : ℕ) (s : Sender) (d : NewOrderCross) (cause : Cause) → h.reports ≡ n → rejection (counted n) s d cause ≡ rejection h s d cause
 turned-counted h n s d (Refused cause) e = refused-counted h n s d cause e
+turned-counted h n s d (Duplicate named cause) e = naming-counted h n s d named cause e
 turned-counted h n s d PriceMissing e = refl
 
 pub turned-answers : (p : ParticipantFile) (file : List Instrument) (book delay : List Fact) (c : Counts) (h : History) (who number : ℕ) (kind : List ℕ) (d : NewOrderCross) (t : ℕ) (cause : Cause) → IsReadAlone h book delay c → IsTurnedAway file book delay who d cause → rejection (counted c.reports) (record { who = who; number = number; kind = kind }) d cause ≡ answer_cross (market p file) h (record { who = who; number = number; kind = kind }) d t

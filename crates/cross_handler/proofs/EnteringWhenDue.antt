@@ -30,7 +30,7 @@ has_fill (Some f) n h = refl
 has_fill None n h = cc
 
 side-counted : (file : List Instrument) (h : History) (n : ℕ) (k : HeldSide) (cause : OrderRefusal) → h.reports ≡ n → side_turned_away file (counted n) k cause ≡ side_turned_away file h k cause
-side-counted file h n k cause e = ap (λ i. answers (numbered i (refusal_report (symbol_of file k.order.instrument) k.order.side k.order.id k.order.who cause ∷ []))) (sym e)
+side-counted file h n k cause e = ap (λ i. answers (numbered i (refusal_report None (symbol_of file k.order.instrument) k.order.side k.order.id k.order.who cause ∷ []))) (sym e)
 
 -- at its due moment
 

@@ -1,4 +1,4 @@
-use Rattle.std.specs.Prelude.{◌≡◌, ℕ, ◌<◌, Bool, false, not, ◌||◌, ◌==◌, nat_lt, is_none, List, [], length, Some, None, bytes_eq}
+use Rattle.std.specs.Prelude.{◌≡◌, ℕ, ◌<◌, Bool, false, not, ◌||◌, ◌==◌, nat_lt, is_none, List, [], ◌∷◌, length, Option, Some, None, bytes_eq}
 use Rattle.fix_dictionary.specs.declared.messages.CrossSide.{CrossSide}
 use Rattle.fix_dictionary.specs.declared.messages.NewOrderCross.{NewOrderCross}
 use Rattle.instruments.specs.declared.instruments.Instrument.{Instrument}
@@ -8,17 +8,19 @@ use Rattle.venue_rules.specs.declared.facts.Fact.{Fact}
 use Rattle.venue_rules.specs.declared.facts.TimeInForce.TheVariants.{Day}
 use Rattle.venue_rules.specs.declared.facts.OrderFact.{OrderFact}
 use Rattle.venue_rules.specs.declared.refusals.BusinessRefusal.TheVariants as business
+use Rattle.venue_rules.specs.declared.refusals.CrossRefusal.{CrossRefusal}
 use Rattle.venue_rules.specs.Facts.{History, is_cross_id_used}
-use Rattle.venue_rules.specs.Answer.{Answer, Sender, business_reject}
+use Rattle.venue_rules.specs.Answer.{Answer, Sender, answers, business_reject, numbered}
 use Rattle.venue_rules.specs.Book.{is_side}
-use Rattle.venue_rules.specs.Crosses.{answer_cross, cross_refused, first_side}
+use Rattle.venue_rules.specs.Crosses.{answer_cross, cross_refused, first_side, side_refused}
 use Rattle.venue_rules.specs.Orders.{is_limit, price_or_zero}
 use Rattle.venue_request.specs.declared.counts.Counts.{Counts}
 use Rattle.venue_rules.specs.Market.{market}
 use Rattle.order_handler.specs.Parts.{Parts}
 use Rattle.order_handler.specs.Reads.{IsReadAlone, is_used}
 use Rattle.cross_handler.specs.declared.terms.Cause.{Cause}
-use Rattle.cross_handler.specs.declared.terms.Cause.TheVariants.{Refused, PriceMissing}
+use Rattle.cross_handler.specs.declared.terms.Cause.TheVariants.{Refused, Duplicate, PriceMissing}
+use Rattle.cross_handler.specs.declared.refusing.Named.{Named}
 use Rattle.cross_handler.specs.declared.terms.Terms.{Terms}
 
 -- a side's identifier is used, or both are the same
@@ -54,9 +56,14 @@ pub record IsTermsOf (file : List Instrument) (d : NewOrderCross) (terms : Terms
 abbrev pub cross_order : Terms → ℕ → CrossSide → OrderFact
 cross_order terms who side = record { who = who; id = side.order_id; link = None; instrument = terms.instrument; side = side.side; quantity = side.quantity; price = terms.price; life = Day }
 
+-- two reports refuse a cross; each names an order, or none
+abbrev pub cross_refused_naming : Named → History → Sender → NewOrderCross → CrossRefusal → Answer
+cross_refused_naming named h s d cause = answers (numbered h.reports (side_refused named.first s d cause d.first ∷ side_refused named.second s d cause d.second ∷ []))
+
 -- the answer to a cross refused before the book is asked
 abbrev pub rejection : History → Sender → NewOrderCross → Cause → Answer
 rejection h s d (Refused cause) = cross_refused h s d cause
+rejection h s d (Duplicate named cause) = cross_refused_naming named h s d cause
 rejection h s d PriceMissing = business_reject s business.PriceMissing
 
 -- a cross is refused for this cause in every history of this book and these held sides, in any market with these

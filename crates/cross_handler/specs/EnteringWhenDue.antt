@@ -1,4 +1,4 @@
-use Rattle.std.specs.Prelude.{List, [], ◌∷◌}
+use Rattle.std.specs.Prelude.{List, [], ◌∷◌, None}
 use Rattle.instruments.specs.declared.instruments.Instrument.{Instrument}
 use Rattle.instruments.specs.Listing.{symbol_of}
 use Rattle.venue_rules.specs.declared.facts.HeldSide.{HeldSide}
@@ -15,4 +15,4 @@ entered_when_due m h k = first_of (due_refusals m h k) (accepted m h k.order k.d
 
 -- the report that refuses it then
 abbrev pub side_turned_away : List Instrument → History → HeldSide → OrderRefusal → Answer
-side_turned_away file h k cause = answers (numbered h.reports (refusal_report (symbol_of file k.order.instrument) k.order.side k.order.id k.order.who cause ∷ []))
+side_turned_away file h k cause = answers (numbered h.reports (refusal_report None (symbol_of file k.order.instrument) k.order.side k.order.id k.order.who cause ∷ []))

@@ -2,6 +2,7 @@
 ghost use Rattle.std.specs.Prelude.{◌≡◌, ◌<◌, length, IfOk, IfErr};
 ghost use Rattle.cross_handler.specs.Crossing.{IsSound, IsTermsOf, IsTurnedAway, are_ids_taken, is_quantity_wrong, is_unsupported};
 
+use crate::refusing::{Named, named_orders};
 use cross_delay::Held;
 use fix_dictionary::{NewOrderCross, Price};
 use instruments::Instruments;
@@ -13,6 +14,8 @@ use venue_rules::{CrossRefusal, Who, instrument_of, is_below_least, is_off_tick,
 #[derive(Clone, Copy)]
 pub(crate) enum Cause {
     Refused(CrossRefusal),
+    /// with the sender's orders that rest under the identifiers of the sides
+    Duplicate(Named, CrossRefusal),
     PriceMissing,
 }
 
@@ -67,10 +70,12 @@ pub(crate) fn cross_terms(
         return Err(Cause::Refused(CrossRefusal::UnknownInstrument));
     };
     if held.crossed(who, &cross.cross_id) {
-        return Err(Cause::Refused(CrossRefusal::DuplicateCrossId));
+        let named = named_orders(book, who, cross);
+        return Err(Cause::Duplicate(named, CrossRefusal::DuplicateCrossId));
     }
     if are_ids_taken(book, held, who, cross) {
-        return Err(Cause::Refused(CrossRefusal::DuplicateClOrdId));
+        let named = named_orders(book, who, cross);
+        return Err(Cause::Duplicate(named, CrossRefusal::DuplicateClOrdId));
     }
     if is_unsupported(cross) {
         return Err(Cause::Refused(CrossRefusal::UnsupportedOrder));

@@ -73,7 +73,7 @@ self_side : (s : Side) → is_side s s ≡ true
 self_side Buy = refl
 self_side Sell = refl
 
-firm_rests : (facts : List Fact) (x : ℕ) (e : Entry) → IsFirm facts x e → rests x e.order.side (with_left (left facts) e) ≡ true
+pub firm_rests : (facts : List Fact) (x : ℕ) (e : Entry) → IsFirm facts x e → rests x e.order.side (with_left (left facts) e) ≡ true
 firm_rests facts x e f =
     and_from (is_day e.order.life) _ (ap is_day f.day) (
     and_from (e.order.instrument == x) _ (eq-eqb e.order.instrument x f.instrument) (
@@ -94,20 +94,23 @@ day_is Day h = refl
 day_is ImmediateOrCancel h = absurd (true≢false (sym h))
 day_is FillOrKill h = absurd (true≢false (sym h))
 
-rests_firm : (facts : List Fact) (x : ℕ) (side : Side) (r : Resting) → In r (resting facts x side) → IsFirm facts x r.entry × (shown r ≡ shown_as facts r.entry)
-rests_firm facts x side r i =
-    let k = In-resting facts x side r i in
-    let parts = and_parts (is_day r.entry.order.life) _ k.2 in
+pub rests_firm_entry : (facts : List Fact) (x : ℕ) (side : Side) (r : Resting) → In r.entry (entries facts) → r ≡ with_left (left facts) r.entry → rests x side r ≡ true → IsFirm facts x r.entry
+rests_firm_entry facts x side r entered same here =
+    let parts = and_parts (is_day r.entry.order.life) _ here in
     let more = and_parts (r.entry.order.instrument == x) _ parts.1 in
     let last = and_parts (is_side r.entry.order.side side) (nat_lt 0 r.left) more.1 in
-    let same : r.left ≡ left facts r.entry = ap (λ (y : Resting). y.left) k.1 in (
-      record {
-        entered = Contains-from_In facts (Entered r.entry) (entered_in facts r.entry k.0);
-        day = day_is r.entry.order.life parts.0;
-        instrument = eqb-true r.entry.order.instrument x more.0;
-        leaves = subst (λ n. 0 < n) same (ltb-true 0 r.left last.1);
-      },
-      ap (λ n. record { side = r.entry.order.side; price = r.entry.order.price; left = n; order = r.entry.number }) same,
+    record {
+      entered = Contains-from_In facts (Entered r.entry) (entered_in facts r.entry entered);
+      day = day_is r.entry.order.life parts.0;
+      instrument = eqb-true r.entry.order.instrument x more.0;
+      leaves = subst (λ n. 0 < n) (ap (λ (y : Resting). y.left) same) (ltb-true 0 r.left last.1);
+    }
+
+rests_firm : (facts : List Fact) (x : ℕ) (side : Side) (r : Resting) → In r (resting facts x side) → IsFirm facts x r.entry × (shown r ≡ shown_as facts r.entry)
+rests_firm facts x side r i =
+    let k = In-resting facts x side r i in (
+      rests_firm_entry facts x side r k.0 k.1 k.2,
+      ap (λ (n : ℕ). record { side = r.entry.order.side; price = r.entry.order.price; left = n; order = r.entry.number }) (ap (λ (y : Resting). y.left) k.1),
     )
 
 shown_firm : (facts : List Fact) (x : ℕ) (side : Side) (s : SnapshotEntry) → In s (map shown (resting facts x side)) → (e : Entry) × IsFirm facts x e × (s ≡ shown_as facts e)

@@ -12,7 +12,8 @@ use Rattle.venue_rules.specs.declared.facts.Room.{Room}
 use Rattle.venue_rules.specs.declared.facts.RoomQuote.{RoomQuote}
 use Rattle.venue_rules.specs.declared.trail.Taken.{Taken}
 use Rattle.venue_rules.specs.Book.{Resting, against, is_linked, picture}
-use Rattle.venue_rules.specs.Orders.{order_asked}
+use Rattle.venue_rules.specs.Facts.{is_order_id_used}
+use Rattle.venue_rules.specs.Orders.{order_asked, order_under}
 use Rattle.venue_rules.specs.MoreInputs.{answer_after}
 use Rattle.venue_rules.specs.Run.{Input, run}
 use Rattle.venue_rules.proofs.ExampleInputs.{alpha, basis, beta, cancel, delta, gamma, epsilon, order, replace, request, sends, start, swap, two_and_a_half, venue}
@@ -35,6 +36,13 @@ day =
 -- what everybody is shown: the second offer, and nothing else
 pub one_offer_is_shown : picture (run venue day).history.facts 0 ≡ record { side = Sell; price = two_and_a_half; left = 70; order = 2 } ∷ []
 one_offer_is_shown = refl
+
+-- DELTA's offer rests under its identifier, and the order of BETA that is filled under none
+pub rests_under_d1 : (is_order_id_used (run venue day).history.facts delta (codes "d1") ≡ true) × (order_under (run venue day).history.facts delta (codes "d1") ≡ Some 2)
+rests_under_d1 = (refl, refl)
+
+pub none_under_b1 : (is_order_id_used (run venue day).history.facts beta (codes "b1") ≡ true) × (order_under (run venue day).history.facts beta (codes "b1") ≡ None)
+none_under_b1 = (refl, refl)
 
 -- a quote of EPSILON for what was asked
 abbrev quote_message : QuoteMessage

@@ -27,5 +27,7 @@ mod SwapExample
 -- facts that leave the resting orders of an instrument as they are, and the answers of which they are
 mod OneBook
 mod OneBookEach
+-- a duplicate's report names what rests
+mod Duplicates
 -- the reports of the trades of each answer, and of a run
 mod TradeReports

@@ -30,16 +30,20 @@ use Rattle.venue_rules.specs.declared.replies.Reply.{Reply}
 use Rattle.venue_rules.specs.declared.replies.ReplyBody.TheVariants.{OrderEntered, OrderReplaced, OrderUnfilled, BookSnapshot, QuoteSent}
 use Rattle.venue_rules.specs.declared.replies.QuoteState.TheVariants as state
 use Rattle.venue_rules.specs.declared.refusals.ChangeRefusal.TheVariants.{HeldSide as IsHeldSide}
+use Rattle.venue_rules.specs.declared.refusals.CrossRefusal.{CrossRefusal}
+use Rattle.venue_rules.specs.declared.refusals.CrossRefusal.TheVariants as cross
+use Rattle.venue_rules.specs.declared.refusals.OrderRefusal.{OrderRefusal}
+use Rattle.venue_rules.specs.declared.refusals.OrderRefusal.TheVariants as order
 use Rattle.venue_rules.specs.Market.{Market}
 use Rattle.venue_rules.specs.Facts.{History, next_trade}
 use Rattle.venue_rules.specs.Book.{Fill, Resting, fills, filled, filled_by, find_order, is_day, opposite}
 use Rattle.venue_rules.specs.Delay.{find_held, held, held_capacity}
 use Rattle.venue_rules.specs.Rooms.{find_quote, find_room, first_quote, live_quotes, room_by_number}
 use Rattle.venue_rules.specs.Entering.{buyer, entering, entry_facts, entry_reports, fill_report, fill_reports, order_report, trade_of, unfilled_reports}
-use Rattle.venue_rules.specs.Answer.{Answer, Sender, first_of, numbered, reply}
-use Rattle.venue_rules.specs.Orders.{accepted, answer_order, order_asked, order_refusals}
+use Rattle.venue_rules.specs.Answer.{Answer, Sender, answers, first_of, numbered, reply}
+use Rattle.venue_rules.specs.Orders.{accepted, answer_order, duplicate, order_asked, order_refusals, order_under, refused_naming}
 use Rattle.venue_rules.specs.Changes.{Named, IsResting, IsHeld, IsUnknown, named, standing, answer_cancel_of, answer_replace_of, cancel_refusals, held_replace_refusals, replace_refusals, replace_refused, cancelled, held_cancelled, replaced, replacement}
-use Rattle.venue_rules.specs.Crosses.{answer_cross, answer_due, cross_accepted, cross_refusals, due_refusals, first_side, second_side, side_order}
+use Rattle.venue_rules.specs.Crosses.{answer_cross, answer_due, cross_accepted, cross_duplicate, cross_refusals, due_refusals, first_side, second_side, side_order, side_refused}
 use Rattle.venue_rules.specs.Requests.{answer_request, has_twice, named_recipients, open_room, opened, recipient_room, recipients, request_accepted, request_refusals, request_sent}
 use Rattle.venue_rules.specs.Quotes.{answer_quote_of, quote_accepted, quote_end, quote_refusals, quote_sent, quote_status, quoted, shown_with}
 use Rattle.venue_rules.specs.Withdrawals.{answer_withdrawal_of, both_emitted, not_found, to_maker, to_requester, withdraw_one, withdrawn_all, withdrawn_or}
@@ -159,11 +163,27 @@ accepted_r m r file h o t =
     both_same _ _ _ _ (entry_facts_r r h.facts o 0 t)
     (entry_reports_r m r file h o 0 t (λ e n. reply (r.place o.who) (OrderEntered (order_report (with_file m file) e o.quantity 0 n))) (λ n. reply o.who (OrderEntered (order_report m (entering h.facts o 0 t) o.quantity 0 n))) (λ n. refl))
 
+-- the order that a duplicate's report names keeps its number
+
+under_numbered : (r : Renaming) (o : Option Resting) → option_map (λ (x : Resting). x.entry.number) (option_map (renamed_resting r) o) ≡ option_map (λ (x : Resting). x.entry.number) o
+under_numbered r (Some x) = refl
+under_numbered r None = refl
+
+under_r : (r : Renaming) (old new_file : ParticipantFile) → IsRenamed r old new_file → (facts : List Fact) (who : ℕ) (id : List ℕ) → order_under (facts_r r facts) (r.place who) id ≡ order_under facts who id
+under_r r old new_file k facts who id = ap (option_map (λ (x : Resting). x.entry.number)) (find_order_r r old new_file k facts who id) ∙ under_numbered r (find_order facts who id)
+
+duplicate_r : (m : Market) (r : Renaming) (file : ParticipantFile) → IsRenamed r m.participants file → (h : History) (s : Sender) (d : OrderMessage) (cause : OrderRefusal) → duplicate (history_r r h) (sender_r r s) d cause ≡ answer_r r (duplicate h s d cause)
+duplicate_r m r file k h s d cause = ap (λ (n : Option ℕ). refused_naming n (history_r r h) (sender_r r s) d cause) (under_r r m.participants file k h.facts s.who d.order_id)
+
+cross_duplicate_r : (m : Market) (r : Renaming) (file : ParticipantFile) → IsRenamed r m.participants file → (h : History) (s : Sender) (d : CrossMessage) (cause : CrossRefusal) → cross_duplicate (history_r r h) (sender_r r s) d cause ≡ answer_r r (cross_duplicate h s d cause)
+cross_duplicate_r m r file k h s d cause =
+    ap₂ (λ (one two : Option ℕ). answers (numbered h.reports (side_refused one (sender_r r s) d cause d.first ∷ side_refused two (sender_r r s) d cause d.second ∷ []))) (under_r r m.participants file k h.facts s.who d.first.order_id) (under_r r m.participants file k h.facts s.who d.second.order_id)
+
 pub order_r : (m : Market) (r : Renaming) (file : ParticipantFile) → IsRenamed r m.participants file → (h : History) (s : Sender) (d : OrderMessage) (t : ℕ) → answer_order (with_file m file) (history_r r h) (sender_r r s) d t ≡ answer_r r (answer_order m h s d t)
 order_r m r file k h s d t =
     let o : OrderFact = order_asked m s.who d in
     first_of_r r (order_refusals (with_file m file) (history_r r h) (sender_r r s) d t) (order_refusals m h s d t) (accepted (with_file m file) (history_r r h) (renamed_order r o) t) (accepted m h o t)
-    (refl, refl, (order_used_r r m.participants file k h.facts s.who d.order_id, refl, (refl, refl, (refl, refl, (refl, refl, (refl, refl, (too_soon_r m r file k h.facts o t, refl, (side_full_r r h.facts o, refl, tt))))))))
+    (refl, refl, (order_used_r r m.participants file k h.facts s.who d.order_id, duplicate_r m r file k h s d order.DuplicateClOrdId, (refl, refl, (refl, refl, (refl, refl, (refl, refl, (too_soon_r m r file k h.facts o t, refl, (side_full_r r h.facts o, refl, tt))))))))
     (accepted_r m r file h o t)
 
 -- cancels and replacements
@@ -242,10 +262,10 @@ cross_r m r file k h s d t =
       refl,
       (
         cross_used_r r m.participants file k h.facts s.who d.cross_id,
-        refl,
+        cross_duplicate_r m r file k h s d cross.DuplicateCrossId,
         (
           ap₂ (λ a b. a || (b || bytes_eq d.first.order_id d.second.order_id)) (order_used_r r m.participants file k h.facts s.who d.first.order_id) (order_used_r r m.participants file k h.facts s.who d.second.order_id),
-          refl,
+          cross_duplicate_r m r file k h s d cross.DuplicateClOrdId,
           (
             refl,
             refl,

@@ -12,5 +12,7 @@ pub mod Hitting
 pub mod Renaming
 -- the book that an input changes
 pub mod OneBook
+-- orders and crosses under identifiers that their sender used
+pub mod Duplicates
 -- the reports of trades, in their order
 pub mod TradeReports

@@ -6,6 +6,7 @@ ghost use Rattle.venue_rules.specs.Run.{Input};
 ghost use Rattle.market_laws.specs.Access.{EverybodySeesTheBook};
 ghost use Rattle.market_laws.specs.Asking.{OnlyRecipientsAreAsked, RequestsGoToThree};
 ghost use Rattle.market_laws.specs.BookTrades.{BookTradesAreBetweenOwners};
+ghost use Rattle.market_laws.specs.Duplicates.{CrossDuplicatesNameWhatRests, DuplicatesNameWhatRests};
 ghost use Rattle.market_laws.specs.Hitting.{RestingOrdersTrade, ShownOrdersTrade};
 ghost use Rattle.market_laws.specs.OneBook.{OneBookChanges};
 ghost use Rattle.market_laws.specs.Renaming.{NobodyIsPreferred};
@@ -55,6 +56,14 @@ pub fn everybody_may_trade()
 /// the same answers, to the renamed ones (17 CFR 37.3(a)(3), 37.202(a)).
 pub fn nobody_is_preferred()
     ensures { NobodyIsPreferred }
+{}
+
+/// An order under an identifier that its sender used is refused by one report, a cross under used ones by one for each
+/// side. OrderID (37) of a report names the sender's order that rests under the report's identifier (11), by its
+/// number, and none only where none rests: refused is the message, not that order.
+pub fn every_duplicate_names_what_rests()
+    ensures orders { (m : Market) (is : List Input) → DuplicatesNameWhatRests m is }
+    ensures crosses { (m : Market) (is : List Input) → CrossDuplicatesNameWhatRests m is }
 {}
 
 /// An input changes the resting orders of one instrument alone: of the one that the order report has with which its

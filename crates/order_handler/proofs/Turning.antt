@@ -6,7 +6,7 @@ use Rattle.venue_rules.specs.Market.{Market}
 use Rattle.venue_rules.specs.Facts.{History, is_order_id_used}
 use Rattle.venue_rules.specs.Answer.{Answer, Sender}
 use Rattle.venue_rules.specs.Book.{too_soon, is_side_full, Fill}
-use Rattle.venue_rules.specs.Orders.{accepted, answer_order, is_limit, is_unsupported_life, order_asked, price_or_zero, refused}
+use Rattle.venue_rules.specs.Orders.{accepted, answer_order, is_limit, is_unsupported_life, duplicate, order_asked, order_under, price_or_zero, refused, refused_naming}
 use Rattle.instruments.specs.Listing.{instrument_of, is_off_tick, is_unknown_instrument, least_of}
 use Rattle.venue_rules.specs.declared.refusals.OrderRefusal.{OrderRefusal}
 use Rattle.price_book.specs.declared.book.Refusal.{Refusal}
@@ -19,7 +19,7 @@ use Rattle.price_book.specs.Contents.{Contents}
 use Rattle.price_book.specs.Steps.{IsPlanOf, Nothing}
 use Rattle.cross_delay.specs.Contents.{Contents as Delay}
 use Rattle.cross_delay.specs.Steps.{IsPlanOf as IsDelayPlan, Nothing as NothingHeld}
-use Rattle.order_handler.specs.declared.orders.Cause.TheVariants.{Refused, PriceMissing}
+use Rattle.order_handler.specs.declared.orders.Cause.TheVariants.{Refused, Duplicate, PriceMissing}
 use Rattle.std.proofs.lemmas.Bool.Decides.{nat_tests}
 use Rattle.venue_rules.specs.declared.facts.Fact.TheVariants.{Traded}
 use Rattle.venue_rules.specs.declared.facts.Entry.{Entry}
@@ -33,16 +33,16 @@ use Rattle.order_handler.specs.Asked.{IsSound, IsTurnedAway, rejection}
 -- Each refusal of an order is the answer where it holds and none before it does.
 
 pub unknown_instrument : (m : Market) (book delay : List Fact) (who : ℕ) (d : NewOrderSingle) → is_unknown_instrument m.instruments d.symbol ≡ true → IsTurnedAway m book delay who d (Refused order.UnknownInstrument)
-unknown_instrument m book delay who d h1 = record { answers = λ h number kind t k. rw h1 refl }
+unknown_instrument m book delay who d h1 = record { answers = λ h number kind t k o. rw h1 refl }
 
-pub duplicate_id : (m : Market) (book delay : List Fact) (who : ℕ) (d : NewOrderSingle) → is_unknown_instrument m.instruments d.symbol ≡ false → is_used book delay who d.order_id ≡ true → IsTurnedAway m book delay who d (Refused order.DuplicateClOrdId)
-duplicate_id m book delay who d h1 h2 = record { answers = λ h number kind t k. let h2' : is_order_id_used h.facts who d.order_id ≡ true = k ∙ h2 in rw h1 (rw h2' refl) }
+pub duplicate_id : (m : Market) (book delay : List Fact) (who : ℕ) (d : NewOrderSingle) (number : Option ℕ) → is_unknown_instrument m.instruments d.symbol ≡ false → is_used book delay who d.order_id ≡ true → number ≡ order_under book who d.order_id → IsTurnedAway m book delay who d (Duplicate number)
+duplicate_id m book delay who d number h1 h2 same = record { answers = λ h n kind t k o. let h2' : is_order_id_used h.facts who d.order_id ≡ true = k ∙ h2 in let s : Sender = record { who = who; number = n; kind = kind } in let again : answer_order m h s d t ≡ duplicate h s d order.DuplicateClOrdId = rw h1 (rw h2' refl) in again ∙ ap (λ x. refused_naming x h s d order.DuplicateClOrdId) (ap (option_map (λ r. r.entry.number)) o ∙ sym same) }
 
 pub unsupported_order : (m : Market) (book delay : List Fact) (who : ℕ) (d : NewOrderSingle) → is_unknown_instrument m.instruments d.symbol ≡ false → is_used book delay who d.order_id ≡ false → (not (is_limit d.order_type) || is_unsupported_life d.time_in_force) ≡ true → IsTurnedAway m book delay who d (Refused order.UnsupportedOrder)
-unsupported_order m book delay who d h1 h2 h3 = record { answers = λ h number kind t k. let h2' : is_order_id_used h.facts who d.order_id ≡ false = k ∙ h2 in rw h1 (rw h2' (rw h3 refl)) }
+unsupported_order m book delay who d h1 h2 h3 = record { answers = λ h number kind t k o. let h2' : is_order_id_used h.facts who d.order_id ≡ false = k ∙ h2 in rw h1 (rw h2' (rw h3 refl)) }
 
 pub price_missing : (m : Market) (book delay : List Fact) (who : ℕ) (d : NewOrderSingle) → is_unknown_instrument m.instruments d.symbol ≡ false → is_used book delay who d.order_id ≡ false → (not (is_limit d.order_type) || is_unsupported_life d.time_in_force) ≡ false → d.price ≡ None → IsTurnedAway m book delay who d PriceMissing
-price_missing m book delay who d h1 h2 h3 h4 = record { answers = λ h number kind t k. let h2' : is_order_id_used h.facts who d.order_id ≡ false = k ∙ h2 in rw h1 (rw h2' (rw h3 (rw h4 refl))) }
+price_missing m book delay who d h1 h2 h3 h4 = record { answers = λ h number kind t k o. let h2' : is_order_id_used h.facts who d.order_id ≡ false = k ∙ h2 in rw h1 (rw h2' (rw h3 (rw h4 refl))) }
 
 -- a statement about a price and an instrument that are present is one about those of the order
 off_tick-of : (m : Market) (who : ℕ) (d : NewOrderSingle) (x : ℕ) (price : ℤ) (b : Bool) → x ≡ instrument_of m.instruments d.symbol → d.price ≡ Some price → is_off_tick m.instruments x price ≡ b → is_off_tick m.instruments (order_asked m who d).instrument (order_asked m who d).price ≡ b
@@ -53,10 +53,10 @@ some_price (Some p) h = refl
 some_price None h = cc
 
 pub price_off_tick : (m : Market) (book delay : List Fact) (who : ℕ) (d : NewOrderSingle) (x : ℕ) (price : ℤ) → is_unknown_instrument m.instruments d.symbol ≡ false → is_used book delay who d.order_id ≡ false → (not (is_limit d.order_type) || is_unsupported_life d.time_in_force) ≡ false → d.price ≡ Some price → x ≡ instrument_of m.instruments d.symbol → is_off_tick m.instruments x price ≡ true → IsTurnedAway m book delay who d (Refused order.PriceOffTick)
-price_off_tick m book delay who d x price h1 h2 h3 h4 here h5 = record { answers = λ h number kind t k. let h2' : is_order_id_used h.facts who d.order_id ≡ false = k ∙ h2 in let h4' : is_none d.price ≡ false = some_price d.price h4 in let h5' : is_off_tick m.instruments (order_asked m who d).instrument (order_asked m who d).price ≡ true = off_tick-of m who d x price true here h4 h5 in rw h1 (rw h2' (rw h3 (rw h4' (rw h5' refl)))) }
+price_off_tick m book delay who d x price h1 h2 h3 h4 here h5 = record { answers = λ h number kind t k o. let h2' : is_order_id_used h.facts who d.order_id ≡ false = k ∙ h2 in let h4' : is_none d.price ≡ false = some_price d.price h4 in let h5' : is_off_tick m.instruments (order_asked m who d).instrument (order_asked m who d).price ≡ true = off_tick-of m who d x price true here h4 h5 in rw h1 (rw h2' (rw h3 (rw h4' (rw h5' refl)))) }
 
 pub quantity_below_least : (m : Market) (book delay : List Fact) (who : ℕ) (d : NewOrderSingle) (x : ℕ) (price : ℤ) → is_unknown_instrument m.instruments d.symbol ≡ false → is_used book delay who d.order_id ≡ false → (not (is_limit d.order_type) || is_unsupported_life d.time_in_force) ≡ false → d.price ≡ Some price → x ≡ instrument_of m.instruments d.symbol → is_off_tick m.instruments x price ≡ false → nat_lt d.quantity (least_of m.instruments x) ≡ true → IsTurnedAway m book delay who d (Refused order.QuantityBelowLeast)
-quantity_below_least m book delay who d x price h1 h2 h3 h4 here h5 h6 = record { answers = λ h number kind t k. let h2' : is_order_id_used h.facts who d.order_id ≡ false = k ∙ h2 in let h4' : is_none d.price ≡ false = some_price d.price h4 in let h5' : is_off_tick m.instruments (order_asked m who d).instrument (order_asked m who d).price ≡ false = off_tick-of m who d x price false here h4 h5 in let h6' : nat_lt d.quantity (least_of m.instruments (order_asked m who d).instrument) ≡ true = ap (λ y. nat_lt d.quantity (least_of m.instruments y)) (sym here) ∙ h6 in rw h1 (rw h2' (rw h3 (rw h4' (rw h5' (rw h6' refl))))) }
+quantity_below_least m book delay who d x price h1 h2 h3 h4 here h5 h6 = record { answers = λ h number kind t k o. let h2' : is_order_id_used h.facts who d.order_id ≡ false = k ∙ h2 in let h4' : is_none d.price ≡ false = some_price d.price h4 in let h5' : is_off_tick m.instruments (order_asked m who d).instrument (order_asked m who d).price ≡ false = off_tick-of m who d x price false here h4 h5 in let h6' : nat_lt d.quantity (least_of m.instruments (order_asked m who d).instrument) ≡ true = ap (λ y. nat_lt d.quantity (least_of m.instruments y)) (sym here) ∙ h6 in rw h1 (rw h2' (rw h3 (rw h4' (rw h5' (rw h6' refl))))) }
 
 pub sound_order : (m : Market) (book delay : List Fact) (who : ℕ) (d : NewOrderSingle) (x : ℕ) (price : ℤ) → is_unknown_instrument m.instruments d.symbol ≡ false → is_used book delay who d.order_id ≡ false → (not (is_limit d.order_type) || is_unsupported_life d.time_in_force) ≡ false → d.price ≡ Some price → x ≡ instrument_of m.instruments d.symbol → is_off_tick m.instruments x price ≡ false → nat_lt d.quantity (least_of m.instruments x) ≡ false → IsSound m book delay who d
 sound_order m book delay who d x price h1 h2 h3 h4 here h5 h6 = record { known = h1; new = h2; supported = h3; priced = some_price d.price h4; on_tick = off_tick-of m who d x price false here h4 h5; enough = ap (λ y. nat_lt d.quantity (least_of m.instruments y)) (sym here) ∙ h6 }
@@ -86,7 +86,7 @@ turned-at : (h : History) (reports : ℕ) (s : Sender) (d : NewOrderSingle) (cau
 turned-at h reports s d cause same = ap (λ n. rejection (record { facts = h.facts; reports = n }) s d cause) (sym same)
 
 pub turned-planned : (m : Market) (h : History) (book delay : List Fact) (c : Counts) (s : Sender) (d : NewOrderSingle) (t : ℕ) (cause : Cause) (a : Answer) → IsReadAlone h book delay c → IsTurnedAway m book delay s.who d cause → ((facts : List Fact) → a ≡ rejection (record { facts = facts; reports = c.reports }) s d cause) → a ≡ answer_order m h s d t
-turned-planned m h book delay c s d t cause a x away is = is h.facts ∙ turned-at h c.reports s d cause x.reports ∙ sym (away.answers h s.number s.kind t (x.used s.who d.order_id))
+turned-planned m h book delay c s d t cause a x away is = is h.facts ∙ turned-at h c.reports s d cause x.reports ∙ sym (away.answers h s.number s.kind t (x.used s.who d.order_id) (x.order s.who d.order_id))
 
 pub soon-planned : (m : Market) (h : History) (book delay : List Fact) (c : Counts) (s : Sender) (d : NewOrderSingle) (t : ℕ) (o : OrderFact) (n : ℕ) (a : Answer) → IsReadAlone h book delay c → IsSound m book delay s.who d → o ≡ order_asked m s.who d → IsEntryRefused m h.facts o t (TooSoon n) → ((facts : List Fact) → a ≡ refused (record { facts = facts; reports = c.reports }) s d order.LinkedOrderTooRecent) → a ≡ answer_order m h s d t
 soon-planned m h book delay c s d t o n a x sound same soon is =

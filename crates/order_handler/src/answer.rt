@@ -1,9 +1,10 @@
 //! Answers about orders, before they are applied.
-ghost use Rattle.std.specs.Prelude.{◌≡◌, ◌≤◌, false, [], ◌∷◌, length, count_by};
+ghost use Rattle.std.specs.Prelude.{◌≡◌, ◌≤◌, ◌++◌, false, [], ◌∷◌, length, count_by};
 ghost use Rattle.venue_rules.specs.declared.replies.Reply.{Reply as ReplyValue};
 ghost use Rattle.venue_rules.specs.Facts.{trades};
 ghost use Rattle.venue_rules.specs.Run.{is_report};
 ghost use Rattle.order_handler.specs.Counting.{is_reported};
+ghost use Rattle.order_handler.specs.Parts.{answer_of};
 
 use cross_delay::HoldPlan;
 use price_book::FillPlan;
@@ -175,6 +176,17 @@ impl OrderAnswer {
         ensures bound { result ≤ 200 }
     {
         self.traded
+    }
+
+    /// The facts, in two lists, one after the other.
+    pub fn facts(&self) -> (&[Fact], &[Fact])
+        ensures { result.0.now ++ result.1.now ≡ (answer_of self.now).facts }
+    {
+        if self.delay_first {
+            (self.delay.facts(), self.book.facts())
+        } else {
+            (self.book.facts(), self.delay.facts())
+        }
     }
 
     /// The plans for the book and for the held sides.

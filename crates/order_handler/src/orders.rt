@@ -2,7 +2,7 @@
 ghost use Rattle.std.specs.Prelude.{◌≡◌, [], ◌^◌, ◌<◌, length, List, IfOk, IfErr};
 ghost use Rattle.venue_rules.specs.declared.facts.Fact.{Fact as FactValue};
 ghost use Rattle.venue_rules.specs.Facts.{History};
-ghost use Rattle.venue_rules.specs.Orders.{answer_order, is_limit, is_unsupported_life, life_of, order_asked, refused};
+ghost use Rattle.venue_rules.specs.Orders.{answer_order, is_limit, is_unsupported_life, life_of, order_asked, refused, refused_naming};
 ghost use Rattle.order_handler.specs.Asked.{IsSound, IsTermsOf, IsTurnedAway, rejection};
 ghost use Rattle.order_handler.specs.Made.{IsMade};
 ghost use Rattle.order_handler.specs.Parts.{answer_of};
@@ -30,6 +30,8 @@ use venue_rules::{
 #[derive(Clone, Copy)]
 enum Cause {
     Refused(OrderRefusal),
+    /// with the number of the sender's order that rests under the identifier
+    Duplicate(Option<u64>),
     PriceMissing,
 }
 
@@ -91,7 +93,8 @@ fn order_terms(
         return Err(Cause::Refused(OrderRefusal::UnknownInstrument));
     };
     if is_used(book, held, request.taken.from, &order.order_id) {
-        return Err(Cause::Refused(OrderRefusal::DuplicateClOrdId));
+        let (named, _count) = book.find(request.taken.from, &order.order_id);
+        return Err(Cause::Duplicate(named));
     }
     if !is_limit(order.order_type) || is_unsupported_life(order.time_in_force) {
         return Err(Cause::Refused(OrderRefusal::UnsupportedOrder));
@@ -125,20 +128,21 @@ fn order_asked(request: &Request<'_>, order: &NewOrderSingle, terms: Terms) -> O
     }
 }
 
-/// The report that refuses an order, which has no number of the venue's.
-fn refused(
+/// The report that refuses an order, which has no number of the venue's; it names another, or none.
+fn refused_naming(
+    named: Option<u64>,
     request: &Request<'_>,
     order: &NewOrderSingle,
     cause: OrderRefusal,
 ) -> Result<OrderAnswer, AllocError>
     requires { AreCounts request.now.turn.counts }
-    ensures answer { IfOk result (λ a. (facts : List FactValue) → answer_of a ≡ refused (record { facts = facts; reports = request.now.turn.counts.reports }) (sender request.now.taken.now) order.now cause) }
+    ensures answer { IfOk result (λ a. (facts : List FactValue) → answer_of a ≡ refused_naming named (record { facts = facts; reports = request.now.turn.counts.reports }) (sender request.now.taken.now) order.now cause) }
     ensures quiet { IfOk result (λ a. (a.book ≡ []) × (a.delay ≡ [])) }
 {
     let (alloc, to) = (request.turn.alloc, request.taken.from);
     let report = OrderReport {
         report: request.turn.counts.reports + 1,
-        order: None,
+        order: named,
         symbol: order.symbol,
         side: order.side,
         left: Amount::new(0),
@@ -153,6 +157,19 @@ fn refused(
     Ok(OrderAnswer::of_replies(alloc, replies))
 }
 
+/// The report that refuses an order, and names none.
+fn refused(
+    request: &Request<'_>,
+    order: &NewOrderSingle,
+    cause: OrderRefusal,
+) -> Result<OrderAnswer, AllocError>
+    requires { AreCounts request.now.turn.counts }
+    ensures answer { IfOk result (λ a. (facts : List FactValue) → answer_of a ≡ refused (record { facts = facts; reports = request.now.turn.counts.reports }) (sender request.now.taken.now) order.now cause) }
+    ensures quiet { IfOk result (λ a. (a.book ≡ []) × (a.delay ≡ [])) }
+{
+    refused_naming(None, request, order, cause)
+}
+
 /// The answer to an order refused before the book is asked.
 fn rejection(
     request: &Request<'_>,
@@ -165,6 +182,9 @@ fn rejection(
 {
     match cause {
         Cause::Refused(cause) => refused(request, order, cause),
+        Cause::Duplicate(named) => {
+            refused_naming(named, request, order, OrderRefusal::DuplicateClOrdId)
+        }
         Cause::PriceMissing => {
             let missing = BusinessRefusal::PriceMissing;
             business_reject(request.turn.alloc, request.taken, missing)

@@ -73,6 +73,13 @@ impl RoomAnswer {
         &self.replies
     }
 
+    /// The facts.
+    pub fn facts(&self) -> &[Fact]
+        ensures { result.now ≡ self.now.facts }
+    {
+        self.plan.facts()
+    }
+
     /// The quote that the rooms gain, if any.
     pub fn made(&self) -> Option<&RoomQuote>
         ensures { option_map (λ q. q.now) result ≡ first_made self.now.facts }

@@ -22,7 +22,7 @@ use Rattle.rfq_room.specs.RoomFacts.{is_in_room, room_facts}
 
 -- The rules read the same of rooms off all facts of a venue as off the facts of its rooms.
 
-rooms-room : (fs : List Fact) → rooms (room_facts fs) ≡ rooms fs
+pub rooms-room : (fs : List Fact) → rooms (room_facts fs) ≡ rooms fs
 rooms-room [] = refl
 rooms-room (Entered e ∷ fs) = rooms-room fs
 rooms-room (Traded t ∷ fs) = passed (is_in_room t.place) t (room_facts fs) fs (rooms-room fs)
@@ -38,7 +38,7 @@ rooms-room (Quoted q ∷ fs) = rooms-room fs
 rooms-room (Withdrawn w ∷ fs) = rooms-room fs
 rooms-room (Closed c ∷ fs) = rooms-room fs
 
-quotes-room : (fs : List Fact) → quotes (room_facts fs) ≡ quotes fs
+pub quotes-room : (fs : List Fact) → quotes (room_facts fs) ≡ quotes fs
 quotes-room [] = refl
 quotes-room (Entered e ∷ fs) = quotes-room fs
 quotes-room (Traded t ∷ fs) = passed (is_in_room t.place) t (room_facts fs) fs (quotes-room fs)
@@ -85,7 +85,10 @@ withdrawn-room (Closed c ∷ fs) n = withdrawn-room fs n
 replaced-room : (fs : List Fact) (q : RoomQuote) → is_replaced (room_facts fs) q ≡ is_replaced fs q
 replaced-room fs q = rw (quotes-room fs) refl
 
-live-room : (fs : List Fact) (t : ℕ) (q : RoomQuote) → is_live (room_facts fs) t q ≡ is_live fs t q
+pub open-room : (fs : List Fact) (t : ℕ) (r : Room) → is_open (room_facts fs) t r ≡ is_open fs t r
+open-room fs t r = ap (λ b. not b && nat_le t r.end) (closed-room fs r.number)
+
+pub live-room : (fs : List Fact) (t : ℕ) (q : RoomQuote) → is_live (room_facts fs) t q ≡ is_live fs t q
 live-room fs t q = rw (quotes-room fs, withdrawn-room fs q.number, closed-room fs q.room) refl
 
 -- two tests that agree filter alike
@@ -96,7 +99,7 @@ alike p q (x ∷ xs) h = rw (h x, alike p q xs h) refl
 open_rooms-room : (fs : List Fact) (t : ℕ) → open_rooms (room_facts fs) t ≡ open_rooms fs t
 open_rooms-room fs t =
     ap (filter (is_open (room_facts fs) t)) (rooms-room fs)
-    ∙ alike (is_open (room_facts fs) t) (is_open fs t) (rooms fs) (λ r. ap (λ b. not b && nat_le t r.end) (closed-room fs r.number))
+    ∙ alike (is_open (room_facts fs) t) (is_open fs t) (rooms fs) (open-room fs t)
 
 live_quotes-room : (fs : List Fact) (maker t : ℕ) → live_quotes (room_facts fs) maker t ≡ live_quotes fs maker t
 live_quotes-room fs maker t =

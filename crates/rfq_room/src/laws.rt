@@ -6,14 +6,15 @@ ghost use Rattle.fix_dictionary.specs.declared.messages.QuoteCancel.{QuoteCancel
 ghost use Rattle.fix_dictionary.specs.declared.messages.QuoteResponse.{QuoteResponse};
 ghost use Rattle.venue_rules.specs.declared.facts.Fact.{Fact};
 ghost use Rattle.venue_rules.specs.Market.{Market};
-ghost use Rattle.venue_rules.specs.Facts.{History, next_quote, next_room};
+ghost use Rattle.venue_rules.specs.Facts.{History, next_quote, next_room, quotes, rooms};
 ghost use Rattle.venue_rules.specs.Answer.{Sender};
 ghost use Rattle.venue_rules.specs.Requests.{answer_request, opened};
 ghost use Rattle.venue_rules.specs.Quotes.{answer_quote, quoted};
 ghost use Rattle.venue_rules.specs.Withdrawals.{answer_withdrawal};
 ghost use Rattle.venue_rules.specs.Responses.{answer_response};
-ghost use Rattle.venue_rules.specs.Rooms.{find_quote, find_room, first_quote, room_by_number};
+ghost use Rattle.venue_rules.specs.Rooms.{find_quote, find_room, first_quote, is_live, is_open, room_by_number};
 ghost use Rattle.venue_rules.specs.declared.facts.Room.{Room};
+ghost use Rattle.venue_rules.specs.declared.facts.RoomQuote.{RoomQuote};
 ghost use Rattle.rfq_room.specs.Causes.{decide, quote_cause, request_cause, withdrawal_cause, withdrawal_id};
 ghost use Rattle.rfq_room.specs.Named.{named_quotes, quote_room};
 ghost use Rattle.rfq_room.specs.Plans.{quote_made, room_asked};
@@ -31,4 +32,13 @@ pub fn rooms_decide()
     ensures quoted { (h : History) (s : Sender) (r : Room) (d : Quote) → quoted h s r d ≡ quote_made (room_facts h.facts) s.who r d }
     ensures first { (fs : List Fact) (room : ℕ) → first_quote fs room ≡ first_quote (room_facts fs) room }
     ensures room { (fs : List Fact) (number : ℕ) → room_by_number fs number ≡ room_by_number (room_facts fs) number }
+{}
+
+/// The rooms and quotes, and whether a room may still trade and a quote may be hit, are the same by all facts of a
+/// venue as by the facts of its rooms.
+pub fn rooms_are_read_alone()
+    ensures rooms { (fs : List Fact) → rooms (room_facts fs) ≡ rooms fs }
+    ensures quotes { (fs : List Fact) → quotes (room_facts fs) ≡ quotes fs }
+    ensures opened { (fs : List Fact) (t : ℕ) (r : Room) → is_open (room_facts fs) t r ≡ is_open fs t r }
+    ensures live { (fs : List Fact) (t : ℕ) (q : RoomQuote) → is_live (room_facts fs) t q ≡ is_live fs t q }
 {}

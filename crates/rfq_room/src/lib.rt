@@ -25,7 +25,7 @@ mod rooms;
 mod withdrawing;
 
 pub use decision::Hit;
-pub use laws::rooms_decide;
+pub use laws::{rooms_are_read_alone, rooms_decide};
 pub use plan::RoomPlan;
 pub use refusal::{Cause, Refusal, ResponseCause, WithdrawalRefusal};
 pub use rooms::Rooms;

@@ -1,7 +1,7 @@
 //! What is kept of the rooms, in place of their facts.
 ghost use Rattle.std.specs.Prelude.{◌≡◌, ◌≤◌, ◌+◌, [], ◌++◌, length, IfOk, is_some, option_map};
 ghost use Rattle.std.specs.Vec.{vec_capacity, vec_len};
-ghost use Rattle.venue_rules.specs.Facts.{next_quote, next_room, rooms as asked};
+ghost use Rattle.venue_rules.specs.Facts.{next_quote, next_room, quotes, rooms as asked};
 ghost use Rattle.venue_rules.specs.Rooms.{find_quote, find_room, is_open, open_rooms, room_by_number};
 ghost use Rattle.rfq_room.specs.Named.{named_quotes, quote_by_number, quote_room};
 ghost use Rattle.rfq_room.specs.Steps.{IsPlanOf};
@@ -180,6 +180,20 @@ impl RoomStore {
         ensures { result ≡ next_quote self.now.facts }
     {
         self.quotes.len() as u64 + 1
+    }
+
+    /// The rooms, by number.
+    pub(crate) fn rooms(&self) -> &[Room]
+        ensures { result.now ≡ asked self.now.facts }
+    {
+        &self.rooms
+    }
+
+    /// The quotes, by number.
+    pub(crate) fn quotes(&self) -> &[RoomQuote]
+        ensures { result.now ≡ quotes self.now.facts }
+    {
+        &self.quotes
     }
 
     pub(crate) fn is_open(&self, moment: Moment, room: &Room) -> bool

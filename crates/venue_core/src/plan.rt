@@ -1,5 +1,5 @@
 //! Plans: the additions of an input to the venue.
-ghost use Rattle.std.specs.Prelude.{◌≡◌, ◌≤◌};
+ghost use Rattle.std.specs.Prelude.{◌≡◌, ◌≤◌, ◌++◌};
 ghost use Rattle.rfq_handler.specs.Counting.{trades_in};
 ghost use Rattle.venue_core.specs.Plan.{answer_of, traded_by};
 ghost use Rattle.venue_core.specs.declared.plan.Part.TheVariants.{OfOrders, OfRooms};
@@ -7,7 +7,7 @@ ghost use Rattle.venue_core.specs.declared.plan.Part.TheVariants.{OfOrders, OfRo
 use order_handler::OrderAnswer;
 use rfq_handler::RoomAnswer;
 use std::marker::Model;
-use venue_rules::{Reply, RoomFact};
+use venue_rules::{Fact, Reply, RoomFact};
 
 /// An answer about orders, or one about rooms with the reading of a room's first quote; no input has both.
 #[derive(Drop)]
@@ -60,6 +60,16 @@ impl Plan {
         match &self.part {
             Part::OfOrders(answer) => answer.replies(),
             Part::OfRooms(answer, _) => answer.replies(),
+        }
+    }
+
+    /// The facts, in two lists, one after the other.
+    pub fn facts(&self) -> (&[Fact], &[Fact])
+        ensures { result.0.now ++ result.1.now ≡ (answer_of self.now).facts }
+    {
+        match &self.part {
+            Part::OfOrders(answer) => answer.facts(),
+            Part::OfRooms(answer, _) => (answer.facts(), &[]),
         }
     }
 

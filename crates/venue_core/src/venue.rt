@@ -1,10 +1,15 @@
 //! The venue: its files, the day's state, and the count of items.
 ghost use Rattle.std.specs.Prelude.{◌≡◌, ◌≤◌, ◌+◌, option_map, slice_get, IfOk, is_some};
 ghost use Rattle.venue_rules.specs.Book.{picture, resting};
-ghost use Rattle.venue_rules.specs.Delay.{due};
-ghost use Rattle.venue_rules.specs.Facts.{History, no_history};
+ghost use Rattle.venue_rules.specs.Delay.{due, held};
+ghost use Rattle.venue_rules.specs.Facts.{History, no_history, quotes, rooms};
 ghost use Rattle.venue_rules.specs.Readings.{room_fact, trade_facts};
+ghost use Rattle.venue_rules.specs.Rooms.{is_live, is_open};
 ghost use Rattle.venue_rules.specs.Run.{Message, Tick};
+ghost use Rattle.cross_delay.specs.ByDue.{by_due};
+ghost use Rattle.price_book.specs.Live.{live};
+ghost use Rattle.price_book.specs.Numbered.{numbered};
+ghost use Rattle.price_book.specs.Views.{seen};
 ghost use Rattle.venue_core.specs.Plan.{IsPlanOf, answer_of, most_items};
 ghost use Rattle.venue_core.specs.VenueFacts.{IsAfter, IsAnswer, IsHistory};
 ghost use Rattle.venue_core.specs.State.{standing};
@@ -18,11 +23,12 @@ use cross_delay::delay_is_read_alone;
 use fix_dictionary::{Price, Side};
 use instruments::Instruments;
 use participants::Participants;
-use price_book::{book_is_read_alone, sides_are_read_alone};
+use price_book::{Resting, book_is_read_alone, sides_are_read_alone};
+use rfq_room::rooms_are_read_alone;
 use sef_moment::Moment;
 use std::alloc::{AllocError, Global};
 use std::marker::Model;
-use venue_rules::{RoomFact, SnapshotEntry, Taken, TradeFact};
+use venue_rules::{HeldSide, Room, RoomFact, RoomQuote, SnapshotEntry, Taken, TradeFact};
 
 /// A swap execution facility: its state, and its answer to each input.
 pub struct Venue {
@@ -128,6 +134,54 @@ impl Venue {
     {
         book_is_read_alone();
         self.day.book.picture(instrument)
+    }
+
+    /// The resting order with this number; a snapshot has the numbers.
+    pub fn resting(&self, number: u64) -> Option<Resting<'_>>
+        ensures { (h : History) → IsHistory self.now h → option_map seen result ≡ numbered number (live h.facts) }
+    {
+        sides_are_read_alone();
+        self.day.book.numbered(number)
+    }
+
+    /// The held sides, the first to fall due first.
+    pub fn held_sides(&self) -> &[HeldSide]
+        ensures { (h : History) → IsHistory self.now h → result.now ≡ by_due (held h.facts) }
+    {
+        delay_is_read_alone();
+        self.day.held.sides()
+    }
+
+    /// The requests for quotes, by number.
+    pub fn rooms(&self) -> &[Room]
+        ensures { (h : History) → IsHistory self.now h → result.now ≡ rooms h.facts }
+    {
+        rooms_are_read_alone();
+        self.day.rooms.rooms()
+    }
+
+    /// The quotes, by number.
+    pub fn quotes(&self) -> &[RoomQuote]
+        ensures { (h : History) → IsHistory self.now h → result.now ≡ quotes h.facts }
+    {
+        rooms_are_read_alone();
+        self.day.rooms.quotes()
+    }
+
+    /// Whether the room may still trade at a moment.
+    pub fn is_open(&self, moment: Moment, room: &Room) -> bool
+        ensures { (h : History) → IsHistory self.now h → result ≡ is_open h.facts moment room.now }
+    {
+        rooms_are_read_alone();
+        self.day.rooms.is_open(moment, room)
+    }
+
+    /// Whether the quote may be hit at a moment.
+    pub fn is_live(&self, moment: Moment, quote: &RoomQuote) -> bool
+        ensures { (h : History) → IsHistory self.now h → result ≡ is_live h.facts moment quote.now }
+    {
+        rooms_are_read_alone();
+        self.day.rooms.is_live(moment, quote)
     }
 
     /// Plans a message taken at a moment, and reserves memory for it. At most 10^15 items came before.

@@ -81,6 +81,28 @@ pub held_side_refused : said_from 2 (
 unfolding digits
 held_side_refused = refl
 
+-- a used identifier names the order that rests under it: none that is filled, replaced or cancelled, and none of
+-- another participant
+pub duplicates_named : said_from 6 (
+    sends beta 2 (order (codes "b1") swap Sell 60 two_and_a_half) start
+    ∷ sends alpha 2 (order (codes "b1") swap Sell 5 two_and_a_half) start
+    ∷ sends alpha 3 (order (codes "a2") swap Buy 10 two_and_a_half) (start + 20000)
+    ∷ sends alpha 4 (replace (codes "a3") (codes "b1") 5 (pos 2502500)) (start + 20000)
+    ∷ sends alpha 5 (order (codes "b1") swap Buy 5 two_and_a_half) (start + 20000)
+    ∷ sends alpha 6 (order (codes "a2") swap Buy 5 two_and_a_half) (start + 20000)
+    ∷ sends alpha 7 (order (codes "a3") swap Buy 5 two_and_a_half) (start + 20000)
+    ∷ sends beta 3 (order (codes "b1") swap Buy 5 two_and_a_half) (start + 20000)
+    ∷ sends alpha 8 (cancel (codes "a4") (codes "a3")) (start + 20000)
+    ∷ sends alpha 9 (order (codes "a3") swap Buy 5 two_and_a_half) (start + 20000) ∷ [])
+    ≡ (alpha, codes "35=8|37=NONE|17=E7|150=8|39=8|55=IRS5Y|54=1|151=0|14=0|11=b1|103=6|58=Duplicate ClOrdID|")
+    ∷ (alpha, codes "35=8|37=NONE|17=E8|150=8|39=8|55=IRS5Y|54=1|151=0|14=0|11=a2|103=6|58=Duplicate ClOrdID|")
+    ∷ (alpha, codes "35=8|37=O4|17=E9|150=8|39=8|55=IRS5Y|54=1|151=0|14=0|11=a3|103=6|58=Duplicate ClOrdID|")
+    ∷ (beta, codes "35=8|37=O1|17=E10|150=8|39=8|55=IRS5Y|54=1|151=0|14=0|11=b1|103=6|58=Duplicate ClOrdID|")
+    ∷ (alpha, codes "35=8|37=O4|17=E11|150=4|39=4|55=IRS5Y|54=2|151=0|14=0|11=a4|41=a3|")
+    ∷ (alpha, codes "35=8|37=NONE|17=E12|150=8|39=8|55=IRS5Y|54=1|151=0|14=0|11=a3|103=6|58=Duplicate ClOrdID|") ∷ []
+unfolding digits
+duplicates_named = refl
+
 -- with two different delays, the side due first enters first, though it arrived later
 abbrev pub uneven_delays : Market
 uneven_delays = record venue { instruments = fixture_instrument swap 15000 ∷ fixture_instrument basis 1000 ∷ [] }

@@ -83,7 +83,7 @@ pub crosses_in_order : said_then before (
     ∷ codes "35=8|37=NONE|17=E4|150=8|39=8|55=BASIS1Y|54=1|151=0|14=0|11=x1|103=6|58=Duplicate CrossID|"
     ∷ codes "35=8|37=NONE|17=E5|150=8|39=8|55=BASIS1Y|54=2|151=0|14=0|11=y2|103=6|58=Duplicate CrossID|"
     ∷ codes "35=8|37=NONE|17=E4|150=8|39=8|55=BASIS1Y|54=1|151=0|14=0|11=y1|103=6|58=Duplicate ClOrdID|"
-    ∷ codes "35=8|37=NONE|17=E5|150=8|39=8|55=BASIS1Y|54=2|151=0|14=0|11=x2|103=6|58=Duplicate ClOrdID|"
+    ∷ codes "35=8|37=O3|17=E5|150=8|39=8|55=BASIS1Y|54=2|151=0|14=0|11=x2|103=6|58=Duplicate ClOrdID|"
     ∷ codes "35=8|37=NONE|17=E4|150=8|39=8|55=BASIS1Y|54=1|151=0|14=0|11=y1|103=6|58=Duplicate ClOrdID|"
     ∷ codes "35=8|37=NONE|17=E5|150=8|39=8|55=BASIS1Y|54=2|151=0|14=0|11=y1|103=6|58=Duplicate ClOrdID|"
     ∷ codes "35=8|37=NONE|17=E4|150=8|39=8|55=BASIS1Y|54=1|151=0|14=0|11=y1|103=11|58=Unsupported order|"

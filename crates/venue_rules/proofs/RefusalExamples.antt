@@ -45,7 +45,7 @@ pub orders_refused : said_to_each (
     ∷ sends alpha 5 (order_with (codes "a2") basis Sell 9 (Some (pos 1000000)) None) (start + 1)
     ∷ sends alpha 5 (order_with (codes "a2") basis Sell 10 (Some (pos 1000000)) None) (start + 1) ∷ [])
     ≡ codes "35=8|37=NONE|17=E4|150=8|39=8|55=X|54=2|151=0|14=0|11=a1|103=1|58=Unknown instrument|"
-    ∷ codes "35=8|37=NONE|17=E4|150=8|39=8|55=BASIS1Y|54=2|151=0|14=0|11=a1|103=6|58=Duplicate ClOrdID|"
+    ∷ codes "35=8|37=O2|17=E4|150=8|39=8|55=BASIS1Y|54=2|151=0|14=0|11=a1|103=6|58=Duplicate ClOrdID|"
     ∷ codes "35=8|37=NONE|17=E4|150=8|39=8|55=BASIS1Y|54=2|151=0|14=0|11=a2|103=11|58=Unsupported order|"
     ∷ codes "35=j|45=5|372=D|380=5|58=Price missing|"
     ∷ codes "35=8|37=NONE|17=E4|150=8|39=8|55=BASIS1Y|54=2|151=0|14=0|11=a2|103=99|58=Price off tick|"
@@ -70,13 +70,17 @@ pub changes_refused : said_to_each (
 unfolding digits
 changes_refused = refl
 
+-- the cross sent again names its first side, which rests; its held side has no number
 pub crosses_refused : said_to_each (
-    sends delta 5 (cross (codes "c1") 1 (codes "y1") (codes "y2") basis 10 two_and_a_half) (start + 1)
+    sends delta 5 (cross (codes "c1") 1 (codes "x1") (codes "x2") basis 10 two_and_a_half) (start + 1)
+    ∷ sends delta 5 (cross (codes "c1") 1 (codes "y1") (codes "y2") basis 10 two_and_a_half) (start + 1)
     ∷ sends delta 5 (cross (codes "c2") 1 (codes "x1") (codes "y2") basis 10 two_and_a_half) (start + 1)
     ∷ sends delta 5 (cross (codes "c2") 3 (codes "y1") (codes "y2") basis 10 two_and_a_half) (start + 1)
     ∷ sends delta 5 (cross (codes "c2") 1 (codes "y1") (codes "y2") basis 9 two_and_a_half) (start + 1)
     ∷ sends delta 5 (cross (codes "c2") 1 (codes "y1") (codes "y2") basis 10 two_and_a_half) (start + 1) ∷ [])
-    ≡ codes "35=8|37=NONE|17=E4|150=8|39=8|55=BASIS1Y|54=1|151=0|14=0|11=y1|103=6|58=Duplicate CrossID|"
+    ≡ codes "35=8|37=NONE|17=E4|150=8|39=8|55=BASIS1Y|54=1|151=0|14=0|11=x1|103=6|58=Duplicate CrossID|"
+    ∷ codes "35=8|37=O3|17=E5|150=8|39=8|55=BASIS1Y|54=2|151=0|14=0|11=x2|103=6|58=Duplicate CrossID|"
+    ∷ codes "35=8|37=NONE|17=E4|150=8|39=8|55=BASIS1Y|54=1|151=0|14=0|11=y1|103=6|58=Duplicate CrossID|"
     ∷ codes "35=8|37=NONE|17=E5|150=8|39=8|55=BASIS1Y|54=2|151=0|14=0|11=y2|103=6|58=Duplicate CrossID|"
     ∷ codes "35=8|37=NONE|17=E4|150=8|39=8|55=BASIS1Y|54=1|151=0|14=0|11=x1|103=6|58=Duplicate ClOrdID|"
     ∷ codes "35=8|37=NONE|17=E5|150=8|39=8|55=BASIS1Y|54=2|151=0|14=0|11=y2|103=6|58=Duplicate ClOrdID|"

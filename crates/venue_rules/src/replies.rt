@@ -12,7 +12,8 @@ use fix_dictionary::{Amount, Identifier, Price, Quantity, SequenceNumber, Side};
 use participants::Who;
 use sef_moment::Moment;
 
-/// Common part of execution reports. `order` is none where the report names no order of the book.
+/// Common part of execution reports. `order` is none where the report names no order of the book. A refusal as a
+/// duplicate names the sender's order that rests under `id`.
 #[derive(Drop)]
 pub struct OrderReport {
     pub report: u64,

@@ -7,8 +7,11 @@ use Rattle.price_book.proofs.Living.{find_order-live}
 use Rattle.price_book.proofs.Numbers.{found-numbered}
 use Rattle.price_book.proofs.book.PriceBook.numbered.Goals as goal
 
-pub returns : goal.returns
-returns c = λ who r own.
+pub returns-clause-found : goal.returns-clause-found
+returns-clause-found c = rw (← c.self.view_is) (c.numbered.ensures ∙ c.self.invariant.step.listed.stored_orders c.args.number)
+
+pub returns-clause-own : goal.returns-clause-own
+returns-clause-own c = λ who r own.
     let facts = c.self.inside.past in
     let rs : List Resting = live facts in
     let is : IsOwnOf facts who c.args.number r = rw (← c.self.view_is) at own in

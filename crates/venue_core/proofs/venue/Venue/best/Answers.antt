@@ -10,4 +10,4 @@ returns c = λ h is.
     let side = c.args.side in
     let same = ap (λ (s : State). s.day.book.facts) c.self.view_is ∙ sym is.book in
     c.best.ensures
-    ∙ ap (λ (rs : List Resting). option_map (λ (r : Resting). r.entry.order.price) (slice_get rs 0)) (ap (λ (fs : List Fact). resting fs x side) same ∙ c.sides_are_read_alone.ensures h.facts x side)
+    ∙ ap (λ (rs : List Resting). option_map (λ (r : Resting). r.entry.order.price) (slice_get rs 0)) (ap (λ (fs : List Fact). resting fs x side) same ∙ c.sides_are_read_alone.ensures.sides h.facts x side)
