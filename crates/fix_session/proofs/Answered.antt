@@ -6,7 +6,7 @@ use Rattle.fix_dictionary.specs.Values.{Resend}
 use Rattle.fix_dictionary.specs.declared.messages.Item.{Item}
 use Rattle.fix_session.specs.declared.frame.Frame.{Frame}
 use Rattle.fix_session.specs.declared.frame.Content.{Content}
-use Rattle.fix_session.specs.declared.frame.Content.TheVariants.{Logon, Heartbeat, TestRequest, ResendRequest, SequenceReset, Logout, Reject, Application, Faulty}
+use Rattle.fix_session.specs.declared.frame.Content.TheVariants.{Logon, ResendRequest, SequenceReset, Logout, Application, Faulty}
 use Rattle.fix_session.specs.declared.frame.FaultyKind.TheVariants as faulty
 use Rattle.fix_session.specs.declared.frame.SeqNumCheck.{SeqNumCheck}
 use Rattle.fix_session.specs.declared.frame.SeqNumCheck.TheVariants.{Missing, TooLow, Expected, TooHigh}
@@ -23,7 +23,7 @@ use Rattle.fix_session.specs.declared.plan.Step.TheVariants.{Idle, Did, App, Dro
 use Rattle.fix_session.specs.Chain.{counts, asks, era_asked, last_era, seq_num_check}
 use Rattle.fix_session.specs.State.{State, era_of}
 use Rattle.fix_session.specs.Ticks.{timer_action}
-use Rattle.fix_session.specs.Table.{affordable, logon_refusal, is_outstanding, before_logon, after_logon, of_peer, wrong_comp, reset, reset_by_check, below, above, ahead, in_order, by_check, from_peer, logon, plan_of, plan_in_era, by_era, is_spent, are_spent}
+use Rattle.fix_session.specs.Table.{affordable, logon_refusal, is_outstanding, before_logon, after_logon, of_peer, wrong_comp, reset, reset_by_check, below, above, ahead, in_order, by_check, from_peer, may_precede, logon_above, logon, plan_of, plan_in_era, by_era, is_spent, are_spent}
 use Rattle.fix_session.specs.Reader.{Reader}
 use Rattle.fix_session.specs.Body.{frame_in}
 use Rattle.fix_session.specs.Machine.{step, step_on, moved, plan_for, item_of, tick, tick_by, sends_now, AtEnd, Grows}
@@ -47,11 +47,14 @@ below_works : (said : Content) (s : SessionState) (duplicate : Bool) (n : ℕ) �
 below_works said s true n = tt
 below_works said s false n = tt
 
+logon_above_works : (said : Content) (s : SessionState) (heartbeat : ℕ) (again : Option Bool) (n : ℕ) → Works said (logon_above s heartbeat again n)
+logon_above_works said s heartbeat again n = if_either (Works said) (may_precede s) _ _ tt tt
+
 logon_works : (said : Content) (s : SessionState) (entries : ℕ) (duplicate : Bool) (heartbeat : ℕ) (again : Option Bool) (check : SeqNumCheck) → Works said (logon s entries duplicate heartbeat again check)
 logon_works said s entries duplicate heartbeat again Missing = tt
 logon_works said s entries duplicate heartbeat again (TooLow n) = if_either (Works said) (asks again) _ _ tt (below_works said s duplicate n)
 logon_works said s entries duplicate heartbeat again Expected = if_either (Works said) (counts again duplicate s.next_incoming entries) _ _ tt tt
-logon_works said s entries duplicate heartbeat again (TooHigh n) = if_either (Works said) (asks again) _ _ tt tt
+logon_works said s entries duplicate heartbeat again (TooHigh n) = if_either (Works said) (asks again) _ _ tt (logon_above_works said s heartbeat again n)
 
 of_peer_works : (said : Content) (s : SessionState) (logon_refusal : Option Why) (plan : Plan) → Works said plan → Works said (of_peer s logon_refusal plan)
 of_peer_works said s (Some reason) plan h = tt

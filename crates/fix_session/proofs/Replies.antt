@@ -9,7 +9,7 @@ use Rattle.fix_session.specs.declared.plan.AdminReply.{AdminReply}
 use Rattle.fix_session.specs.declared.plan.AdminReply.TheVariants as admin_reply
 use Rattle.fix_session.specs.declared.plan.Step.{Step}
 use Rattle.fix_session.specs.declared.plan.AdminReplies.{AdminReplies}
-use Rattle.fix_session.specs.declared.plan.AdminReplies.TheVariants.{Nothing, One, Two}
+use Rattle.fix_session.specs.declared.plan.AdminReplies.TheVariants.{Nothing, One, Two, Unspent}
 use Rattle.fix_session.specs.declared.session_state.TimerAction.{TimerAction}
 use Rattle.fix_session.specs.declared.session_state.TimerAction.TheVariants as tick_asks
 use Rattle.fix_session.specs.Reader.{Reader}
@@ -30,6 +30,7 @@ session_entries : (es : List Entry) (admin_replies : AdminReplies) → apps (es 
 session_entries es Nothing = ap apps (append-nil es)
 session_entries es (One a) = rw (apps-append es (entry.Session ∷ [])) (append-nil (apps es))
 session_entries es (Two a b) = rw (apps-append es (entry.Session ∷ entry.Session ∷ [])) (append-nil (apps es))
+session_entries es (Unspent a) = ap apps (append-nil es)
 
 apps_past-append : (xs ys : List (List Entry)) → apps_past (xs ++ ys) ≡ apps_past xs ++ apps_past ys
 apps_past-append [] ys = refl
@@ -98,5 +99,5 @@ run_replies r h [] = sym (append-nil (numbered h.session))
 run_replies r h (e ∷ events) =
     rw (run_replies r (happens r h e) events, event_replies r h e) (append_assoc (numbered h.session) (reply_of h e) (replies r (happens r h e) events))
 
-pub replies_are : (r : Reader) (ids : CompIds) (events : List Event) → numbered (run r events (begin ids)).session ≡ replies r (begin ids) events
-replies_are r ids events = run_replies r (begin ids) events
+pub replies_are : (r : Reader) (restarted : Bool) (ids : CompIds) (events : List Event) → numbered (run r events (begin restarted ids)).session ≡ replies r (begin restarted ids) events
+replies_are r restarted ids events = run_replies r (begin restarted ids) events

@@ -18,11 +18,11 @@ use Rattle.fix_session.specs.declared.frame.Content.{Content}
 use Rattle.fix_session.specs.declared.frame.Content.TheVariants as content
 use Rattle.fix_session.specs.declared.comp_ids.CompIds.{CompIds}
 use Rattle.fix_session.specs.declared.plan.LogoutText.{LogoutText}
-use Rattle.fix_session.specs.declared.plan.LogoutText.TheVariants.{Plain, TooLow, NumberMissing, CompIdProblem}
+use Rattle.fix_session.specs.declared.plan.LogoutText.TheVariants.{Plain, TooLow, NumberMissing, CompIdProblem, NumbersRestarted}
 use Rattle.fix_session.specs.declared.plan.AdminReply.{AdminReply}
 use Rattle.fix_session.specs.declared.plan.AdminReply.TheVariants as admin_reply
 use Rattle.fix_session.specs.declared.plan.AdminReplies.{AdminReplies}
-use Rattle.fix_session.specs.declared.plan.AdminReplies.TheVariants.{Nothing, One, Two}
+use Rattle.fix_session.specs.declared.plan.AdminReplies.TheVariants.{Nothing, One, Two, Unspent}
 use Rattle.fix_session.specs.declared.plan.Plan.{Plan}
 use Rattle.fix_session.specs.State.{State}
 
@@ -36,6 +36,7 @@ logout_text Plain = None
 logout_text (TooLow expecting received) = Some (too_low_text expecting received)
 logout_text NumberMissing = Some (codes "MsgSeqNum missing")
 logout_text CompIdProblem = Some (codes "CompID problem")
+logout_text NumbersRestarted = Some (codes "Sequence numbers began anew, reset (141=Y)")
 
 -- the type of the frame that is rejected (372), where it has the form of an identifier
 abbrev pub reference_type : List ℕ → Option (List ℕ)
@@ -108,6 +109,7 @@ sends_frames ids t kind said number Nothing = []
 sends_frames ids t kind said number (One a) = admin_reply_frame ids t kind said number a
 sends_frames ids t kind said number (Two a b) =
     admin_reply_frame ids t kind said number a ++ admin_reply_frame ids t kind said (number + 1) b
+sends_frames ids t kind said number (Unspent a) = admin_reply_frame ids t kind said number a
 
 -- the frame of a resent message
 unfoldable pub again_frame : CompIds → ℕ → Resent → List ℕ
@@ -137,11 +139,12 @@ past_after begins past entries = if begins then past ++ entries ∷ [] else past
 abbrev pub entries_in : Bool → List Entry → List Entry
 entries_in begins entries = if begins then [] else entries
 
--- the marks of these messages
+-- the marks of these messages: one that spends no number has none, so the next message has its number too
 abbrev pub marks : AdminReplies → List Entry
 marks Nothing = []
 marks (One a) = entry.Session ∷ []
 marks (Two a b) = entry.Session ∷ entry.Session ∷ []
+marks (Unspent a) = []
 
 -- the application messages among these entries, in order
 abbrev pub apps_of : Entry → List App

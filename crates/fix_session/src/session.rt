@@ -5,7 +5,7 @@ ghost use Rattle.fix_session.specs.Machine as machine;
 ghost use Rattle.fix_dictionary.specs.Values.{IsSequenceNumber};
 ghost use Rattle.fix_session.specs.Reader.{Reader, IsSettled};
 ghost use Rattle.fix_session.specs.Sent.{framed, app_message};
-ghost use Rattle.fix_session.specs.State.{fresh, resumed, broken, era_of};
+ghost use Rattle.fix_session.specs.State.{begun, fresh, resumed, broken, era_of};
 ghost use Rattle.fix_session.specs.Table.{are_numbers_spent};
 
 use crate::comp_ids::CompIds;
@@ -93,18 +93,20 @@ impl Session {
         ensures ok { IsOk result }
         ensures state { IfOk result (λ session. session.state ≡ fresh (record { own = own.now; peer = peer.now })) }
     {
-        Ok(Session {
-            alloc,
-            ids: CompIds {
-                own: *own,
-                peer: *peer,
-            },
-            line: SessionState::new(),
-            cutter: no_bytes(alloc),
-            store: Store::new(alloc),
-            ready: VecDeque::new(alloc),
-            wire: Wire::new(alloc),
-        })
+        Ok(session_begun(alloc, false, own, peer))
+    }
+
+    /// The same of a session whose messages an earlier process may have numbered: until it has accepted a number, it
+    /// refuses a Logon above 1, and requests nothing.
+    pub fn restarted(
+        alloc: Global,
+        own: &Identifier,
+        peer: &Identifier,
+    ) -> Result<Session, AllocError>
+        ensures ok { IsOk result }
+        ensures state { IfOk result (λ session. session.state ≡ begun true (record { own = own.now; peer = peer.now })) }
+    {
+        Ok(session_begun(alloc, true, own, peer))
     }
 
     /// Raises the line, with no Logon yet; unread bytes and queued frames are dropped.
@@ -383,6 +385,24 @@ impl Session {
             self.line.last_sent_at = t;
         }
         Ok(())
+    }
+}
+
+// A session at its start.
+fn session_begun(alloc: Global, restarted: bool, own: &Identifier, peer: &Identifier) -> Session
+    ensures { result.state ≡ begun restarted (record { own = own.now; peer = peer.now }) }
+{
+    Session {
+        alloc,
+        ids: CompIds {
+            own: *own,
+            peer: *peer,
+        },
+        line: SessionState::new(restarted),
+        cutter: no_bytes(alloc),
+        store: Store::new(alloc),
+        ready: VecDeque::new(alloc),
+        wire: Wire::new(alloc),
     }
 }
 

@@ -28,6 +28,8 @@ pub struct SessionState {
     pub last_sent_at: Moment,
     /// When the TestRequest that is not answered yet was sent.
     pub test_request_sent_at: Option<Moment>,
+    /// An earlier process may have numbered messages of this session. No call changes it.
+    pub restarted: bool,
 }
 
 /// What a tick has to do.
@@ -61,9 +63,9 @@ fn stays_up(answer: Step) -> bool
 }
 
 impl SessionState {
-    // The state of a session that was never connected.
-    pub(crate) fn new() -> SessionState
-        ensures { result ≡ state.new_line }
+    // The state of a session that was never connected, at least not to this process.
+    pub(crate) fn new(restarted: bool) -> SessionState
+        ensures { result ≡ state.new_line restarted }
     {
         let start = Moment::EPOCH;
         SessionState {
@@ -76,6 +78,7 @@ impl SessionState {
             last_received_at: start,
             last_sent_at: start,
             test_request_sent_at: None,
+            restarted,
         }
     }
 
@@ -93,6 +96,7 @@ impl SessionState {
             last_received_at: t,
             last_sent_at: t,
             test_request_sent_at: None,
+            restarted: self.restarted,
         }
     }
 
@@ -164,6 +168,7 @@ impl SessionState {
                 t
             },
             test_request_sent_at: None,
+            restarted: self.restarted,
         }
     }
 }

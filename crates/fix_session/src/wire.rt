@@ -193,6 +193,7 @@ fn append_admin_replies(
             append_admin_reply(alloc, on, number, first, wire)?;
             append_admin_reply(alloc, on, number + 1, second, wire)
         }
+        AdminReplies::Unspent { message } => append_admin_reply(alloc, on, number, message, wire),
     }
 }
 
