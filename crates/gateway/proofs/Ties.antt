@@ -6,7 +6,7 @@ use Rattle.fix_session.specs.declared.comp_ids.CompIds.{CompIds}
 use Rattle.fix_session.specs.Reader.{Reader}
 use Rattle.fix_session.specs.Heard.{Heard}
 use Rattle.fix_session.specs.Chain.{accepted}
-use Rattle.fix_session.specs.State.{State, fresh}
+use Rattle.fix_session.specs.State.{State, begun}
 use Rattle.fix_session.specs.Table.{are_numbers_spent}
 use Rattle.fix_session.specs.Sent.{numbered}
 use Rattle.fix_session.specs.Runs as session
@@ -19,12 +19,12 @@ use Rattle.gateway.specs.Calls.{calls, calls_of, heard_of, without_cuts}
 
 -- the session's laws with a reader
 abbrev pub TakenThenReady : Reader → Type 0
-TakenThenReady r = (ids : CompIds) (calls : List session.Event) →
-    (session.run r calls (session.begin ids)).taken ++ (session.run r calls (session.begin ids)).session.ready ≡ accepted (session.run r calls (session.begin ids)).heard
+TakenThenReady r = (restarted : Bool) (ids : CompIds) (calls : List session.Event) →
+    (session.run r calls (session.begin restarted ids)).taken ++ (session.run r calls (session.begin restarted ids)).session.ready ≡ accepted (session.run r calls (session.begin restarted ids)).heard
 
 abbrev pub RepliesInOrder : Reader → Type 0
-RepliesInOrder r = (ids : CompIds) (calls : List session.Event) →
-    numbered (session.run r calls (session.begin ids)).session ≡ session.replies r (session.begin ids) calls
+RepliesInOrder r = (restarted : Bool) (ids : CompIds) (calls : List session.Event) →
+    numbered (session.run r calls (session.begin restarted ids)).session ≡ session.replies r (session.begin restarted ids) calls
 
 run-append : (r : Reader) (xs ys : List session.Event) (h : session.History) → session.run r (xs ++ ys) h ≡ session.run r ys (session.run r xs h)
 run-append r [] ys h = refl
@@ -79,11 +79,12 @@ run_ties r s h (e ∷ events) tied =
 
 -- from the session's law, the thread's: the messages given, then those ready, are what the heard frames spell
 pub given_then_ready : (r : Reader) → TakenThenReady r →
-    (events : List Event) (s : ThreadState) → s.session ≡ fresh s.session.ids → s.given ≡ [] → (runs r events s).given ++ (runs r events s).session.ready ≡ accepted (heard_of r s.session.ids events)
+    (events : List Event) (s : ThreadState) → s.session ≡ begun s.session.line.restarted s.session.ids → s.given ≡ [] → (runs r events s).given ++ (runs r events s).session.ready ≡ accepted (heard_of r s.session events)
 given_then_ready r law events s new none =
     let ids : CompIds = s.session.ids in
-    let tied = run_ties r s (session.begin ids) events (record { session_is = sym new; given_is = sym none }) in
-    rw (← tied.given_is, ← tied.session_is) (law ids (calls_of events))
+    let restarted : Bool = s.session.line.restarted in
+    let tied = run_ties r s (session.begin restarted ids) events (record { session_is = sym new; given_is = sym none }) in
+    rw (← tied.given_is, ← tied.session_is) (law restarted ids (calls_of events))
 
 -- Replies
 
@@ -143,12 +144,13 @@ run_replies r s h (e ∷ events) tied =
 -- from the session's law, the thread's: the replies numbered for the counterparty are those collected, in order, the
 -- sentinel aside
 pub numbered_is_collected : (r : Reader) → RepliesInOrder r →
-    (events : List Event) (s : ThreadState) → s.session ≡ fresh s.session.ids → s.given ≡ [] → s.collected ≡ [] →
+    (events : List Event) (s : ThreadState) → s.session ≡ begun s.session.line.restarted s.session.ids → s.given ≡ [] → s.collected ≡ [] →
     numbered (runs r events s).session ≡ without_cuts (runs r events s).collected
 numbered_is_collected r law events s new none nothing =
     let ids : CompIds = s.session.ids in
-    let first : Tied s (session.begin ids) = record { session_is = sym new; given_is = sym none } in
-    let tied = run_ties r s (session.begin ids) events first in
-    let sent : without_cuts (runs r events s).collected ≡ session.replies r (session.begin ids) (calls_of events) =
-    run_replies r s (session.begin ids) events first ∙ ap (λ (xs : List Outgoing). without_cuts xs ++ session.replies r (session.begin ids) (calls_of events)) nothing in
-    ap (λ (k : State). numbered k) (sym tied.session_is) ∙ law ids (calls_of events) ∙ sym sent
+    let restarted : Bool = s.session.line.restarted in
+    let first : Tied s (session.begin restarted ids) = record { session_is = sym new; given_is = sym none } in
+    let tied = run_ties r s (session.begin restarted ids) events first in
+    let sent : without_cuts (runs r events s).collected ≡ session.replies r (session.begin restarted ids) (calls_of events) =
+    run_replies r s (session.begin restarted ids) events first ∙ ap (λ (xs : List Outgoing). without_cuts xs ++ session.replies r (session.begin restarted ids) (calls_of events)) nothing in
+    ap (λ (k : State). numbered k) (sym tied.session_is) ∙ law restarted ids (calls_of events) ∙ sym sent

@@ -18,7 +18,7 @@ pub spells : (r : Reader) → TakenThenReady r → RepliesInOrder r →
 spells r in_order sent turn_records start last moved new =
     record {
       accepted =
-          subst (λ (s : ThreadState). s.given ++ s.session.ready ≡ accepted (heard_of r start.session.ids (events_of turn_records))) (sym moved)
+          subst (λ (s : ThreadState). s.given ++ s.session.ready ≡ accepted (heard_of r start.session (events_of turn_records))) (sym moved)
           (given_then_ready r in_order (events_of turn_records) (standing start) new.session new.given);
       numbered =
           subst (λ (s : ThreadState). numbered s.session ≡ without_cuts s.collected) (sym moved)

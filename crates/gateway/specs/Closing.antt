@@ -20,4 +20,4 @@ Reached owed numbered left waiting true = (rest : List App) × ((numbered ++ wit
 -- heard frames spell
 abbrev pub IsTakenWhole : Thread → List TurnRecord → State → List Item → Option Item → Type 0
 IsTakenWhole start turn_records session taken left =
-    (r : Reader) → taken ++ (option_to_list left ++ session.ready) ≡ accepted (heard_of r start.session.ids (events_of turn_records))
+    (r : Reader) → taken ++ (option_to_list left ++ session.ready) ≡ accepted (heard_of r start.session (events_of turn_records))

@@ -112,6 +112,10 @@ of_progress before after =
     then Some (notice.Progress after.line.next_incoming (is_waiting after.line))
     else None
 
+-- the next numbers are reported in each turn
+abbrev pub of_numbers : SessionReport → Option Notice
+of_numbers after = Some (notice.Numbers after.line.next_incoming after.outgoing)
+
 -- a drop is reported as the state machine answered it
 abbrev pub of_drop : StepsEnd → Option Notice
 of_drop (ends.Dropped why on fault) = Some (notice.Dropped why on fault)
@@ -136,7 +140,7 @@ of_connection turn = of_accepted turn.accepted ∷ of_collected turn.collected �
 abbrev pub of_work : Work → List (Option Notice)
 of_work work =
     of_wrote work.wrote ∷ of_reading work.reading ∷ of_era work.stepped.before work.stepped.after ∷ of_logon work.stepped ∷ of_gap work.stepped.before work.stepped.after
-    ∷ of_progress work.stepped.before work.stepped.after ∷ of_drop work.stepped.end ∷ of_wrote work.stepped.wrote ∷ of_handed work.handed ∷ of_tick work.beat.ticked ∷ of_wrote work.beat.wrote ∷ []
+    ∷ of_progress work.stepped.before work.stepped.after ∷ of_numbers work.stepped.after ∷ of_drop work.stepped.end ∷ of_wrote work.stepped.wrote ∷ of_handed work.handed ∷ of_tick work.beat.ticked ∷ of_wrote work.beat.wrote ∷ []
 
 -- what the end of the turns reports
 abbrev pub of_end : SessionReport → Notice

@@ -3,23 +3,23 @@ use Rattle.std.specs.Prelude.{ℕ, ◌≡◌, List, [], ◌++◌, Bool, Option}
 use Rattle.fix_session.specs.Reader.{Reader}
 use Rattle.fix_session.specs.Chain.{accepted}
 use Rattle.fix_session.specs.Sent.{numbered}
-use Rattle.fix_session.specs.State.{fresh}
+use Rattle.fix_session.specs.State.{begun}
 use Rattle.gateway.specs.Thread.{Thread, TurnRecord, Loops, standing, events_of, gates, moments}
 use Rattle.gateway.specs.Calls.{heard_of, without_cuts}
 use Rattle.gateway.specs.Said.{faults_in}
 use Rattle.gateway.specs.Faults.{TookAll}
 use Rattle.gateway.specs.Offered.{AreFirstParts, connections}
 
--- a new session at seats that were not used
+-- a new session at seats that were not used, after an earlier process or not
 pub record IsNew (start : Thread) : Type 0 where
-  pub session : start.session ≡ fresh start.session.ids
+  pub session : start.session ≡ begun start.session.line.restarted start.session.ids
   pub given : start.hand.given ≡ []
   pub collected : start.take.taken ≡ []
 
 -- the state after these turns of a new session: the messages given, then those ready, are what its heard frames spell,
 -- and the replies numbered for its counterparty are those collected, the sentinel aside
 pub record Spells (r : Reader) (start : Thread) (turn_records : List TurnRecord) (end : Thread) : Type 0 where
-  pub accepted : end.hand.given ++ end.session.ready ≡ accepted (heard_of r start.session.ids (events_of turn_records))
+  pub accepted : end.hand.given ++ end.session.ready ≡ accepted (heard_of r start.session (events_of turn_records))
   pub numbered : numbered end.session ≡ without_cuts end.take.taken
 
 -- `turns` turns lead from start to end, but for the piece that was kept last; the gate and the clock answered once in

@@ -39,6 +39,11 @@ pub enum Notice {
         expected: u32,
         outstanding: bool,
     },
+    /// The next numbers of both sides, after the steps of the turn.
+    Numbers {
+        incoming: u32,
+        outgoing: u32,
+    },
     /// The counterparty closed the connection.
     LineEnded,
     /// The line failed.

@@ -181,6 +181,16 @@ fn has_progressed(was_outstanding: bool, outstanding: bool, same: bool) -> bool
     }
 }
 
+// The next numbers.
+fn of_numbers(after: &SessionReport) -> Option<Notice>
+    ensures { result ≡ notices.of_numbers after.now }
+{
+    Some(Notice::Numbers {
+        incoming: after.line.next_incoming.get(),
+        outgoing: after.outgoing,
+    })
+}
+
 fn of_drop(end: StepsEnd) -> Option<Notice>
     ensures { result ≡ notices.of_drop end }
 {
@@ -229,7 +239,7 @@ fn of_connection(turn: &Turn) -> [Option<Notice>; 2]
     [of_accepted(turn.accepted), of_collected(&turn.collected)]
 }
 
-fn of_work(work: &Work) -> [Option<Notice>; 11]
+fn of_work(work: &Work) -> [Option<Notice>; 12]
     ensures { result ≡ notices.of_work work.now }
 {
     let stepped = &work.stepped;
@@ -242,6 +252,7 @@ fn of_work(work: &Work) -> [Option<Notice>; 11]
         of_logon(stepped),
         of_gap(before, after),
         of_progress(before, after),
+        of_numbers(after),
         of_drop(stepped.end),
         of_wrote(stepped.wrote),
         of_handed(work.handed),

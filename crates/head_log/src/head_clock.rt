@@ -60,6 +60,10 @@ impl<C: Clock, W: Write + Drop> Clock for HeadClock<C, W> {
         self.clock.progressed(participant);
     }
 
+    fn waits(&mut self, participant: usize, count: usize) {
+        self.clock.waits(participant, count);
+    }
+
     fn refused(&mut self) {
         self.clock.refused();
     }

@@ -16,6 +16,3 @@ pub use head_clock::HeadClock;
 pub use head_keeper::HeadKeeper;
 pub use newest::Newest;
 pub use report::{HeadReport, Trouble};
-
-#[cfg(test)]
-mod tests;

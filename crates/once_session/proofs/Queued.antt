@@ -158,9 +158,9 @@ history-more : (r : Reader) (m : Market) (before : List WorldEvent) (a : WorldEv
 history-more r m before a =
     let ids = ids_of m.participants (name_of m.participants 0) in
     let w : WorldState = after_all r (fresh_world m) before in
-    sym (run-append r (calls_from r 0 (fresh_world m) before) (calls_by 0 w a) (session.begin ids))
-    ∙ ap (λ (l : List session.Event). session.run r (calls_from r 0 (fresh_world m) before ++ l) (session.begin ids)) (sym (append-nil (calls_by 0 w a)))
-    ∙ ap (λ (l : List session.Event). session.run r l (session.begin ids)) (sym (calls-append r (fresh_world m) before (a ∷ [])))
+    sym (run-append r (calls_from r 0 (fresh_world m) before) (calls_by 0 w a) (session.begin false ids))
+    ∙ ap (λ (l : List session.Event). session.run r (calls_from r 0 (fresh_world m) before ++ l) (session.begin false ids)) (sym (append-nil (calls_by 0 w a)))
+    ∙ ap (λ (l : List session.Event). session.run r l (session.begin false ids)) (sym (calls-append r (fresh_world m) before (a ∷ [])))
 
 acts-leave : KeepsItsWord → (r : Reader) (m : Market) (t : ℕ) (before acts : List WorldEvent) → was_cut 0 before ≡ false → Leads r t (after_all r (fresh_world m) before) acts
     → left r (history_of r m 0 before) (calls_from r 0 (after_all r (fresh_world m) before) acts) ≡ given_from r 0 (after_all r (fresh_world m) before) acts
@@ -183,7 +183,7 @@ run-leaves : KeepsItsWord → (r : Reader) (m : Market) (t : ℕ) (acts : List W
 run-leaves law r m t acts leads =
     let k : ℕ = length m.participants.names - 1 in
     let up = opening (length m.participants.names) t in
-    let h : session.History = session.begin (ids_of m.participants (name_of m.participants 0)) in
+    let h : session.History = session.begin false (ids_of m.participants (name_of m.participants 0)) in
     let first = calls_from r 0 (fresh_world m) up in
     let rest = calls_from r 0 (opened r m t) acts in
     ap (left r h) (calls-append r (fresh_world m) up acts)

@@ -49,8 +49,12 @@ fate_after arrival.Bytes waited = fate.Served
 fate_after arrival.Nothing waited = if nat_le 10000 waited then fate.Closed else fate.Waits
 fate_after arrival.Ended waited = fate.Closed
 
-abbrev pub fate_of : ℕ → Arrival → ℕ → Fate
-fate_of silent came waited = if is_silent silent then fate_after came waited else fate.Closed
+-- it waits until a read of that connection gave nothing, since the peer that ended it may be the newcomer
+abbrev pub fate_of : Bool → ℕ → Arrival → ℕ → Fate
+fate_of quiet silent came waited =
+    if not quiet then fate.Waits
+    else if is_silent silent then fate_after came waited
+    else fate.Closed
 
 -- a venue that closes is at rest where nothing moved for half a second, and after two minutes
 abbrev pub is_at_rest : ℕ → ℕ → Bool

@@ -7,6 +7,7 @@ use crate::closing_timer::{ClosingTimer, StepMeter};
 use crate::events::{EventKind, EventSender};
 use crate::session_wakers::SessionWakers;
 use crate::stop::{Stop, StopSource};
+use crate::waiting_replies::WaitingReplies;
 use crate::waker::IdleWait;
 use ghost_history::GhostHistory;
 use sef_moment::Moment;
@@ -82,6 +83,7 @@ pub struct VenueShare<S> {
     pub source: S,
     pub stop: Arc<Stop>,
     pub events: EventSender,
+    pub waiting: WaitingReplies,
 }
 
 // Written-out drop (docs/ARCHITECTURE.md).
@@ -91,6 +93,7 @@ impl<S: Drop> Drop for VenueShare<S> {
             source: _source,
             stop: _stop,
             events: _events,
+            waiting: _waiting,
         } = self;
     }
 }
@@ -237,6 +240,10 @@ impl<T: time::Clock, S: StopSource> Clock for WorkerClock<T, S> {
 
     fn progressed(&mut self, participant: usize) {
         self.sessions.progressed(participant, self.sleeper.awake());
+    }
+
+    fn waits(&mut self, participant: usize, count: usize) {
+        self.share.waiting.set(participant, count);
     }
 
     fn refused(&mut self) {

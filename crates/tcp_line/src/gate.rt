@@ -4,7 +4,7 @@ ghost use Rattle.std.specs.Prelude.{◌≡◌, []};
 use crate::dirty_flag::DirtyFlag;
 use crate::events::{EventKind, EventSender};
 use crate::line_watch::{LineEnd, LineWatch};
-use crate::notices::{Known, event_of};
+use crate::notices::{Known, event_of, is_logged_on_after};
 use crate::passed::Passed;
 use crate::stop::Stop;
 use crate::waker::{IdleWait, Peers, ThreadWaker};
@@ -235,6 +235,26 @@ impl TcpGate {
         }
     }
 
+    // Records whether the session is logged on after a notice.
+    fn note_logged_on(&mut self, notice: &Notice)
+        ensures { self.new.past ≡ self.old.past }
+    {
+        let was = self.events.is_logged_on();
+        let is_logged_on = is_logged_on_after(was, notice);
+        if is_logged_on == was {
+            return;
+        }
+        self.events.set_logged_on(is_logged_on);
+    }
+
+    // Records the next numbers, where one moved.
+    fn note_numbers(&mut self, incoming: u32, outgoing: u32)
+        ensures { self.new.past ≡ self.old.past }
+    {
+        self.events
+            .set_numbers(u64::from(incoming), u64::from(outgoing));
+    }
+
     // Records what a notice means for the line and the counts. False where nothing else is to be reported of it.
     fn record(&mut self, notice: &Notice) -> bool
         ensures { self.new.past ≡ self.old.past }
@@ -258,6 +278,10 @@ impl TcpGate {
                     .note_progress(u64::from(*expected), *outstanding);
                 false
             }
+            Notice::Numbers { incoming, outgoing } => {
+                self.note_numbers(*incoming, *outgoing);
+                false
+            }
             Notice::Connected => {
                 self.events.add_connection();
                 true
@@ -270,7 +294,12 @@ impl TcpGate {
                 self.was_cut = true;
                 true
             }
-            Notice::Ended { .. } => {
+            Notice::Ended {
+                incoming,
+                outgoing,
+                ..
+            } => {
+                self.note_numbers(*incoming, *outgoing);
                 self.events.set_turns(self.turns);
                 self.sleeper.end();
                 true
@@ -315,6 +344,7 @@ impl Gate for TcpGate {
         if !self.record(&notice) {
             return;
         }
+        self.note_logged_on(&notice);
         let at_ms = moment.ms();
         let known = self.known(&notice);
         if let Some(kind) = event_of(&notice, &known) {

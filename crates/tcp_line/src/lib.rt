@@ -19,6 +19,7 @@ mod passed;
 mod served_line;
 mod session_wakers;
 mod stop;
+mod waiting_replies;
 mod waker;
 
 pub use clocks::{SystemClock, VenueShare, WorkerClock};
@@ -35,4 +36,5 @@ pub use opening::{SessionIo, VenueIo, open_lines};
 pub use served_line::{ServedLine, Shared};
 pub use session_wakers::SessionWakers;
 pub use stop::{NoStop, Stop, StopSource};
+pub use waiting_replies::WaitingReplies;
 pub use waker::{AwakeThreads, IdleWait, Peers, ThreadWaker};

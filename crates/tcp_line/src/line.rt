@@ -148,25 +148,21 @@ impl<T: Clock + Drop> TcpLine<T> {
         passed_over
     }
 
-    /// Another connection that waits at the listener, while this one is up.
-    pub(crate) fn take_second(&self) -> Option<TcpStream> {
-        match &self.listener {
-            None => None,
-            Some(listener) => match listener.accept() {
-                Ok((stream, _)) => Some(stream),
-                Err(_) => None,
-            },
-        }
+    /// Another connection that waits at the listener, while this one is up. One for which an allocation fails is
+    /// dropped.
+    pub(crate) fn take_second(&self) -> Option<Connection<TcpStream, TcpStream>> {
+        let Ok(stream) = self.next_stream() else {
+            return None;
+        };
+        self.prepare(stream).ok()
     }
 
-    /// Has this connection be the newcomer, where an allocation for it does not fail.
-    pub(crate) fn set_next(&mut self, stream: TcpStream)
+    /// Has this connection be the newcomer.
+    pub(crate) fn set_next(&mut self, connection: Connection<TcpStream, TcpStream>)
         ensures same { self.new.log ≡ self.old.log }
+        ensures newcomer { self.new.next ≡ Some connection }
     {
-        self.next = match self.prepare(stream) {
-            Ok(connection) => Some(connection),
-            Err(_) => None,
-        };
+        self.next = Some(connection);
     }
 
     /// Drops the newcomer. Whether there was one.
@@ -180,6 +176,7 @@ impl<T: Clock + Drop> TcpLine<T> {
     pub(crate) fn look_at_next(&mut self) -> Option<Arrival>
         ensures same { self.new.log ≡ self.old.log }
         ensures heard { result ≡ Some Arrival.Bytes → IsHeard self.new.next }
+        ensures none { self.old.next ≡ None → result ≡ None }
     {
         match &mut self.next {
             None => None,
@@ -282,6 +279,7 @@ impl<T: Clock + Drop> TcpLine<T> {
         ensures within { IsWithin result }
         ensures said { self.new.log ≡ self.old.log ++ Gave (given result buffer.new) ∷ [] }
         ensures gone { result ≡ Read.Fault → self.new.connection ≡ None }
+        ensures newcomer { self.new.next ≡ self.old.next }
     {
         let answer = self.read_connection(buffer);
         let given = given_of(answer, buffer);
@@ -294,6 +292,7 @@ impl<T: Clock + Drop> TcpLine<T> {
         ensures within { IsWithin result }
         ensures same { self.new.log ≡ self.old.log }
         ensures gone { result ≡ Read.Fault → self.new.connection ≡ None }
+        ensures newcomer { self.new.next ≡ self.old.next }
     {
         let answer = match &mut self.connection {
             None => Read::Fault,

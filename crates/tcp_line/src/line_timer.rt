@@ -1,5 +1,5 @@
 //! When a line ends a connection itself. Times are milliseconds of a clock that never goes back.
-ghost use Rattle.std.specs.Prelude.{◌≡◌, ◌≢◌, is_some, true, Some};
+ghost use Rattle.std.specs.Prelude.{◌≡◌, ◌≢◌, is_some, true, false, Some};
 ghost use Rattle.tcp_line.specs.Endings as endings;
 
 use crate::connection::Arrival;
@@ -122,12 +122,16 @@ fn fate_after(arrival: Arrival, waited_ms: u64) -> Fate
     }
 }
 
-// The same, where nothing came on the connection that is up for this time.
-fn fate_of(silent_ms: u64, arrival: Arrival, waited_ms: u64) -> Fate
-    ensures fate { result ≡ endings.fate_of silent_ms arrival waited_ms }
+// The same, where nothing came on the connection that is up for this time. The newcomer waits until a read of that one
+// gave nothing: its peer may have ended it, and be the newcomer.
+fn fate_of(was_quiet: bool, silent_ms: u64, arrival: Arrival, waited_ms: u64) -> Fate
+    ensures fate { result ≡ endings.fate_of was_quiet silent_ms arrival waited_ms }
     ensures heard { result ≡ Fate.Served → arrival ≡ Arrival.Bytes }
+    ensures waits { was_quiet ≡ false → result ≡ Fate.Waits }
 {
-    if is_silent(silent_ms) {
+    if !was_quiet {
+        Fate::Waits
+    } else if is_silent(silent_ms) {
         fate_after(arrival, waited_ms)
     } else {
         Fate::Closed
@@ -137,14 +141,16 @@ fn fate_of(silent_ms: u64, arrival: Arrival, waited_ms: u64) -> Fate
 /// The times of a connection.
 #[derive(Clone, Copy)]
 pub(crate) struct LineTimer {
-    now: u64,
+    /// Before the last read.
+    at: u64,
     connected: u64,
     /// The first look at the clock after bytes came; `has_heard`: before that look.
     heard: u64,
     has_heard: bool,
     looked: u64,
-    /// When the newcomer was accepted, where there is one.
+    /// When the newcomer was accepted, where there is one; `was_quiet`: a read since then gave nothing.
     newcomer: u64,
+    was_quiet: bool,
     /// The count of progress, and when it last rose.
     progress: u64,
     progressed: u64,
@@ -153,12 +159,13 @@ pub(crate) struct LineTimer {
 impl LineTimer {
     pub(crate) fn new() -> LineTimer {
         LineTimer {
-            now: 0,
+            at: 0,
             connected: 0,
             heard: 0,
             has_heard: false,
             looked: 0,
             newcomer: 0,
+            was_quiet: false,
             progress: 0,
             progressed: 0,
         }
@@ -175,7 +182,7 @@ impl LineTimer {
 
     /// The time before a read.
     pub(crate) fn set_now(&mut self, now: u64) {
-        self.now = now;
+        self.at = now;
         if self.has_heard {
             self.heard = now;
             self.has_heard = false;
@@ -187,30 +194,39 @@ impl LineTimer {
         self.has_heard = true;
     }
 
+    /// A read gave nothing.
+    pub(crate) fn rest(&mut self) {
+        self.was_quiet = true;
+    }
+
     /// A newcomer was accepted.
-    pub(crate) fn welcome(&mut self) {
-        self.newcomer = self.now;
+    pub(crate) fn welcome(&mut self)
+        ensures unread { self.new.was_quiet ≡ false }
+    {
+        self.newcomer = self.at;
+        self.was_quiet = false;
     }
 
     /// What becomes of the newcomer, on which this came.
     pub(crate) fn fate(&self, arrival: Arrival) -> Fate
         ensures heard { result ≡ Fate.Served → arrival ≡ Arrival.Bytes }
+        ensures waits { self.now.was_quiet ≡ false → result ≡ Fate.Waits }
     {
         let silent = if self.has_heard {
             0
         } else {
-            self.now.saturating_sub(self.heard)
+            self.at.saturating_sub(self.heard)
         };
-        let waited = self.now.saturating_sub(self.newcomer);
-        fate_of(silent, arrival, waited)
+        let waited = self.at.saturating_sub(self.newcomer);
+        fate_of(self.was_quiet, silent, arrival, waited)
     }
 
     /// Whether it is time to look for another connection.
     pub(crate) fn is_look_due(&mut self) -> bool {
-        if self.now.saturating_sub(self.looked) < LOOK_MS {
+        if self.at.saturating_sub(self.looked) < LOOK_MS {
             return false;
         }
-        self.looked = self.now;
+        self.looked = self.at;
         true
     }
 
@@ -222,14 +238,14 @@ impl LineTimer {
         let progress = watch.progress();
         if progress != self.progress {
             self.progress = progress;
-            self.progressed = self.now;
+            self.progressed = self.at;
         }
         let standing = Standing {
             is_logged_on: watch.is_logged_on(),
-            connected_ms: self.now.saturating_sub(self.connected),
+            connected_ms: self.at.saturating_sub(self.connected),
             heartbeat: watch.heartbeat(),
             is_outstanding: watch.is_outstanding(),
-            stuck_ms: self.now.saturating_sub(self.progressed),
+            stuck_ms: self.at.saturating_sub(self.progressed),
         };
         end_after(answer, &standing)
     }

@@ -10,6 +10,7 @@ use crate::line_watch::LineWatch;
 use crate::served_line::{ServedLine, Shared};
 use crate::session_wakers::SessionWakers;
 use crate::stop::{Stop, StopSource};
+use crate::waiting_replies::WaitingReplies;
 use crate::waker::{AwakeThreads, IdleWait, Peers, ThreadWaker};
 use sef_moment::Moment;
 use std::alloc::{AllocError, Global};
@@ -64,6 +65,7 @@ pub fn open_lines<
     let mut sessions = Vec::with_capacity(alloc, count as usize)?;
     let mut receivers = Vec::with_capacity(alloc, count as usize + 1)?;
     let mut wakers = SessionWakers::new(alloc);
+    let mut waiting = WaitingReplies::new(alloc);
     let mut sleepers = make_sleepers(rt, alloc, &common, count)?;
     let all = Arc::new(alloc, wakers_of(alloc, &sleepers)?)?;
     for k in 0..count {
@@ -72,6 +74,7 @@ pub fn open_lines<
         };
         let (sender, receiver) = event_ring(alloc)?;
         receivers.push(receiver)?;
+        waiting.add(sender.counts()?)?;
         wakers.add(sleeper.thread_waker()?)?;
         let peers = Peers::new(Arc::try_clone(&all)?, sleepers.len());
         let outside = open_line(
@@ -85,11 +88,22 @@ pub fn open_lines<
         )?;
         sessions.push(outside)?;
     }
-    let (sender, receiver) = event_ring(alloc)?;
+    let (events, receiver) = event_ring(alloc)?;
     receivers.push(receiver)?;
+    let Common {
+        awake: _,
+        stop,
+        worker,
+    } = common;
+    let share = VenueShare {
+        source,
+        stop,
+        events,
+        waiting,
+    };
     Ok(VenueIo {
         sessions,
-        worker: worker_clock(clock, common, wakers, source, sender),
+        worker: worker_clock(clock, worker, wakers, share),
         events: receivers,
     })
 }
@@ -97,23 +111,12 @@ pub fn open_lines<
 // The clock of the worker.
 fn worker_clock<T: Clock + Copy + Drop, S: StopSource + Drop>(
     clock: T,
-    common: Common,
+    sleeper: IdleWait,
     wakers: SessionWakers,
-    source: S,
-    events: EventSender,
+    share: VenueShare<S>,
 ) -> WorkerClock<T, S> {
-    let Common {
-        awake: _,
-        stop,
-        worker,
-    } = common;
     let own = SystemClock::from(clock, Moment::EPOCH);
-    let share = VenueShare {
-        source,
-        stop,
-        events,
-    };
-    WorkerClock::new(own, clock, worker, wakers, share)
+    WorkerClock::new(own, clock, sleeper, wakers, share)
 }
 
 // The waits of this many sessions.

@@ -1,5 +1,5 @@
 //! The line of a venue that is served: it stops with its venue, and ends a connection that holds its participant out.
-ghost use Rattle.std.specs.Prelude.{◌≡◌, ◌≢◌, ◌^◌, ◌-◌, [], ◌∷◌, ◌++◌, true, Some, MatchResult, min};
+ghost use Rattle.std.specs.Prelude.{◌≡◌, ◌≢◌, ◌^◌, ◌-◌, [], ◌∷◌, ◌++◌, true, false, is_some, None, Some, MatchResult, min};
 ghost use Rattle.gateway.specs.Said.{IsWithin, Accepted, Gave, Took, Broke_off, given, faults_in};
 ghost use Rattle.tcp_line.specs.Endings.{GaveNothing};
 ghost use Rattle.tcp_line.specs.Link.{IsHeard};
@@ -95,6 +95,7 @@ impl<T: Clock + Drop> ServedLine<T> {
     fn look_at_clock(&mut self)
         ensures same { self.new.log ≡ self.old.log }
         ensures unread { self.new.line.log ≡ self.old.line.log }
+        ensures newcomer { self.new.line.next ≡ self.old.line.next }
     {
         if let Some(now) = self.now() {
             self.timer.set_now(now);
@@ -136,17 +137,29 @@ impl<T: Clock + Drop> ServedLine<T> {
         self.shared.watch.note_second(at_ms);
     }
 
-    // Takes a newcomer from the listener, in the place of one that has sent nothing.
+    // Takes a newcomer from the listener, in the place of an earlier one.
     fn welcome(&mut self)
         ensures same { self.new.log ≡ self.old.log }
         ensures unread { self.new.line.log ≡ self.old.line.log }
+        ensures waits { is_some self.old.line.next ≡ true → is_some self.new.line.next ≡ true }
     {
-        let Some(stream) = self.line.take_second() else {
+        let Some(connection) = self.line.take_second() else {
             return;
         };
         self.close_newcomer();
-        self.line.set_next(stream);
+        self.line.set_next(connection);
         self.timer.welcome();
+    }
+
+    // Looks at times for a newcomer. One that comes is neither served nor closed before a later read gave nothing.
+    fn look_for_newcomer(&mut self)
+        ensures same { self.new.log ≡ self.old.log }
+        ensures unread { self.new.line.log ≡ self.old.line.log }
+        ensures waits { is_some self.old.line.next ≡ true → is_some self.new.line.next ≡ true }
+    {
+        if self.timer.is_look_due() {
+            self.welcome();
+        }
     }
 
     // Whether the newcomer takes the place of this connection. One that neither does nor may wait is closed.
@@ -154,6 +167,7 @@ impl<T: Clock + Drop> ServedLine<T> {
         ensures same { self.new.log ≡ self.old.log }
         ensures unread { self.new.line.log ≡ self.old.line.log }
         ensures heard { result ≡ true → IsHeard self.new.line.next }
+        ensures none { self.old.line.next ≡ None → result ≡ false }
     {
         let Some(arrival) = self.line.look_at_next() else {
             return false;
@@ -168,35 +182,23 @@ impl<T: Clock + Drop> ServedLine<T> {
         }
     }
 
-    // Looks at times for a newcomer. Whether it takes the place of this connection: only once its first bytes came.
-    fn is_replaced(&mut self) -> bool
-        ensures same { self.new.log ≡ self.old.log }
-        ensures unread { self.new.line.log ≡ self.old.line.log }
-        ensures heard { result ≡ true → IsHeard self.new.line.next }
-    {
-        if !self.timer.is_look_due() {
-            return false;
-        }
-        if self.is_taken() {
-            return true;
-        }
-        self.welcome();
-        self.is_taken()
-    }
-
-    // Why the connection, of which a read gave nothing, ends now, where it does.
+    // Why the connection, of which a read gave nothing, ends now, where it does. Only a newcomer that came before that
+    // read takes its place.
     fn own_end(&mut self) -> Option<LineEnd>
         ensures same { self.new.log ≡ self.old.log }
         ensures unread { self.new.line.log ≡ self.old.line.log }
         ensures heard { result ≡ Some LineEnd.Replaced → IsHeard self.new.line.next }
+        ensures earlier { self.old.line.next ≡ None → result ≢ Some LineEnd.Replaced }
     {
         let end = self.timer.end(Read::Quiet, &self.shared.watch);
         if end.is_some() {
             return end;
         }
-        if self.is_replaced() {
+        self.timer.rest();
+        if self.is_taken() {
             return Some(LineEnd::Replaced);
         }
+        self.look_for_newcomer();
         None
     }
 
@@ -219,6 +221,7 @@ impl<T: Clock + Drop> ServedLine<T> {
         ensures within { IsWithin result }
         ensures same { self.new.log ≡ self.old.log }
         ensures read { self.new.line.log ≡ self.old.line.log ++ Gave (given result buffer.new) ∷ [] }
+        ensures newcomer { self.new.line.next ≡ self.old.line.next }
     {
         let answer = self.line.receive(buffer);
         if let Read::Got { count: _ } = answer {
@@ -228,12 +231,13 @@ impl<T: Clock + Drop> ServedLine<T> {
     }
 
     // Reads once where the venue is open. Where that gives nothing, the connection may end, by the time before the
-    // read: so what came while this thread was stalled is read first.
+    // read: so what came while this thread was stalled is read first. Where bytes came a newcomer goes on to wait.
     fn receive_open(&mut self, buffer: &mut [u8; READ_SIZE]) -> Read
         ensures within { IsWithin result }
         ensures same { self.new.log ≡ self.old.log }
         ensures ends { result ≡ Read.Ended → GaveNothing self.old.line.log self.new.line.log }
         ensures gave { result ≢ Read.Ended → self.new.line.log ≡ self.old.line.log ++ Gave (given result buffer.new) ∷ [] }
+        ensures newcomer { result ≢ Read.Ended → result ≢ Read.Quiet → is_some self.old.line.next ≡ true → is_some self.new.line.next ≡ true }
     {
         // (The clock is asked only where the system is.)
         if self.line.is_ahead() {
@@ -243,8 +247,7 @@ impl<T: Clock + Drop> ServedLine<T> {
         match self.receive(buffer) {
             Read::Quiet => self.after_quiet(),
             Read::Got { count } => {
-                // (It takes no place, since bytes came.)
-                let _ = self.is_replaced();
+                self.look_for_newcomer();
                 Read::Got { count }
             }
             answer => answer,

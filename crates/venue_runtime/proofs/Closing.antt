@@ -8,7 +8,7 @@ use Rattle.std.proofs.lemmas.Option.{slice_get_within}
 use Rattle.fix_dictionary.specs.declared.messages.App.{App}
 use Rattle.fix_dictionary.specs.declared.messages.Item.{Item}
 use Rattle.fix_session.specs.Sent.{numbered}
-use Rattle.fix_session.specs.State.{State, Seen, fresh}
+use Rattle.fix_session.specs.State.{State, Seen, begun}
 use Rattle.fix_session.specs.declared.comp_ids.CompIds.{CompIds}
 use Rattle.gateway.specs.Closing.{IsTakenWhole, Reached}
 use Rattle.gateway.specs.Said.{Said}
@@ -46,31 +46,34 @@ same_at : {A : Type 0} (xs : List A) (k : ℕ) (x y : A) → slice_get xs k ≡ 
 same_at xs k x y at at' = let both : Some x ≡ Some y = sym at ∙ at' in cc
 
 -- a new session at unused seats
-new_thread : (ids : CompIds) (start : Thread) → start.session ≡ fresh ids → start.hand.given ≡ [] → start.take.taken ≡ [] → IsNew start
-new_thread ids start is given taken = record {
-  session = is ∙ ap (λ (i : CompIds). fresh i) (sym (ap (λ (s : State). s.ids) is));
+new_thread : (restarted : Bool) (ids : CompIds) (start : Thread) → start.session ≡ begun restarted ids → start.hand.given ≡ [] → start.take.taken ≡ [] → IsNew start
+new_thread restarted ids start is given taken = record {
+  session =
+      is ∙ ap (λ (b : Bool). begun b ids) (sym (ap (λ (s : State). s.line.restarted) is))
+      ∙ ap (λ (i : CompIds). begun start.session.line.restarted i) (sym (ap (λ (s : State). s.ids) is));
   given = given;
   collected = taken;
 }
 
-pub record IsBegun (ids : CompIds) (line : SessionIo) (s : Served) : Type 0 where
+pub record IsBegun (restarted : Bool) (ids : CompIds) (line : SessionIo) (s : Served) : Type 0 where
   pub new : IsNew s.thread
+  pub restarted_is : s.thread.session.line.restarted ≡ restarted
   pub names : s.thread.session.ids ≡ ids
   pub bare : s.thread.kept ≡ None
   pub line_is : outside s.thread.said s.emitted s.passed ≡ line
 
 -- each thread began with a new session at unused seats
-pub begun : (file : ParticipantFile) (count : ℕ) (sessions : List Seen) (lines : List SessionIo) (hands : List (HandEnd Item)) (takes : List (TakeEnd Outgoing)) (end_tokens : List (HandEnd Unit)) (starts : List Served) →
-    AreNewSessions file count sessions → AreUnusedHands hands → AreUnusedTakes takes → AreStarts sessions lines hands takes end_tokens starts →
-    (k : ℕ) (line : SessionIo) → slice_get lines k ≡ Some line → (s : Served) × (slice_get starts k ≡ Some s) × IsBegun (ids_at file k) line s
-begun file count sessions lines hands takes end_tokens starts news idle_hands idle_takes are k line at =
+pub begun_at : (restarted : Bool) (file : ParticipantFile) (count : ℕ) (sessions : List Seen) (lines : List SessionIo) (hands : List (HandEnd Item)) (takes : List (TakeEnd Outgoing)) (end_tokens : List (HandEnd Unit)) (starts : List Served) →
+    AreNewSessions restarted file count sessions → AreUnusedHands hands → AreUnusedTakes takes → AreStarts sessions lines hands takes end_tokens starts →
+    (k : ℕ) (line : SessionIo) → slice_get lines k ≡ Some line → (s : Served) × (slice_get starts k ≡ Some s) × IsBegun restarted (ids_at file k) line s
+begun_at restarted file count sessions lines hands takes end_tokens starts news idle_hands idle_takes are k line at =
     let found = at_map (λ (s : Served). outside s.thread.said s.emitted s.passed) starts k line (ap (λ (zs : List SessionIo). slice_get zs k) are.outsides ∙ at) in
     let s = found.0 in
     let from = at_both (λ (s : Served). s.thread.session) (λ (x : Seen). x.state) starts sessions k s are.states found.1 in
-    let state : s.thread.session ≡ fresh (ids_at file k) = sym from.2 ∙ news.each k from.0 from.1 in
+    let state : s.thread.session ≡ begun restarted (ids_at file k) = sym from.2 ∙ news.each k from.0 from.1 in
     let hand = idle_hands k s.thread.hand (ap (λ (zs : List (HandEnd Item)). slice_get zs k) (sym are.hands_are) ∙ slice_map (λ (s : Served). s.thread.hand) starts k s found.1) in
     let take = idle_takes k s.thread.take (ap (λ (zs : List (TakeEnd Outgoing)). slice_get zs k) (sym are.takes_are) ∙ slice_map (λ (s : Served). s.thread.take) starts k s found.1) in
-    (s, found.1, record { new = new_thread (ids_at file k) s.thread state hand.0 take.0; names = ap (λ (st : State). st.ids) state; bare = are.kept k s found.1; line_is = found.2 })
+    (s, found.1, record { new = new_thread restarted (ids_at file k) s.thread state hand.0 take.0; restarted_is = ap (λ (st : State). st.line.restarted) state; names = ap (λ (st : State). st.ids) state; bare = are.kept k s found.1; line_is = found.2 })
 
 -- what the closing says of the messages taken, and of the replies that reached each session
 abbrev pub ClosesTaken : {E : Type 0} → (E → Thread) → List E → List (TakeEnd Item) → List (Option Item) → Type 0
@@ -85,22 +88,23 @@ ClosesReached {E} thread ended hands queues left = (turns k : ℕ) (start : Thre
     → Reached owed (numbered (thread e).session) (option_to_list x) q.waiting.items q.is_cut
 
 -- one participant's part
-served_at : {E : Type 0} (turns k : ℕ) (ids : CompIds) (line : SessionIo) (items : List Item) (owed : List App) (side : Side) (s f : Served) (e : E) (thread : E → Thread) (t : TakeEnd Item) (h : HandEnd Outgoing)
+served_at : {E : Type 0} (turns k : ℕ) (restarted : Bool) (ids : CompIds) (line : SessionIo) (items : List Item) (owed : List App) (side : Side) (s f : Served) (e : E) (thread : E → Thread) (t : TakeEnd Item) (h : HandEnd Outgoing)
     (ended : List E) (takes : List (TakeEnd Item)) (hands : List (HandEnd Outgoing)) (queues : List Queue) (left : List (Option Item)) (replies_left : List (Option Outgoing)) →
-    IsBegun ids line s → HasLed turns s.thread f.thread s.passed f.passed s.emitted f.emitted → f.thread ≡ thread e →
+    IsBegun restarted ids line s → HasLed turns s.thread f.thread s.passed f.passed s.emitted f.emitted → f.thread ≡ thread e →
     (thread e).session ≡ side.session → (thread e).said ≡ side.said → t.taken ≡ items → IsOwed owed h.given side.queue.waiting.items side.queue.is_cut → (side.queue.is_cut ≡ true → 64000 < length owed) →
     slice_get ended k ≡ Some e → slice_get takes k ≡ Some t → slice_get hands k ≡ Some h → slice_get queues k ≡ Some side.queue → slice_get left k ≡ Some side.left → slice_get replies_left k ≡ Some side.reply_left →
-    ClosesTaken thread ended takes left → ClosesReached thread ended hands queues replies_left → IsServed turns ids line items owed side
-served_at {E} turns k ids line items owed side s f e thread t h ended takes hands queues left replies_left begins led same session said taken out cut at_e at_t at_h at_q at_x at_y closes_taken closes_reached =
+    ClosesTaken thread ended takes left → ClosesReached thread ended hands queues replies_left → IsServed turns restarted ids line items owed side
+served_at {E} turns k restarted ids line items owed side s f e thread t h ended takes hands queues left replies_left begins led same session said taken out cut at_e at_t at_h at_q at_x at_y closes_taken closes_reached =
     let own : HasLed turns s.thread (thread e) s.passed f.passed s.emitted f.emitted = subst (λ (end : Thread). HasLed turns s.thread end s.passed f.passed s.emitted f.emitted) same led in
-    subst (λ (o : SessionIo). IsServed turns ids o items owed side) begins.line_is
+    subst (λ (o : SessionIo). IsServed turns restarted ids o items owed side) begins.line_is
     (record {
       start = s.thread;
       finish = thread e;
       passed = f.passed;
       emitted = f.emitted;
       led = own;
-      fresh = begins.new;
+      begins = begins.new;
+      restarted_is = begins.restarted_is;
       names = begins.names;
       bare = begins.bare;
       said = refl;
@@ -130,10 +134,10 @@ cut_much P m before w w' goes j q h law market empty below at_q at_h is_cut =
     (beyond 64000 (length was.given) (length (owed_to w.ledger.market before goes.more j)) much)
 
 -- the facts of all parts, in order
-pub record Facts (E : Type 0) (turns : ℕ) (m : Market) (kept : List TrailRow) (lines : List SessionIo) (emitted emitted' : List ℕ) (ran : Result Unit EventFault) (c : Closing)
+pub record Facts (E : Type 0) (turns : ℕ) (m : Market) (kept : List TrailRow) (restarted : Bool) (lines : List SessionIo) (emitted emitted' : List ℕ) (ran : Result Unit EventFault) (c : Closing)
     (intake replies ends : TableId) (takes : List (TakeEnd Item)) (hands : List (HandEnd Outgoing)) (end_tokens : List (TakeEnd Unit)) (starts finished : List Served) (ended : List E) (thread : E → Thread)
     (opened : VenueFacts) (refused refused' : ℕ) (venue : VenueState) (worker_takes : List (TakeEnd Item)) (worker_hands : List (HandEnd Outgoing)) : Type 0 where
-  pub made : AreMade m.participants lines intake takes replies hands ends end_tokens starts
+  pub made : AreMade restarted m.participants lines intake takes replies hands ends end_tokens starts
   pub served : AreServed turns starts finished
   pub shown : map thread ended ≡ map (λ (f : Served). f.thread) finished
   pub worked : HasWorkedAnew turns emitted emitted' ran m opened kept refused intake takes replies hands venue c.rows c.is_clean refused' c.queues worker_takes worker_hands
@@ -147,11 +151,11 @@ pub record Facts (E : Type 0) (turns : ℕ) (m : Market) (kept : List TrailRow) 
   pub lawful : EveryRunIsLawful
   pub much : BehindIsOwedMuch
 
-pub closes : {E : Type 0} (turns : ℕ) (m : Market) (kept : List TrailRow) (lines : List SessionIo) (emitted emitted' : List ℕ) (ran : Result Unit EventFault) (c : Closing)
+pub closes : {E : Type 0} (turns : ℕ) (m : Market) (kept : List TrailRow) (restarted : Bool) (lines : List SessionIo) (emitted emitted' : List ℕ) (ran : Result Unit EventFault) (c : Closing)
     (intake replies ends : TableId) (takes : List (TakeEnd Item)) (hands : List (HandEnd Outgoing)) (end_tokens : List (TakeEnd Unit)) (starts finished : List Served) (ended : List E) (thread : E → Thread)
     (opened : VenueFacts) (refused refused' : ℕ) (venue : VenueState) (worker_takes : List (TakeEnd Item)) (worker_hands : List (HandEnd Outgoing)) →
-    Facts E turns m kept lines emitted emitted' ran c intake replies ends takes hands end_tokens starts finished ended thread opened refused refused' venue worker_takes worker_hands → HasClosed turns m kept lines emitted emitted' c
-closes {E} turns m kept lines emitted emitted' ran c intake replies ends takes hands end_tokens starts finished ended thread opened refused refused' venue worker_takes worker_hands facts =
+    Facts E turns m kept restarted lines emitted emitted' ran c intake replies ends takes hands end_tokens starts finished ended thread opened refused refused' venue worker_takes worker_hands → HasClosed turns m kept restarted lines emitted emitted' c
+closes {E} turns m kept restarted lines emitted emitted' ran c intake replies ends takes hands end_tokens starts finished ended thread opened refused refused' venue worker_takes worker_hands facts =
     let made = facts.made in
     let w = facts.worked.worker in
     let anew = facts.worked.begins in
@@ -195,7 +199,7 @@ closes {E} turns m kept lines emitted emitted' ran c intake replies ends takes h
         queues = ap (λ (qs : List Queue). length qs) parts.queues_are ∙ turned.moves.queues ∙ long_queues;
       };
       each = λ k line side at is.
-          let begins = begun m.participants (length lines) made.sessions lines made.session_hands made.session_takes made.session_ends starts made.news made.intake_hands.1 made.reply_takes.1 made.begin k line at in
+          let begins = begun_at restarted m.participants (length lines) made.sessions lines made.session_hands made.session_takes made.session_ends starts made.news made.intake_hands.1 made.reply_takes.1 made.begin k line at in
           let below : k < length lines = slice_get_within lines k line at in
           let f = get_within finished k (omega (arith, below, facts.served.count, long_starts)) in
           let e = at_both (λ (f : Served). f.thread) thread finished ended k f.0 (sym facts.shown) f.1 in
@@ -206,7 +210,7 @@ closes {E} turns m kept lines emitted emitted' ran c intake replies ends takes h
           let long_after : length w.hands ≡ length hands = ap (λ (zs : List (HandEnd Outgoing)). length zs) anew.hands_are in
           let h = get_within after.hands k (omega (arith, below, turned.moves.hands, long_after, long_hands)) in
           let at_q : slice_get after.ledger.queues k ≡ Some side.queue = ap (λ (qs : List Queue). slice_get qs k) (sym parts.queues_are) ∙ is.queue in
-          served_at turns k (ids_at m.participants k) line (items_from k since) (owed_to m before since k) side begins.0 f.0 e.0 thread t.0 h.0 ended worker_takes worker_hands c.queues c.left c.replies_left
+          served_at turns k restarted (ids_at m.participants k) line (items_from k since) (owed_to m before since k) side begins.0 f.0 e.0 thread t.0 h.0 ended worker_takes worker_hands c.queues c.left c.replies_left
           begins.2 has.led (sym e.2) session said (account.taken k t.0 t.1)
           (subst (λ (n : Market). IsOwed (owed_to n before since k) h.0.given side.queue.waiting.items side.queue.is_cut) same (account.owed k side.queue h.0 at_q h.1))
           (cut_much (IsMomentOf w.ledger.last turned.moments) m before w after goes k side.queue h.0 facts.much anew.market anew.empty (omega (arith, below, long_queues)) at_q h.1)
@@ -247,12 +251,12 @@ ends_left turns emitted emitted' ran w venue written is_clean refused queues tak
     )
 
 -- the same is closed where its parts are the same
-pub same_closing : (turns : ℕ) (m : Market) (kept : List TrailRow) (lines : List SessionIo) (emitted emitted' : List ℕ) (sessions : List State) (said : List (List Said)) (left : List (Option Item)) (replies_left : List (Option Outgoing))
+pub same_closing : (turns : ℕ) (m : Market) (kept : List TrailRow) (restarted : Bool) (lines : List SessionIo) (emitted emitted' : List ℕ) (sessions : List State) (said : List (List Said)) (left : List (Option Item)) (replies_left : List (Option Outgoing))
     (queues queues' : List Queue) (stands stands' : VenueFacts) (written written' : List TrailRow) (is_clean is_clean' : Bool) →
     queues' ≡ queues → stands' ≡ stands → written' ≡ written → is_clean' ≡ is_clean →
-    HasClosed turns m kept lines emitted emitted' (closing sessions said left replies_left queues stands written is_clean) → HasClosed turns m kept lines emitted emitted' (closing sessions said left replies_left queues' stands' written' is_clean')
-same_closing turns m kept lines emitted emitted' sessions said left replies_left queues queues' stands stands' written written' is_clean is_clean' same_queues same_stands same_rows same_clean has =
-    subst (λ (qs : List Queue). HasClosed turns m kept lines emitted emitted' (closing sessions said left replies_left qs stands' written' is_clean')) (sym same_queues)
-    (subst (λ (s : VenueFacts). HasClosed turns m kept lines emitted emitted' (closing sessions said left replies_left queues s written' is_clean')) (sym same_stands)
-    (subst (λ (rs : List TrailRow). HasClosed turns m kept lines emitted emitted' (closing sessions said left replies_left queues stands rs is_clean')) (sym same_rows)
-    (subst (λ (b : Bool). HasClosed turns m kept lines emitted emitted' (closing sessions said left replies_left queues stands written b)) (sym same_clean) has)))
+    HasClosed turns m kept restarted lines emitted emitted' (closing sessions said left replies_left queues stands written is_clean) → HasClosed turns m kept restarted lines emitted emitted' (closing sessions said left replies_left queues' stands' written' is_clean')
+same_closing turns m kept restarted lines emitted emitted' sessions said left replies_left queues queues' stands stands' written written' is_clean is_clean' same_queues same_stands same_rows same_clean has =
+    subst (λ (qs : List Queue). HasClosed turns m kept restarted lines emitted emitted' (closing sessions said left replies_left qs stands' written' is_clean')) (sym same_queues)
+    (subst (λ (s : VenueFacts). HasClosed turns m kept restarted lines emitted emitted' (closing sessions said left replies_left queues s written' is_clean')) (sym same_stands)
+    (subst (λ (rs : List TrailRow). HasClosed turns m kept restarted lines emitted emitted' (closing sessions said left replies_left queues stands rs is_clean')) (sym same_rows)
+    (subst (λ (b : Bool). HasClosed turns m kept restarted lines emitted emitted' (closing sessions said left replies_left queues stands written b)) (sym same_clean) has)))

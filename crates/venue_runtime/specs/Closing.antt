@@ -34,17 +34,19 @@ pub record Side : Type 0 where
   pub reply_left : Option Outgoing
   pub queue : Queue
 
--- The turns of one participant's thread, from a new session on this line; the messages taken of it, then the one left
+-- The turns of one participant's thread, from a new session on this line, which an earlier process may have numbered
+-- where `restarted` says so; the messages taken of it, then the one left
 -- in its seat, then those ready, are what its heard frames spell; and the replies numbered for it, then the one left in
 -- its seat, then its queue, are what it is owed, or, where it was cut, a first part of that, which is more than 64,000
 -- replies.
-pub record IsServed (turns : ℕ) (ids : CompIds) (line : SessionIo) (taken : List Item) (owed : List App) (side : Side) : Type 0 where
+pub record IsServed (turns : ℕ) (restarted : Bool) (ids : CompIds) (line : SessionIo) (taken : List Item) (owed : List App) (side : Side) : Type 0 where
   pub start : Thread
   pub finish : Thread
   pub passed : List Bool
   pub emitted : List ℕ
   pub led : HasLed turns start finish line.passed passed line.emitted emitted
-  pub fresh : IsNew start
+  pub begins : IsNew start
+  pub restarted_is : start.session.line.restarted ≡ restarted
   pub names : start.session.ids ≡ ids
   pub bare : start.kept ≡ None
   pub said : start.said ≡ line.said
@@ -95,8 +97,9 @@ pub record AreCounted (count : ℕ) (c : Closing) : Type 0 where
   pub queues : length c.queues ≡ count
 
 -- A venue that ran from these rows on these lines, by a worker's clock, and was closed: there are the inputs of the
--- rows, and those that the worker added, in order.
-pub record HasClosed (turns : ℕ) (m : Market) (kept : List TrailRow) (lines : List SessionIo) (emitted emitted' : List ℕ) (c : Closing) : Type 0 where
+-- rows, and those that the worker added, in order. `restarted`: its rows outlive the process, so that an earlier one
+-- may have numbered messages of its sessions.
+pub record HasClosed (turns : ℕ) (m : Market) (kept : List TrailRow) (restarted : Bool) (lines : List SessionIo) (emitted emitted' : List ℕ) (c : Closing) : Type 0 where
   pub before : List Input
   pub since : List Input
   pub began : kept ≡ rows before
@@ -118,4 +121,4 @@ pub record HasClosed (turns : ℕ) (m : Market) (kept : List TrailRow) (lines : 
   pub lawful : Lawful m (before ++ since)
   pub counted : AreCounted (length lines) c
   pub each : (k : ℕ) (line : SessionIo) (side : Side) → slice_get lines k ≡ Some line → IsSide c k side
-      → IsServed turns (ids_at m.participants k) line (items_from k since) (owed_to m before since k) side
+      → IsServed turns restarted (ids_at m.participants k) line (items_from k since) (owed_to m before since k) side

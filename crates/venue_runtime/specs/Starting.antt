@@ -1,7 +1,7 @@
 -- The starts of the threads of a venue's sessions.
 use Rattle.std.specs.Prelude.{◌≡◌, ℕ, ◌<◌, List, map, length, slice_get, Bool, None, Some}
 use Rattle.fix_dictionary.specs.declared.messages.Item.{Item}
-use Rattle.fix_session.specs.State.{State, Seen, fresh}
+use Rattle.fix_session.specs.State.{State, Seen, begun}
 use Rattle.fix_session.specs.declared.comp_ids.CompIds.{CompIds}
 use Rattle.gateway.specs.Said.{Said}
 use Rattle.gateway.specs.Served.{Served}
@@ -14,10 +14,10 @@ use Rattle.outbound_queue.specs.declared.outgoing.Outgoing.{Outgoing}
 abbrev pub ids_at : ParticipantFile → ℕ → CompIds
 ids_at file k = record { own = file.venue; peer = name_of file k }
 
--- a new session with each of `count` participants
-pub record AreNewSessions (file : ParticipantFile) (count : ℕ) (sessions : List Seen) : Type 0 where
+-- a new session with each of `count` participants, after an earlier process or not
+pub record AreNewSessions (restarted : Bool) (file : ParticipantFile) (count : ℕ) (sessions : List Seen) : Type 0 where
   pub long : length sessions ≡ count
-  pub each : (k : ℕ) (s : Seen) → slice_get sessions k ≡ Some s → s.state ≡ fresh (ids_at file k)
+  pub each : (k : ℕ) (s : Seen) → slice_get sessions k ≡ Some s → s.state ≡ begun restarted (ids_at file k)
 
 -- the outside of a session's thread: the accounts of its line, its clock and its gate
 pub record SessionIo : Type 0 where

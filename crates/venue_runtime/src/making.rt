@@ -25,20 +25,22 @@ pub(crate) struct Made<L: Line, C: Clock, G: Gate> {
     pub(crate) starts: Vec<Start<L, C, G>>,
 }
 
-/// Makes the boards, a new session with each participant, and the start of each thread.
+/// Makes the boards, a new session with each participant, and the start of each thread. `restarted`: an earlier process
+/// may have numbered messages of the sessions.
 pub(crate) fn make<L: Line + Drop, C: Clock + Drop, G: Gate + Drop>(
     alloc: Global,
     participants: &Participants,
+    restarted: bool,
     lines: Vec<(L, C, G)>,
 ) -> Result<Made<L, C, G>, AllocError>
     requires lines { length lines.items ≡ length participants.now.names }
-    ensures { IfOk result (λ made. AreMade participants.now (map (λ o. outside (L.said o.0) (C.answered o.1) (G.passed o.2)) lines.items) made.intake made.takes.items made.replies made.hands.items made.ends made.end_tokens.items made.starts.items) }
+    ensures { IfOk result (λ made. AreMade restarted participants.now (map (λ o. outside (L.said o.0) (C.answered o.1) (G.passed o.2)) lines.items) made.intake made.takes.items made.replies made.hands.items made.ends made.end_tokens.items made.starts.items) }
 {
     let count = participants.len();
     let (intake, session_hands, takes) = Board::<Item>::new(alloc, count)?;
     let (replies, hands, session_takes) = Board::<Outgoing>::new(alloc, count)?;
     let (ends, session_ends, end_tokens) = Board::<()>::new(alloc, count)?;
-    let sessions = sessions_of(alloc, participants)?;
+    let sessions = sessions_of(alloc, participants, restarted)?;
     let starts = starts_of(
         alloc,
         sessions,

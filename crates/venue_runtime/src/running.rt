@@ -72,7 +72,8 @@ fn run_threads<
 
 /// Runs a venue and closes it. Each participant has a session in a thread of its own, with the line, the clock and the
 /// gate at its place in `lines`; the worker runs on the caller's thread, at the moments that `clock` answers, which is
-/// given back. Each thread and the worker take `turns` turns; a session ends earlier where its line is over or it
+/// given back. Where the keeper's rows outlive the process, its sessions begin as those of a later one. Each thread and
+/// the worker take `turns` turns; a session ends earlier where its line is over or it
 /// collected the sentinel, and the worker where all sessions ended and nothing is left to do.
 ///
 /// Conditions: a line for each participant; the venue is where the run of the keeper's rows leads, their moments do not
@@ -102,7 +103,7 @@ pub fn run_venue<
     requires clean { K.is_clean keeper ≡ true }
     requires history { (before : List Input) × (K.rows keeper ≡ rows before) × (length before ≤ 10 ^ 15) × IsHistory venue (run venue.market before).history × AreRising before }
     requires items { venue.items ≤ length (K.rows keeper) }
-    ensures closed { IfOk result (λ r. HasClosed turns venue.market (K.rows keeper) (map (λ o. outside (L.said o.0) (C.answered o.1) (G.passed o.2)) lines.items) (W.answered clock) (W.answered r.1) (closing (map (λ s. s.state) r.0.sessions.items) (map (λ l. L.said l) r.0.lines.items) r.0.left.items r.0.replies_left.items r.0.queues.items (standing r.0.venue.day) (K.rows r.0.keeper) (K.is_clean r.0.keeper))) }
+    ensures closed { IfOk result (λ r. HasClosed turns venue.market (K.rows keeper) (K.outlives keeper) (map (λ o. outside (L.said o.0) (C.answered o.1) (G.passed o.2)) lines.items) (W.answered clock) (W.answered r.1) (closing (map (λ s. s.state) r.0.sessions.items) (map (λ l. L.said l) r.0.lines.items) r.0.left.items r.0.replies_left.items r.0.queues.items (standing r.0.venue.day) (K.rows r.0.keeper) (K.is_clean r.0.keeper))) }
     ensures market { IfOk result (λ r. r.0.venue.market ≡ venue.market) }
     ensures unrefused { IfOk result (λ r. K.refused r.0.keeper ≡ K.refused keeper) }
 {
@@ -110,7 +111,8 @@ pub fn run_venue<
     every_run_is_lawful();
     behind_is_owed_much();
     // (Here and below a call drops a venue: otherwise a proof sees the drop of each part at each place.)
-    let Ok(made) = make(alloc, venue.participants(), lines) else {
+    let restarted = keeper.outlives();
+    let Ok(made) = make(alloc, venue.participants(), restarted, lines) else {
         drop(venue);
         return Err(RunFault::NoMemory);
     };

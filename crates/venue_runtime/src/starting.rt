@@ -1,7 +1,7 @@
 //! The starts of the sessions' threads.
 
 ghost use Rattle.std.specs.Prelude.{◌≡◌, ◌<◌, length, map, IfOk};
-ghost use Rattle.fix_session.specs.State.{fresh};
+ghost use Rattle.fix_session.specs.State.{begun};
 ghost use Rattle.venue_runtime.specs.Starting.{AreNewSessions, AreStarts, ids_at, outside};
 
 use fix_dictionary::Item;
@@ -14,26 +14,37 @@ use std::alloc::{AllocError, Global};
 use venue_rules::{Who, name_identifier};
 use venue_worker::{Clock, Outgoing};
 
-fn session_with(alloc: Global, participants: &Participants, who: Who) -> Result<Session, AllocError>
+// A session of the venue with a participant. `restarted`: an earlier process may have numbered its messages.
+fn session_with(
+    alloc: Global,
+    participants: &Participants,
+    who: Who,
+    restarted: bool,
+) -> Result<Session, AllocError>
     requires within { who < length participants.now.names }
-    ensures { IfOk result (λ s. s.state ≡ fresh (ids_at participants.now who)) }
+    ensures { IfOk result (λ s. s.state ≡ begun restarted (ids_at participants.now who)) }
 {
     let own = name_identifier(participants.venue());
     let peer = name_identifier(participants.name(who));
-    Session::new(alloc, &own, &peer)
+    if restarted {
+        Session::restarted(alloc, &own, &peer)
+    } else {
+        Session::new(alloc, &own, &peer)
+    }
 }
 
 /// A session of the venue with each participant, in order.
 pub(crate) fn sessions_of(
     alloc: Global,
     participants: &Participants,
+    restarted: bool,
 ) -> Result<Vec<Session>, AllocError>
-    ensures { IfOk result (λ sessions. AreNewSessions participants.now (length participants.now.names) sessions.items) }
+    ensures { IfOk result (λ sessions. AreNewSessions restarted participants.now (length participants.now.names) sessions.items) }
 {
     let count = participants.len();
     let mut sessions = Vec::with_capacity(alloc, count)?;
     for place in 0..count {
-        let session = session_with(alloc, participants, Who::of(place as u32))?;
+        let session = session_with(alloc, participants, Who::of(place as u32), restarted)?;
         sessions.push(session)?;
     }
     Ok(sessions)

@@ -6,7 +6,7 @@ ghost use Rattle.venue_worker.specs.Calls.{IsSameElse};
 ghost use Rattle.venue_worker.specs.Turns.{AreServed};
 ghost use Rattle.venue_worker.specs.Shutdown.{AreDrained, AreLookedAt, CutsWhere, HasShutDown, IsDrained, IsRound, are_shut_down, is_idle, is_over, is_shut_down};
 
-use crate::clock::{Clock, notify};
+use crate::clock::{Clock, notify, report_waiting};
 use crate::worker::Worker;
 use outbound_queue::Queue;
 use sef_moment::Moment;
@@ -35,6 +35,7 @@ impl<'a, K: Keep + Drop> Worker<'a, K> {
             let moment = clock.now();
             let idle = time_between(since, moment);
             let moved = self.drain_all(clock, QUIET_MS <= idle);
+            report_waiting(clock, self.engine.queues());
             since = last_progress(moved, moment, since);
             let quiet = time_between(since, moment);
             if self.is_over(quiet) {

@@ -41,7 +41,7 @@ new-requires g c =
     }
 
 pub run_threads-requires-clause-own : goal.run_threads-requires-clause-own
-run_threads-requires-clause-own g c κs within = made_ready _ _ _ _ _ _ _ _ _ c.in-Ok.ensures
+run_threads-requires-clause-own g c κs within = made_ready _ _ _ _ _ _ _ _ _ _ c.in-Ok.ensures
 
 pub run_threads-requires-clause-end_tokens : goal.run_threads-requires-clause-end_tokens
 run_threads-requires-clause-end_tokens g c κs within = c.in-Ok.ensures.end_takes
@@ -103,9 +103,11 @@ returns-in-Ok-close_venue g c =
     let closed = c.in-Ok-close_venue.closed in
     let done = c.in-Ok-close_venue.ensures in
     let close = closing (map (λ (s : Seen). s.state) closed.sessions.items) (map (λ (l : g.row.L.Denot). g.L.Line.said l) closed.lines.items) closed.left.items closed.replies_left.items parts.queues.items (standing parts.venue.day) (rows parts.keeper) (g.K.Keep.is_clean parts.keeper) in
-    let facts : Facts (Ended g.row.L.Denot) c.args.turns m (rows c.args.keeper) lines emitted emitted' ran close made.intake made.replies made.ends made.takes.items made.hands.items made.end_tokens.items made.starts.items c.in_ok-finished.finished.items ended thread
+    let facts : Facts (Ended g.row.L.Denot) c.args.turns m (rows c.args.keeper) (g.K.Keep.outlives c.args.keeper) lines emitted emitted' ran close made.intake made.replies made.ends made.takes.items made.hands.items made.end_tokens.items made.starts.items c.in_ok-finished.finished.items ended thread
     (standing c.args.venue.day) (g.K.Keep.refused c.args.keeper) (g.K.Keep.refused parts.keeper) parts.venue parts.takes.items parts.hands.items = record {
-      made = subst (λ (f : ParticipantFile). AreMade f lines made.intake made.takes.items made.replies made.hands.items made.ends made.end_tokens.items made.starts.items) c.participants.ensures c.in-Ok.ensures;
+      made =
+          subst (λ (b : Bool). AreMade b m.participants lines made.intake made.takes.items made.replies made.hands.items made.ends made.end_tokens.items made.starts.items) c.outlives-restarted.ensures
+          (subst (λ (f : ParticipantFile). AreMade c.outlives-restarted.result f lines made.intake made.takes.items made.replies made.hands.items made.ends made.end_tokens.items made.starts.items) c.participants.ensures c.in-Ok.ensures);
       served = c.in_ok-finished.ensures.served;
       shown = c.in-Ok-ended_of.ensures;
       worked = worked;
@@ -121,8 +123,8 @@ returns-in-Ok-close_venue g c =
     } in
     record {
       closed =
-          same_closing _ _ _ _ _ _ _ _ _ _ _ _ _ _ _ _ _ _ (ap (λ q. q.items) done.kept.2) (ap (λ (v : VenueState). standing v.day) done.kept.0) (ap rows done.kept.1) (ap (λ (k : g.row.K.Denot). g.K.Keep.is_clean k) done.kept.1)
-          (closes _ _ _ _ _ _ _ _ _ _ _ _ _ _ _ _ _ _ _ _ _ _ _ _ facts);
+          same_closing _ _ _ _ _ _ _ _ _ _ _ _ _ _ _ _ _ _ _ (ap (λ q. q.items) done.kept.2) (ap (λ (v : VenueState). standing v.day) done.kept.0) (ap rows done.kept.1) (ap (λ (k : g.row.K.Denot). g.K.Keep.is_clean k) done.kept.1)
+          (closes _ _ _ _ _ _ _ _ _ _ _ _ _ _ _ _ _ _ _ _ _ _ _ _ _ facts);
       market = ap (λ (v : VenueState). v.market) done.kept.0 ∙ same_market _ _ _ _ _ _ _ _ _ _ _ _ _ _ _ _ _ _ _ worked;
       unrefused = ap (λ (k : g.row.K.Denot). g.K.Keep.refused k) done.kept.1 ∙ none_refused _ _ _ _ _ _ _ _ _ _ _ _ _ _ _ _ _ _ _ well worked;
     }

@@ -24,8 +24,8 @@ loop-preserved g c =
       seen_off = all_seen_then old mid new i.only i.seen_off all.seen_off;
       served = λ _. served_then old mid new i.only i.looked all.round.served;
       looked = looked_then old mid new i.only i.looked all.looked;
-      rounded = rounds_next c.loop.counter c.loop.since c.last_progress-since.result c.now-moment.result c.time_between-idle.result c.drain_all-moved.result (g.C.Clock.answered c.args.clock.now) (g.C.Clock.answered c.loop.clock) (g.C.Clock.answered c.drain_all-moved.new.clock)
-          old mid new i.rounded (record { clock = all.clock ∙ c.now-moment.ensures; idle_is = c.time_between-idle.ensures; round = all.round; since_is = c.last_progress-since.ensures })
+      rounded = rounds_next c.loop.counter c.loop.since c.last_progress-since.result c.now-moment.result c.time_between-idle.result c.drain_all-moved.result (g.C.Clock.answered c.args.clock.now) (g.C.Clock.answered c.loop.clock) (g.C.Clock.answered c.report_waiting.new.clock)
+          old mid new i.rounded (record { clock = c.report_waiting.ensures ∙ all.clock ∙ c.now-moment.ensures; idle_is = c.time_between-idle.ensures; round = all.round; since_is = c.last_progress-since.ensures })
           (subst (λ (z : ℕ). is_over z new ≡ false) c.time_between-quiet.ensures (sym c.is_over.ensures ∙ c.if-is_over.false));
     }
 
@@ -36,8 +36,8 @@ pub returns-then-is_over-clause-rounds : goal.returns-then-is_over-clause-rounds
 returns-then-is_over-clause-rounds g c =
     let all = c.drain_all-moved.ensures in
     rounds_end c.loop.counter c.args.rounds c.loop.since c.last_progress-since.result c.now-moment.result c.time_between-idle.result c.time_between-quiet.result c.drain_all-moved.result
-    (g.C.Clock.answered c.args.clock.now) (g.C.Clock.answered c.loop.clock) (g.C.Clock.answered c.drain_all-moved.new.clock) c.args.self.now c.loop.self c.drain_all-moved.new.self c.loop.invariant.rounded
-    (record { clock = all.clock ∙ c.now-moment.ensures; idle_is = c.time_between-idle.ensures; round = all.round; since_is = c.last_progress-since.ensures }) c.time_between-quiet.ensures (sym c.is_over.ensures ∙ c.if-is_over.true)
+    (g.C.Clock.answered c.args.clock.now) (g.C.Clock.answered c.loop.clock) (g.C.Clock.answered c.report_waiting.new.clock) c.args.self.now c.loop.self c.drain_all-moved.new.self c.loop.invariant.rounded
+    (record { clock = c.report_waiting.ensures ∙ all.clock ∙ c.now-moment.ensures; idle_is = c.time_between-idle.ensures; round = all.round; since_is = c.last_progress-since.ensures }) c.time_between-quiet.ensures (sym c.is_over.ensures ∙ c.if-is_over.true)
 
 pub returns-clause-rounds : goal.returns-clause-rounds
 returns-clause-rounds g c =
