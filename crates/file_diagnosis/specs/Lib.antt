@@ -10,3 +10,5 @@ pub mod Numbers
 pub mod First
 -- the line on a cause, in words
 pub mod Line
+-- the lines of a text
+pub mod Lines

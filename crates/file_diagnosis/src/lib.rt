@@ -2,6 +2,7 @@
 #![tactic(auto)]
 
 mod cause;
+mod difference;
 mod entry;
 mod instruments_file;
 mod laws;
@@ -12,6 +13,7 @@ mod toml_line;
 mod words;
 
 pub use cause::{Cause, Key, Look, Part, Wrong};
+pub use difference::differing_line;
 pub use instruments_file::instruments_cause;
 pub use laws::{causes_are_first, causes_have_the_number};
 pub use line::{instruments_line, participants_line};

@@ -1,5 +1,5 @@
 -- The count of a market's lines, and the output of a served venue.
-use Rattle.std.proofs.Common.{◌≡◌, ℕ, ◌≤◌, true, nat_le, List, Option, length, leb-true, ap, sym, subst, ◌∙◌}
+use Rattle.std.proofs.Common.{◌≡◌, ℕ, ◌≤◌, Bool, true, false, nat_le, List, Option, length, leb-true, ap, sym, subst, ◌∙◌}
 use Rattle.std.specs.List.{count_by}
 use Rattle.std.specs.Io.KnownBytes.{Appends}
 use Rattle.std.proofs.lemmas.Bool.{and_parts}
@@ -18,7 +18,7 @@ few_names file h =
     leb-true (length file.names) most_participants few.0
 
 -- the output for this count of sessions, which were closed, and for rows with as many messages as the stored ones
-pub emits_read : (turns : ℕ) (m : Market) (kept : List TrailRow) (c : Closing) (count : ℕ) (read : List TrailRow) (before after : Option (List ℕ)) → HasServed turns m kept c → length c.sessions ≡ count
+pub emits_read : (turns : ℕ) (m : Market) (kept : List TrailRow) (c : Closing) (count : ℕ) (read : List TrailRow) (before after : Option (List ℕ)) → HasServed turns m kept false c → length c.sessions ≡ count
     → count_by is_message read ≡ count_by is_message c.rows → Appends before after (closing_line count read) → EmitsClosed turns m kept before after
 emits_read turns m kept c count read before after served counts same written =
     let each : length c.sessions ≡ length m.participants.names = served.closed.counted.sessions ∙ served.each in
@@ -27,6 +27,6 @@ emits_read turns m kept c count read before after served counts same written =
     record { closed = c; served = served; sessions = each; written = subst (Appends before after) line written }
 
 -- what was served from rows and a market that are the same
-pub served_of : (turns : ℕ) (m m' : Market) (kept kept' : List TrailRow) (c : Closing) → m' ≡ m → kept' ≡ kept → HasServed turns m' kept' c → HasServed turns m kept c
-served_of turns m m' kept kept' c same_market same_rows served =
-    subst (λ (n : Market). HasServed turns n kept c) same_market (subst (λ (rows : List TrailRow). HasServed turns m' rows c) same_rows served)
+pub served_of : (turns : ℕ) (m m' : Market) (kept kept' : List TrailRow) (restarted : Bool) (c : Closing) → m' ≡ m → kept' ≡ kept → HasServed turns m' kept' restarted c → HasServed turns m kept restarted c
+served_of turns m m' kept kept' restarted c same_market same_rows served =
+    subst (λ (n : Market). HasServed turns n kept restarted c) same_market (subst (λ (rows : List TrailRow). HasServed turns m' rows restarted c) same_rows served)

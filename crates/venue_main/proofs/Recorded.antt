@@ -1,5 +1,5 @@
 -- The output and the database of a venue with a trail, and why one is not served.
-use Rattle.std.proofs.Common.{◌≡◌, ◌≢◌, inl, inr, ℕ, List, Option, length, refl, sym, ap, subst, ◌∙◌}
+use Rattle.std.proofs.Common.{◌≡◌, ◌≢◌, inl, inr, ℕ, true, List, Option, length, refl, sym, ap, subst, ◌∙◌}
 use Rattle.std.specs.Io.KnownBytes.{Appends}
 use Rattle.sqlite_trees.specs.declared.store.Store.{Ghosts}
 use Rattle.sqlite.specs.Held.{Held, state}
@@ -15,12 +15,12 @@ use Rattle.venue_main.specs.Serve.{HasServed, UnlessWriting, closing_line}
 use Rattle.venue_main.specs.declared.failure.Failure.{Failure}
 use Rattle.venue_main.specs.declared.failure.Failure.TheVariants.{Stopped, Served, CommandLine, HeadsWithoutTrail, SharedHeads, SharedMetrics, Participants, Instruments, Trail as TrailRefused}
 use Rattle.venue_main.specs.declared.serve.ServeFault.{ServeFault}
-use Rattle.venue_main.specs.declared.serve.ServeFault.TheVariants.{Memory, Output, Trail, Network, Thread, Heads}
+use Rattle.venue_main.specs.declared.serve.ServeFault.TheVariants.{Memory, Output, Trail, Network, Thread, Heads, Clock}
 
 -- the database and the output are those of the closing, where a journal recorded its rows and showed them as they were
 -- read back
 pub recorded : {S : Type 0} (g : Ghosts S) (turns : ℕ) (m m' : Market) (files : Files) (old : State) (before after : Option (List ℕ)) (start kept read : Recording S) (c : Closing) (count : ℕ) (back : Held S)
-    → Began g files old start → m' ≡ m → HasServed turns m' start.rows c → length c.sessions ≡ count → kept.rows ≡ c.rows → read.rows ≡ kept.rows
+    → Began g files old start → m' ≡ m → HasServed turns m' start.rows true c → length c.sessions ≡ count → kept.rows ≡ c.rows → read.rows ≡ kept.rows
     → (HasCleanDisk (disk g read) → ShowsAll g read) → (HasCleanDisk (disk g read) → Appends before after (closing_line count kept.rows)) → back ≡ read.trail.conn
     → HasRecorded g turns m files old (state g back) before after
 recorded {S} g turns m m' files old before after start kept read c count back began same served counts closes reads shows written returns =
@@ -64,9 +64,10 @@ pub unless_written : (fault : ServeFault) (P : Type 0) → P → UnlessWriting f
 unless_written Memory P p = p
 unless_written Output P p = tt
 unless_written Trail P p = p
-unless_written Network P p = p
+unless_written (Network why) P p = p
 unless_written Thread P p = p
 unless_written Heads P p = p
+unless_written (Clock why) P p = p
 
 pub unless_emitted : (failure : Failure) (P : Type 0) → P → UnlessEmitting failure P
 unless_emitted (Stopped fault) P p = p

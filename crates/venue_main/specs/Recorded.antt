@@ -1,5 +1,5 @@
 -- The trail that a served venue leaves, and its output as it closes.
-use Rattle.std.specs.Prelude.{◌≡◌, ◌⊎◌, ℕ, List, length, Option, IsTrue, ⊤}
+use Rattle.std.specs.Prelude.{◌≡◌, ◌⊎◌, ℕ, true, List, length, Option, IsTrue, ⊤}
 use Rattle.std.specs.Io.KnownBytes.{Appends}
 use Rattle.sqlite_trees.specs.declared.store.Store.{Ghosts}
 use Rattle.sqlite.specs.State.{State, HasCleanDisk}
@@ -24,7 +24,7 @@ pub record HasRecorded {S : Type 0} (g : Ghosts S) (turns : ℕ) (m : Market) (f
   pub start : Recording S
   pub began : Began g files old start
   pub closed : Closing
-  pub served : HasServed turns m start.rows closed
+  pub served : HasServed turns m start.rows true closed
   pub sessions : length closed.sessions ≡ length m.participants.names
   pub is_open : HasCleanDisk new → IsTrue new.is_open
   pub shows : HasCleanDisk new → shown_rows new ≡ closed.rows

@@ -7,6 +7,7 @@ use crate::failure::Failure;
 use crate::files::Paths;
 use crate::once::OnceFault;
 use crate::operation::{KeptPaths, Operation};
+use crate::refused::Refused;
 use crate::service::Service;
 use clap::error::ErrorKind;
 use clap::{Arg, ArgAction, ArgMatches, Command, Error};
@@ -30,30 +31,57 @@ pub enum Task {
         kept: KeptPaths,
         operation: Operation,
     },
-    /// `check --participants FILE --instruments FILE`
+    /// `check --participants FILE --instruments FILE`, with or without `--trail FILE`
     Check {
         paths: Paths,
+        trail: Option<String>,
     },
     /// `explain --participants FILE --instruments FILE`
     Explain {
         paths: Paths,
     },
+    /// `--version`
+    Version,
     /// `--help`: the text was printed.
     Help,
 }
 
 /// The request in the process's arguments.
-pub fn task_given(rt: &HostRuntime) -> Result<Task, Failure> {
-    let words = words_given(rt)?;
+pub fn task_given(rt: &HostRuntime) -> Result<Task, Refused> {
+    let words = match words_given(rt) {
+        Ok(words) => words,
+        Err(fault) => return Err(Refused::from(Failure::from(fault))),
+    };
     let task = task_in(rt.alloc(), &words);
     drop(words);
     match task {
-        Ok(Some(task)) => Ok(task),
-        Ok(None) => Err(Failure::CommandLine),
+        Ok(Ok(task)) => Ok(task),
+        Ok(Err(misfit)) => Err(Refused::of_command_line(rt.alloc(), misfit.text())),
         Err(error) => {
             let answer = answer_to_error(rt, &error);
             drop(error);
             answer
+        }
+    }
+}
+
+/// Why a word is refused whose argument is understood.
+#[derive(Clone, Copy, PartialEq, Eq)]
+enum Misfit {
+    Port,
+    Turns,
+    At,
+    /// Not met: the parser asks for each required argument.
+    Missing,
+}
+
+impl Misfit {
+    fn text(self) -> &'static str {
+        match self {
+            Misfit::Port => "--port: a number from 1024 to 65500",
+            Misfit::Turns => "--turns: a number from 1 to 1000000000",
+            Misfit::At => "--at: a moment in UTC, as 20250303-14:30:00",
+            Misfit::Missing => "a required argument is missing",
         }
     }
 }
@@ -173,7 +201,7 @@ fn with_operation<'a>(alloc: Global, serve: Command<'a>) -> Result<Command<'a>, 
         alloc,
         serve,
         "metrics",
-        "The file of counters, for node_exporter, replaced each minute and at the end",
+        "The file of counters, for node_exporter, replaced each ten seconds and at the end",
     )
 }
 
@@ -226,6 +254,17 @@ fn command_of_explain<'a>(alloc: Global) -> Result<Command<'a>, AllocError> {
     )
 }
 
+/// The command that checks the files.
+fn command_of_check<'a>(alloc: Global) -> Result<Command<'a>, AllocError> {
+    let check = command_on_files(alloc, "check", "Prints how many entries the two files have")?;
+    with_file(
+        alloc,
+        check,
+        "trail",
+        "A trail, which is refused where it is not one of these files, with what differs",
+    )
+}
+
 /// A command with a subcommand, where that was made.
 fn with_command<'a>(
     command: Command<'a>,
@@ -244,26 +283,24 @@ fn with_command<'a>(
 fn program<'a>(alloc: Global) -> Result<Command<'a>, AllocError> {
     let command = Command::new(alloc, "venue_main")
         .about("A swap execution facility over FIX")
+        .version("of the build that --version prints")
         .after_help(EXAMPLES)
         .subcommand_required(true);
     let command = with_command(command, command_of_once(alloc))?;
     let command = with_command(command, command_of_serve(alloc))?;
     let command = with_command(command, command_of_explain(alloc))?;
-    with_command(
-        command,
-        command_on_files(alloc, "check", "Prints how many entries the two files have"),
-    )
+    with_command(command, command_of_check(alloc))
 }
 
 /// The request in these arguments, if they are understood and ask for more than help.
-fn task_in(alloc: Global, words: &[String]) -> Result<Option<Task>, Error> {
+fn task_in(alloc: Global, words: &[String]) -> Result<Result<Task, Misfit>, Error> {
     let matches = program(alloc)?.try_get_matches_from(words)?;
     let task = task_of(alloc, &matches);
     drop(matches);
     Ok(task?)
 }
 
-fn task_of(alloc: Global, matches: &ArgMatches<'_>) -> Result<Option<Task>, AllocError> {
+fn task_of(alloc: Global, matches: &ArgMatches<'_>) -> Result<Result<Task, Misfit>, AllocError> {
     if let Some(given) = matches.subcommand_matches("check") {
         return check_in(alloc, given);
     }
@@ -275,44 +312,46 @@ fn task_of(alloc: Global, matches: &ArgMatches<'_>) -> Result<Option<Task>, Allo
     }
     match matches.subcommand_matches("once") {
         Some(given) => once_in(alloc, given),
-        None => Ok(None),
+        None => Ok(Err(Misfit::Missing)),
     }
 }
 
-fn check_in(alloc: Global, given: &ArgMatches<'_>) -> Result<Option<Task>, AllocError> {
+fn check_in(alloc: Global, given: &ArgMatches<'_>) -> Result<Result<Task, Misfit>, AllocError> {
+    let Some(paths) = paths_in(alloc, given)? else {
+        return Ok(Err(Misfit::Missing));
+    };
+    let trail = path_in(alloc, given, "trail")?;
+    Ok(Ok(Task::Check { paths, trail }))
+}
+
+fn explain_in(alloc: Global, given: &ArgMatches<'_>) -> Result<Result<Task, Misfit>, AllocError> {
     match paths_in(alloc, given)? {
-        Some(paths) => Ok(Some(Task::Check { paths })),
-        None => Ok(None),
+        Some(paths) => Ok(Ok(Task::Explain { paths })),
+        None => Ok(Err(Misfit::Missing)),
     }
 }
 
-fn explain_in(alloc: Global, given: &ArgMatches<'_>) -> Result<Option<Task>, AllocError> {
-    match paths_in(alloc, given)? {
-        Some(paths) => Ok(Some(Task::Explain { paths })),
-        None => Ok(None),
-    }
-}
-
-fn once_in(alloc: Global, given: &ArgMatches<'_>) -> Result<Option<Task>, AllocError> {
+fn once_in(alloc: Global, given: &ArgMatches<'_>) -> Result<Result<Task, Misfit>, AllocError> {
     let Some(at) = moment_in(given) else {
-        return Ok(None);
+        return Ok(Err(Misfit::At));
     };
     match paths_in(alloc, given)? {
-        Some(paths) => Ok(Some(Task::Once { paths, at })),
-        None => Ok(None),
+        Some(paths) => Ok(Ok(Task::Once { paths, at })),
+        None => Ok(Err(Misfit::Missing)),
     }
 }
 
-fn serve_in(alloc: Global, given: &ArgMatches<'_>) -> Result<Option<Task>, AllocError> {
-    let Some(service) = service_in(given) else {
-        return Ok(None);
+fn serve_in(alloc: Global, given: &ArgMatches<'_>) -> Result<Result<Task, Misfit>, AllocError> {
+    let service = match service_in(given) {
+        Ok(service) => service,
+        Err(misfit) => return Ok(Err(misfit)),
     };
     let Some(paths) = paths_in(alloc, given)? else {
-        return Ok(None);
+        return Ok(Err(Misfit::Missing));
     };
     let kept = kept_in(alloc, given)?;
     let operation = operation_in(alloc, given)?;
-    Ok(Some(Task::Serve {
+    Ok(Ok(Task::Serve {
         paths,
         service,
         kept,
@@ -347,10 +386,23 @@ fn path_in(
     }
 }
 
-fn service_in(given: &ArgMatches<'_>) -> Option<Service> {
-    let port = number_in(given.get_str("port")?)?;
-    let turns = number_in(given.get_str("turns")?)?;
-    Service::of(port, turns)
+fn service_in(given: &ArgMatches<'_>) -> Result<Service, Misfit> {
+    let Some(port) = number_of(given, "port") else {
+        return Err(Misfit::Port);
+    };
+    let Some(turns) = number_of(given, "turns") else {
+        return Err(Misfit::Turns);
+    };
+    match Service::of(port, turns) {
+        Some(service) => Ok(service),
+        None if Service::of(port, 1).is_none() => Err(Misfit::Port),
+        None => Err(Misfit::Turns),
+    }
+}
+
+/// The number of an argument.
+fn number_of(given: &ArgMatches<'_>, name: &str) -> Option<u64> {
+    number_in(given.get_str(name)?)
 }
 
 /// The number that a text of decimal digits spells.
@@ -391,13 +443,50 @@ fn moment_of(text: &str) -> Option<Moment>
 }
 
 /// Prints help where it was asked for; refuses other arguments.
-fn answer_to_error(rt: &HostRuntime, error: &Error) -> Result<Task, Failure> {
+fn answer_to_error(rt: &HostRuntime, error: &Error) -> Result<Task, Refused> {
     match error.kind() {
         ErrorKind::DisplayHelp => match error.print(rt) {
             Ok(()) => Ok(Task::Help),
-            Err(_) => Err(Failure::Stopped(OnceFault::Output)),
+            Err(_) => Err(Refused::from(Failure::Stopped(OnceFault::Output))),
         },
-        ErrorKind::OutOfMemory => Err(Failure::Stopped(OnceFault::Memory)),
-        _ => Err(Failure::CommandLine),
+        ErrorKind::DisplayVersion => Ok(Task::Version),
+        ErrorKind::OutOfMemory => Err(Refused::from(Failure::Stopped(OnceFault::Memory))),
+        _ => Err(refused_by(rt.alloc(), error)),
     }
+}
+
+/// The refusal with what the error's text says before its usage, in one line: it names the words.
+fn refused_by(alloc: Global, error: &Error) -> Refused {
+    match said_by(alloc, error) {
+        Ok(line) => Refused::of_command_line(alloc, &line),
+        Err(_) => Refused::from(Failure::CommandLine),
+    }
+}
+
+fn said_by(alloc: Global, error: &Error) -> Result<String, AllocError> {
+    let text = format!(in alloc; "{error}")?;
+    in_one_line(alloc, cause_in(&text))
+}
+
+/// What stands before the first blank line.
+fn cause_in(text: &str) -> &str {
+    let said = match text.split_once("\n\n") {
+        Some((said, _)) => said,
+        None => text,
+    };
+    match said.strip_prefix("error: ") {
+        Some(rest) => rest,
+        None => said,
+    }
+}
+
+fn in_one_line(alloc: Global, text: &str) -> Result<String, AllocError> {
+    let mut line = String::new(alloc);
+    for part in text.lines() {
+        if !line.is_empty() {
+            line.push_str(" ")?;
+        }
+        line.push_str(part.trim())?;
+    }
+    Ok(line)
 }

@@ -17,11 +17,13 @@ ghost use Rattle.venue_main.specs.declared.serve.ServeFault.TheVariants.{Output}
 use crate::failure::Failure;
 use crate::heads_file::HeadsOut;
 use crate::market::{Market, delays_of};
-use crate::metrics_file::MetricsSink;
+use crate::measured_keeper::MeasuredKeeper;
 use crate::reporting::Operator;
 use crate::serve::{ServeFault, messages_in, write_counts};
 use crate::service::Service;
 use crate::serving::{keeper_of, serve_over};
+use crate::starting_clock::await_clock;
+use crate::written_files::VenueFiles;
 use audit_trail::Files;
 use gateway::closing::Closed;
 use head_log::{Head, HeadKeeper, HeadReport, Newest};
@@ -37,7 +39,7 @@ use std::time::Clock;
 use tcp_line::{ServedLine, StopSource};
 use trail_journal::{Journal, start_trail};
 use venue_core::Venue;
-use venue_rules::TrailFault;
+use venue_rules::{Keep, TrailFault};
 
 /// As `serve`, with the rows in a trail: begins where the rows of the database's trail lead, a trail of these files, or
 /// makes an empty trail where the database lists nothing. Each row is committed before the venue acts on it. As the
@@ -56,7 +58,7 @@ pub fn serve_recorded<
     S: Alter + Drop,
     E: StopSource + Drop,
     N: Write + Send + Drop + 'static,
-    M: MetricsSink + Send + Drop + 'static,
+    M: VenueFiles + Send + Drop + 'static,
     H: Write + Drop,
     W: Write,
 >(
@@ -74,7 +76,7 @@ pub fn serve_recorded<
     ensures silent { IfErr result (λ failure. UnlessEmitting failure (Keeps (W.contents output.old) (W.contents output.new))) }
     ensures fault { IfErr result IsRecordingFailure }
 {
-    let (journal, venue) = begin(alloc, conn, files, market)?;
+    let (journal, venue) = begin_in_time(rt, alloc, conn, files, market)?;
     let (keeper, heads) = match with_heads(alloc, journal, files, &venue, heads) {
         Ok(kept) => kept,
         Err(fault) => {
@@ -82,14 +84,15 @@ pub fn serve_recorded<
             return Err(Failure::Served(fault));
         }
     };
+    let measuring = MeasuredKeeper::new(keeper, *rt, &operator.rows);
     let (closed, heads) = match serve_journal(
-        rt, alloc, *rt, keeper, venue, service, operator, heads,
+        rt, alloc, *rt, measuring, venue, service, operator, heads,
     ) {
         Ok(ended) => ended,
         Err(fault) => return Err(Failure::Served(fault)),
     };
     let sessions = closed.sessions.len();
-    let keeper = keeper_of(closed);
+    let keeper = journal_of(closed);
     let has_heads = close_heads(heads, keeper.head());
     let mut journal = keeper.into_journal();
     match emit_read(sessions, &mut journal, output) {
@@ -97,6 +100,30 @@ pub fn serve_recorded<
         Err(fault) => {
             drop(journal);
             Err(Failure::Served(fault))
+        }
+    }
+}
+
+/// The journal of the database's trail, and the venue where its rows lead, once the clock is not behind the last row.
+fn begin_in_time<T: Clock, S: Alter + Drop>(
+    clock: &T,
+    alloc: Global,
+    conn: Connection<S>,
+    files: &Files,
+    market: Market,
+) -> Result<(Journal<S>, Venue), Failure>
+    ensures market { IfOk result (λ r. r.1.market ≡ record { participants = market.participants; instruments = market.instruments }) }
+    ensures leads { IfOk result (λ r. LeadsTo r.0.rows r.1) }
+    ensures began { IfOk result (λ r. Began S.Store files.now (state S.Store conn) r.0) }
+    ensures fault { IfErr result IsRecordingFailure }
+    ensures silent { IfErr result (λ failure. failure ≢ Served Output) }
+{
+    let begun = begin(alloc, conn, files, market)?;
+    match await_clock(clock, begun.0.last().1) {
+        Ok(()) => Ok(begun),
+        Err(fault) => {
+            drop(begun);
+            Err(Failure::Served(ServeFault::Clock(fault)))
         }
     }
 }
@@ -212,24 +239,37 @@ fn serve_journal<
     S: Alter + Drop,
     E: StopSource + Drop,
     N: Write + Send + Drop + 'static,
-    M: MetricsSink + Send + Drop + 'static,
+    M: VenueFiles + Send + Drop + 'static,
     H: Write + Drop,
 >(
     rt: &R,
     alloc: Global,
     clock: T,
-    keeper: HeadKeeper<S>,
+    measured: Measured<S, T>,
     venue: Venue,
     service: Service,
     operator: Operator<E, N, M>,
     heads: Option<HeadReport<H>>,
-) -> Result<(Closed<ServedLine<T>, HeadKeeper<S>>, Option<HeadReport<H>>), ServeFault>
-    requires leads { LeadsTo keeper.journal.rows venue }
-    ensures served { IfOk result (λ r. HasServed service.turns venue.market keeper.journal.rows (closing (map (λ s. s.state) r.0.sessions.items) (map (λ l. l.log) r.0.lines.items) r.0.left.items r.0.replies_left.items r.0.queues.items (standing r.0.venue.day) r.0.keeper.journal.rows true)) }
+) -> Result<(Closed<ServedLine<T>, Measured<S, T>>, Option<HeadReport<H>>), ServeFault>
+    requires leads { LeadsTo measured.keeper.journal.rows venue }
+    ensures served { IfOk result (λ r. HasServed service.turns venue.market measured.keeper.journal.rows true (closing (map (λ s. s.state) r.0.sessions.items) (map (λ l. l.log) r.0.lines.items) r.0.left.items r.0.replies_left.items r.0.queues.items (standing r.0.venue.day) r.0.keeper.keeper.journal.rows true)) }
     ensures fault { IfErr result (λ fault. fault ≢ Output) }
 {
-    serve_over(rt, alloc, clock, venue, keeper, service, operator, heads)
+    serve_over(rt, alloc, clock, venue, measured, service, operator, heads)
 }
+
+/// Keeps of the closed venue its journal alone.
+fn journal_of<T: Clock + Drop, S: Alter + Drop>(
+    closed: Closed<ServedLine<T>, Measured<S, T>>,
+) -> HeadKeeper<S>
+    ensures { result ≡ closed.keeper.keeper }
+{
+    let measured = keeper_of(closed);
+    measured.into_keeper()
+}
+
+/// A journal with heads that is measured.
+type Measured<S, T> = MeasuredKeeper<HeadKeeper<S>, T>;
 
 /// Reads the rows back, and writes how many sessions were served and how many of the rows are messages.
 fn emit_read<S: Alter + Drop, W: Write>(

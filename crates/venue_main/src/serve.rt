@@ -1,6 +1,6 @@
 //! The `serve` command: each participant's session over TCP.
 
-ghost use Rattle.std.specs.Prelude.{◌≡◌, ◌≢◌, ◌+◌, ℕ, List, [], IfErr, IfOk, OnOk, length, map, true};
+ghost use Rattle.std.specs.Prelude.{◌≡◌, ◌≢◌, ◌+◌, ℕ, List, [], IfErr, IfOk, OnOk, length, map, true, false};
 ghost use Rattle.std.specs.Io.KnownBytes.{Appends, Keeps};
 ghost use Rattle.std.specs.List.{count_by};
 ghost use Rattle.venue_runtime.specs.Closing.{closing};
@@ -10,10 +10,12 @@ ghost use Rattle.venue_main.specs.Failures.{run_fault};
 ghost use Rattle.venue_main.specs.declared.serve.ServeFault.TheVariants.{Memory, Output};
 
 use crate::market::Market;
-use crate::metrics_file::MetricsSink;
+use crate::ports::NetworkFault;
 use crate::reporting::Operator;
 use crate::service::Service;
 use crate::serving::{keeper_of, serve_over};
+use crate::starting_clock::ClockFault;
+use crate::written_files::VenueFiles;
 use gateway::closing::Closed;
 use gateway::threads::RunFault;
 use head_log::HeadReport;
@@ -43,14 +45,17 @@ pub enum ServeFault {
     #[error("trail")]
     Trail,
     /// 4: a port is taken, or the system made no socket.
-    #[error("network")]
-    Network,
+    #[error("network\n  {0}")]
+    Network(NetworkFault),
     /// 5: no thread could be made.
     #[error("thread")]
     Thread,
     /// 6: the file of heads cannot be opened, or a line was not written.
     #[error("heads")]
     Heads,
+    /// 7: the clock is behind the last row of the trail.
+    #[error("clock\n  {0}")]
+    Clock(ClockFault),
 }
 
 impl From<AllocError> for ServeFault {
@@ -90,7 +95,7 @@ pub fn serve<
         + 'static,
     E: StopSource + Drop,
     N: Write + Send + Drop + 'static,
-    M: MetricsSink + Send + Drop + 'static,
+    M: VenueFiles + Send + Drop + 'static,
     W: Write,
 >(
     rt: &R,
@@ -118,7 +123,7 @@ fn serve_in_memory<
     T: Clock + Copy + Send + Drop + 'static,
     E: StopSource + Drop,
     N: Write + Send + Drop + 'static,
-    M: MetricsSink + Send + Drop + 'static,
+    M: VenueFiles + Send + Drop + 'static,
 >(
     rt: &R,
     alloc: Global,
@@ -127,7 +132,7 @@ fn serve_in_memory<
     service: Service,
     operator: Operator<E, N, M>,
 ) -> Result<Closed<ServedLine<T>, ListTrail>, ServeFault>
-    ensures served { IfOk result (λ c. HasServed service.turns (record { participants = market.participants; instruments = market.instruments }) [] (closing (map (λ s. s.state) c.sessions.items) (map (λ l. l.log) c.lines.items) c.left.items c.replies_left.items c.queues.items (standing c.venue.day) c.keeper.rows true)) }
+    ensures served { IfOk result (λ c. HasServed service.turns (record { participants = market.participants; instruments = market.instruments }) [] false (closing (map (λ s. s.state) c.sessions.items) (map (λ l. l.log) c.lines.items) c.left.items c.replies_left.items c.queues.items (standing c.venue.day) c.keeper.rows true)) }
     ensures fault { IfErr result (λ fault. fault ≢ Output) }
 {
     let venue = Venue::open(alloc, market.participants, market.instruments)?;

@@ -11,7 +11,8 @@ use crate::operation::{KeptPaths, Operation};
 use crate::refused::Refused;
 use crate::service::Service;
 use crate::trail_file::open_trail;
-use audit_trail::{FileText, Files};
+use crate::trail_place::TrailPlace;
+use audit_trail::Files;
 use sqlite::{Connection, File, FileStore};
 use std::fs::File as SystemFile;
 
@@ -30,6 +31,7 @@ pub struct StoredTrail {
     pub conn: Connection<FileStore<File>>,
     pub files: Files,
     pub heads: Option<HeadsOut<SystemFile>>,
+    pub place: TrailPlace,
 }
 
 /// The market of two files, and, where its rows are to be stored at a path, the database there with these files, and
@@ -59,9 +61,9 @@ pub fn asked_for(
             kept,
             operation,
         }),
-        Err(failure) => {
+        Err(refused) => {
             drop(market);
-            Err(Refused::from(failure))
+            Err(refused)
         }
     }
 }
@@ -71,14 +73,14 @@ fn kept_for(
     rt: &HostRuntime,
     texts: Texts,
     paths: KeptPaths,
-) -> Result<Option<StoredTrail>, Failure>
+) -> Result<Option<StoredTrail>, Refused>
     ensures stored { IfOk result (λ found. is_some found ≡ is_some paths.trail) }
     ensures heads { IfOk result (λ found. IfSome found (λ kept. is_some kept.heads ≡ is_some paths.heads)) }
     ensures files { IfOk result (λ found. IfSome found (λ kept. kept.files ≡ record { participants = texts.participants.items; instruments = texts.instruments.items })) }
 {
     let KeptPaths { trail, heads } = paths;
     match trail {
-        Some(path) => Ok(Some(kept_at(rt, &path, heads, texts)?)),
+        Some(path) => Ok(Some(kept_at(rt, &path, &heads, texts)?)),
         None => Ok(None),
     }
 }
@@ -86,22 +88,24 @@ fn kept_for(
 fn kept_at(
     rt: &HostRuntime,
     path: &str,
-    heads: Option<String>,
+    heads: &Option<String>,
     texts: Texts,
-) -> Result<StoredTrail, Failure>
-    ensures heads { IfOk result (λ kept. is_some kept.heads ≡ is_some heads) }
+) -> Result<StoredTrail, Refused>
+    ensures heads { IfOk result (λ kept. is_some kept.heads ≡ is_some heads.now) }
     ensures files { IfOk result (λ kept. kept.files ≡ record { participants = texts.participants.items; instruments = texts.instruments.items }) }
 {
-    let conn = open_trail(rt, path)?;
-    let files = Files {
-        participants: FileText::from_vec(texts.participants),
-        instruments: FileText::from_vec(texts.instruments),
-    };
+    let (conn, place) = open_trail(rt, path)?;
+    let files = texts.into_files();
     match open_heads(rt, heads) {
-        Ok(heads) => Ok(StoredTrail { conn, files, heads }),
+        Ok(heads) => Ok(StoredTrail {
+            conn,
+            files,
+            heads,
+            place,
+        }),
         Err(failure) => {
             drop(conn);
-            Err(failure)
+            Err(Refused::from(failure))
         }
     }
 }

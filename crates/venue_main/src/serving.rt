@@ -6,13 +6,16 @@ ghost use Rattle.venue_core.specs.VenueFacts.{IsHistory};
 ghost use Rattle.venue_core.specs.State.{standing};
 ghost use Rattle.venue_rules.specs.Run.{Input, rows, run};
 ghost use Rattle.venue_worker.specs.Inputs.{AreRising};
-ghost use Rattle.venue_main.specs.Serve.{HasServed, place_line, place_lines};
+ghost use Rattle.venue_main.specs.Serve.{HasServed, place_line, place_lines, with_loss};
 ghost use Rattle.venue_main.specs.declared.serve.ServeFault.TheVariants.{Output};
 
-use crate::metrics_file::MetricsSink;
-use crate::reporting::{Operator, Reporter, Reporting, end_reporting, log_of, start_reporting};
+use crate::ports::NetworkFault;
+use crate::reporting::{
+    Operator, Outside, Reporter, Reporting, end_reporting, log_of, start_reporting,
+};
 use crate::serve::ServeFault;
 use crate::service::Service;
+use crate::written_files::VenueFiles;
 use event_log::append;
 use gateway::closing::Closed;
 use gateway::threads::RunFault;
@@ -20,7 +23,7 @@ use head_log::{HeadClock, HeadReport, Trouble};
 use itoa::Buffer;
 use participants::{Participants, Who};
 use std::alloc::{AllocError, Global};
-use std::io::{ErrorKind, Write};
+use std::io::{Error, ErrorKind, Write};
 use std::mem::drop;
 use std::net::{Net, TcpListener, TcpStream};
 use std::sync::{Arc, Wait};
@@ -42,7 +45,7 @@ pub(crate) fn serve_over<
     K: Keep + Drop,
     E: StopSource + Drop,
     N: Write + Send + Drop + 'static,
-    M: MetricsSink + Send + Drop + 'static,
+    M: VenueFiles + Send + Drop + 'static,
     H: Write + Drop,
 >(
     rt: &R,
@@ -57,25 +60,26 @@ pub(crate) fn serve_over<
     requires clean { K.is_clean keeper ≡ true }
     requires history { (before : List Input) × (K.rows keeper ≡ rows before) × (length before ≤ 10 ^ 15) × IsHistory venue (run venue.market before).history × AreRising before }
     requires items { venue.items ≤ length (K.rows keeper) }
-    ensures served { IfOk result (λ r. HasServed service.turns venue.market (K.rows keeper) (closing (map (λ s. s.state) r.0.sessions.items) (map (λ l. l.log) r.0.lines.items) r.0.left.items r.0.replies_left.items r.0.queues.items (standing r.0.venue.day) (K.rows r.0.keeper) (K.is_clean r.0.keeper))) }
+    ensures served { IfOk result (λ r. HasServed service.turns venue.market (K.rows keeper) (K.outlives keeper) (closing (map (λ s. s.state) r.0.sessions.items) (map (λ l. l.log) r.0.lines.items) r.0.left.items r.0.replies_left.items r.0.queues.items (standing r.0.venue.day) (K.rows r.0.keeper) (K.is_clean r.0.keeper))) }
     ensures fault { IfErr result (λ fault. fault ≢ Output) }
 {
     let count = count_of(venue.participants());
     let port = service.port();
     let Operator {
         stop,
-        mut notes,
-        metrics,
+        notes,
+        files,
+        rows,
     } = operator;
+    let outside = Outside { notes, files, rows };
     let opened = match open_lines(rt, alloc, clock, port, count, stop) {
         Ok(opened) => opened,
         Err(error) => {
             // (A call drops a venue here and below: otherwise a proof sees the drop of each part at each place.)
             drop(venue);
-            drop(notes);
-            drop(metrics);
+            drop(outside);
             drop(heads);
-            return Err(fault_of(error.kind()));
+            return Err(network_fault(rt, port, count, &error));
         }
     };
     let VenueIo {
@@ -84,10 +88,11 @@ pub(crate) fn serve_over<
         events,
     } = opened;
     let turns = service.turns();
-    let announced = announce(alloc, venue.participants(), count, port, &mut notes);
-    let trouble = trouble_of(&heads);
-    let reporter = reporter_of(alloc, &venue, events, turns, clock, notes, metrics, trouble);
-    let Ok(reporting) = begin_reporting(rt, alloc, announced, reporter) else {
+    let is_kept = keeper.outlives();
+    let begun = begin_report(
+        rt, alloc, &venue, service, is_kept, events, clock, outside, &heads,
+    );
+    let Ok(reporting) = begun else {
         drop(sessions);
         drop(worker);
         drop(venue);
@@ -104,52 +109,50 @@ pub(crate) fn serve_over<
     }
 }
 
+/// Announces a venue whose lines are open, and starts its report.
+fn begin_report<
+    R: Threads,
+    T: Clock + Send + Drop + 'static,
+    N: Write + Send + Drop + 'static,
+    M: VenueFiles + Send + Drop + 'static,
+    H: Write + Drop,
+>(
+    rt: &R,
+    alloc: Global,
+    venue: &Venue,
+    service: Service,
+    is_kept: bool,
+    events: Vec<EventReceiver>,
+    clock: T,
+    mut outside: Outside<N, M>,
+    heads: &Option<HeadReport<H>>,
+) -> Result<Option<Reporting<T, N, M>>, AllocError> {
+    let participants = venue.participants();
+    let count = count_of(participants);
+    announce(
+        alloc,
+        participants,
+        count,
+        service.port(),
+        is_kept,
+        &mut outside.notes,
+    )?;
+    let trouble = trouble_of(heads)?;
+    match log_of(alloc, participants, events, service.turns())? {
+        Some(log) => {
+            let reporter = Reporter::new(alloc, log, clock, outside, trouble);
+            start_reporting(rt, alloc, reporter)
+        }
+        None => Ok(None),
+    }
+}
+
 /// Whether a head could not be written, where heads are wanted.
 fn trouble_of<H: Write + Drop>(
     heads: &Option<HeadReport<H>>,
 ) -> Result<Option<Arc<Trouble>>, AllocError> {
     match heads {
         Some(report) => Ok(Some(report.trouble()?)),
-        None => Ok(None),
-    }
-}
-
-/// What reports the events of this venue.
-fn reporter_of<T: Clock + Drop, N: Write + Drop, M: MetricsSink + Drop>(
-    alloc: Global,
-    venue: &Venue,
-    events: Vec<EventReceiver>,
-    turns: u64,
-    clock: T,
-    notes: N,
-    metrics: M,
-    trouble: Result<Option<Arc<Trouble>>, AllocError>,
-) -> Result<Option<Reporter<T, N, M>>, AllocError> {
-    let trouble = trouble?;
-    match log_of(alloc, venue.participants(), events, turns)? {
-        Some(log) => Ok(Some(Reporter::new(alloc, log, clock, notes, metrics, trouble))),
-        None => Ok(None),
-    }
-}
-
-/// Starts the report of a venue that was announced.
-fn begin_reporting<
-    R: Threads,
-    T: Clock + Send + Drop + 'static,
-    N: Write + Send + Drop + 'static,
-    M: MetricsSink + Send + Drop + 'static,
->(
-    rt: &R,
-    alloc: Global,
-    announced: Result<(), AllocError>,
-    reporter: Result<Option<Reporter<T, N, M>>, AllocError>,
-) -> Result<Option<Reporting<T, N, M>>, AllocError> {
-    if announced.is_err() {
-        drop(reporter);
-        return Err(AllocError);
-    }
-    match reporter? {
-        Some(reporter) => start_reporting(rt, alloc, reporter),
         None => Ok(None),
     }
 }
@@ -162,19 +165,21 @@ fn count_of(participants: &Participants) -> u16
     participants.len() as u16
 }
 
-/// Writes who listens where, one line each. A venue is served also where these lines cannot be written, but not where
-/// an allocation for them failed.
+/// Writes who listens where, one line each, and a line where the rows are not kept. A venue is served also where these
+/// lines cannot be written, but not where an allocation for them failed.
 fn announce<N: Write>(
     alloc: Global,
     participants: &Participants,
     count: u16,
     port: u16,
+    is_kept: bool,
     notes: &mut N,
 ) -> Result<(), AllocError>
     requires count { count ≡ length participants.now.names }
     requires ports { port + count ≤ 2 ^ 16 }
 {
-    let text = announcement(alloc, participants, count, port)?;
+    let mut text = announcement(alloc, participants, count, port)?;
+    append_loss(&mut text, is_kept)?;
     let _ = notes.write_all(&text);
     let _ = notes.flush();
     Ok(())
@@ -215,6 +220,19 @@ fn append_place(text: &mut Vec<u8>, name: &[u8], port: u16) -> Result<(), AllocE
     )
 }
 
+/// Appends the line of a venue whose rows are not kept.
+fn append_loss(text: &mut Vec<u8>, is_kept: bool) -> Result<(), AllocError>
+    ensures { OnOk result (text.new.items ≡ with_loss is_kept text.old.items) }
+{
+    if is_kept {
+        return Ok(());
+    }
+    append(
+        text,
+        &[b"venue_main: no trail: orders and session numbers end with this process\n"],
+    )
+}
+
 /// Runs a venue on lines over TCP, and gives the report of heads back.
 fn run_lines<
     R: Threads + Wait + Sync,
@@ -235,7 +253,7 @@ fn run_lines<
     requires clean { K.is_clean keeper ≡ true }
     requires history { (before : List Input) × (K.rows keeper ≡ rows before) × (length before ≤ 10 ^ 15) × IsHistory venue (run venue.market before).history × AreRising before }
     requires items { venue.items ≤ length (K.rows keeper) }
-    ensures { IfOk result (λ r. HasServed turns venue.market (K.rows keeper) (closing (map (λ s. s.state) r.0.sessions.items) (map (λ l. l.log) r.0.lines.items) r.0.left.items r.0.replies_left.items r.0.queues.items (standing r.0.venue.day) (K.rows r.0.keeper) (K.is_clean r.0.keeper))) }
+    ensures { IfOk result (λ r. HasServed turns venue.market (K.rows keeper) (K.outlives keeper) (closing (map (λ s. s.state) r.0.sessions.items) (map (λ l. l.log) r.0.lines.items) r.0.left.items r.0.replies_left.items r.0.queues.items (standing r.0.venue.day) (K.rows r.0.keeper) (K.is_clean r.0.keeper))) }
 {
     let (closed, clock) = run_venue(rt, alloc, venue, keeper, lines, clock, turns)?;
     Ok((closed, clock.into_report()))
@@ -263,11 +281,18 @@ pub(crate) fn keeper_of<T: Clock + Drop, K: Keep + Drop>(closed: Closed<ServedLi
     keeper
 }
 
-fn fault_of(kind: ErrorKind) -> ServeFault
+/// The fault of a venue whose lines were not opened.
+fn network_fault<R: Net<Listener = TcpListener, Stream = TcpStream>>(
+    rt: &R,
+    port: u16,
+    count: u16,
+    error: &Error,
+) -> ServeFault
+    requires ports { port + count ≤ 2 ^ 16 }
     ensures { result ≢ Output }
 {
-    match kind {
+    match error.kind() {
         ErrorKind::OutOfMemory => ServeFault::Memory,
-        _ => ServeFault::Network,
+        _ => ServeFault::Network(NetworkFault::at(rt, port, count, error)),
     }
 }

@@ -7,12 +7,14 @@ ghost use Rattle.venue_main.specs.declared.serve.ServeFault.TheVariants.{Trail};
 
 use crate::failure::Failure;
 use crate::once::OnceFault;
+use crate::refused::Refused;
 use crate::serve::ServeFault;
+use crate::trail_place::TrailPlace;
 use program_shell::{TrailEnd, may_be_database};
 use sqlite::{Connection, Error as StoreError, ErrorCode, File, FileStore};
 use std::alloc::Global;
 use std::fs::{self, File as SystemFile, OpenOptions};
-use std::io::{self, ErrorKind, Read, Write};
+use std::io::{self, ErrorKind, Write};
 
 /// The bytes of the probe at a time, and how often: together more than the log's pages of a row.
 const PROBE_BLOCK: usize = 4_096;
@@ -22,21 +24,51 @@ const PROBE_BLOCKS: usize = 32;
 /// Opens the file at a path as a database, or makes one where there is none. The file is checked first, so that none
 /// that is no database is touched, and then that it and its folder can be written: nobody is served whose first message
 /// could not be stored.
-pub fn open_trail(rt: &HostRuntime, path: &str) -> Result<Connection<FileStore<File>>, Failure> {
+pub fn open_trail(
+    rt: &HostRuntime,
+    path: &str,
+) -> Result<(Connection<FileStore<File>>, TrailPlace), Refused> {
     refuse_non_database(rt, path)?;
     refuse_unwritable(rt, path)?;
+    let conn = match Connection::open(rt, path) {
+        Ok(conn) => conn,
+        Err(error) => return Err(Refused::from(Failure::from(TrailEnd::from(error)))),
+    };
+    match TrailPlace::of(rt, rt.alloc(), path) {
+        Ok(place) => Ok((conn, place)),
+        Err(_) => {
+            drop(conn);
+            Err(Refused::from(Failure::Stopped(OnceFault::Memory)))
+        }
+    }
+}
+
+/// Opens the database at a path, which is there, to read it.
+pub fn open_kept(rt: &HostRuntime, path: &str) -> Result<Connection<FileStore<File>>, Refused> {
+    match fs::metadata(rt, path) {
+        Ok(_) => {}
+        Err(error) => return Err(Refused::of_file(rt.alloc(), path, &error)),
+    }
+    refuse_non_database(rt, path)?;
     match Connection::open(rt, path) {
         Ok(conn) => Ok(conn),
-        Err(error) => Err(Failure::from(TrailEnd::from(error))),
+        Err(error) => Err(Refused::from(Failure::from(TrailEnd::from(error)))),
     }
 }
 
 /// Closes the database of a trail: its log is copied into the file, which then has all rows. A served trail is not
-/// refused here: where the log is not copied the disk failed.
-pub fn close_trail(conn: Connection<FileStore<File>>) -> Result<(), Failure>
+/// refused here: where the log is not copied the disk failed. A trail whose file is no longer at its path is closed as
+/// well, and is a failure.
+pub fn close_trail(
+    rt: &HostRuntime,
+    conn: Connection<FileStore<File>>,
+    place: &TrailPlace,
+) -> Result<(), Failure>
     ensures { IfErr result (λ failure. (failure ≡ Stopped Memory) ⊎ (failure ≡ Served Trail)) }
 {
+    let is_left = place.is_left(rt);
     match conn.close() {
+        Ok(()) if is_left => Err(Failure::Served(ServeFault::Trail)),
         Ok(()) => Ok(()),
         Err(StoreError::SqliteFailure(ErrorCode::OutOfMemory)) => Err(Failure::Stopped(
             OnceFault::Memory,
@@ -47,28 +79,17 @@ pub fn close_trail(conn: Connection<FileStore<File>>) -> Result<(), Failure>
 
 /// Refuses a file that is no database: opened as one it could become one. `Input` where the file exists and cannot be
 /// read.
-fn refuse_non_database(rt: &HostRuntime, path: &str) -> Result<(), Failure> {
+fn refuse_non_database(rt: &HostRuntime, path: &str) -> Result<(), Refused> {
     match fs::open(rt, path) {
-        Ok(file) => refuse_other_bytes(rt.alloc(), file),
+        Ok(file) => match may_be_database(rt.alloc(), file) {
+            Ok(true) => Ok(()),
+            Ok(false) => Err(Refused::from(Failure::Trail(1))),
+            Err(error) => Err(Refused::of_file(rt.alloc(), path, &error)),
+        },
         Err(error) => match error.kind() {
             ErrorKind::NotFound => Ok(()),
-            kind => Err(failure_of(kind)),
+            _ => Err(Refused::of_file(rt.alloc(), path, &error)),
         },
-    }
-}
-
-fn refuse_other_bytes<R: Read + Drop>(alloc: Global, file: R) -> Result<(), Failure> {
-    match may_be_database(alloc, file) {
-        Ok(true) => Ok(()),
-        Ok(false) => Err(Failure::Trail(1)),
-        Err(error) => Err(failure_of(error.kind())),
-    }
-}
-
-fn failure_of(kind: ErrorKind) -> Failure {
-    match kind {
-        ErrorKind::OutOfMemory => Failure::Stopped(OnceFault::Memory),
-        _ => Failure::Stopped(OnceFault::Input),
     }
 }
 

@@ -15,9 +15,9 @@ returns-in-Ok-emit_read-clause-emitted g c =
     let read = c.in-Ok-emit_read.ensures in
     let sessions = ended.ended.0.sessions in
     let long : length sessions.items ≡ c.len-sessions.result = omega (arith, c.len-sessions.ensures, sessions.ok.0) in
-    let served = served_of c.args.service.turns _ _ _ _ _ refl c.in-Ok.ensures.rows ended.ensures.served in
+    let served = served_of c.args.service.turns _ _ _ _ _ _ refl (ap (λ (k : HeadLog g.row.S.Denot). k.journal.rows) c.new-measuring.ensures ∙ c.in-Ok.ensures.rows) ended.ensures.served in
     recorded g.S.Store c.args.service.turns _ _ c.args.files.now _ _ _ begun.journal kept.result c.emit_read.new.journal _ c.len-sessions.result c.into_connection.result
-    begun.ensures.began begun.ensures.market served (length-map sessions.items _ ∙ long) (ap (λ (j : Recording g.row.S.Denot). j.rows) kept.ensures ∙ ap (λ (k : HeadLog g.row.S.Denot). k.journal.rows) c.keeper_of-keeper.ensures) read.same read.shown read.emitted
+    begun.ensures.began begun.ensures.market served (length-map sessions.items _ ∙ long) (ap (λ (j : Recording g.row.S.Denot). j.rows) kept.ensures ∙ ap (λ (k : HeadLog g.row.S.Denot). k.journal.rows) c.journal_of-keeper.ensures) read.same read.shown read.emitted
     c.into_connection.ensures
 
 -- nothing was written
