@@ -10,3 +10,5 @@ pub mod Joining
 pub mod Gaps
 pub mod Missings
 pub mod OneLine
+pub mod Found
+pub mod Aligning

@@ -12,6 +12,7 @@ use Rattle.desk_log.specs.declared.missing.Missing.{Missing}
 use Rattle.desk_log.specs.declared.owed.Owed.{Owed}
 use Rattle.desk_log.specs.Frames.{line_of}
 use Rattle.desk_log.specs.Lines.{TextsAreLines, is_end, is_line}
+use Rattle.desk_log.specs.Listing.{elsewhere_said, owed_said, report_of, report_said, what_said}
 use Rattle.desk_log.specs.Naming.{field, kind_words, named_of}
 use Rattle.desk_log.specs.Numbered.{Logged, text_at}
 use Rattle.desk_log.specs.Parts.{joined}
@@ -172,5 +173,32 @@ missing_is owed m o = by (many_in m == 1)
     by true = one_is m (described owed false o) (described_ok owed false o)
     by false = many_is m (m.next - 1) (described owed true o) (described_ok owed true o)
 
+-- messages that are owed and are not in the log
+
+ok_joined : (ts : List (List ℕ)) → AreOk ts → ok (joined ts) ≡ true
+ok_joined [] h = refl
+ok_joined (t ∷ ts) h = ok_append t (joined ts) h.0 (ok_joined ts h.1)
+
+report_ok : (report : List ℕ) → ok (report_of report) ≡ true
+report_ok [] = refl
+report_ok (b ∷ bs) = ok_append (codes ", ") (readable (b ∷ bs)) refl (readable_ok (b ∷ bs))
+
+what_ok : (text : List ℕ) → ok (what_said text) ≡ true
+what_ok text =
+    let kind = field (codes "35=") text in
+    ok_append (kind_words kind) (readable (named_of kind text)) (kind_ok kind) (readable_ok (named_of kind text))
+
+elsewhere_ok : (log : List ℕ) (l : Option Logged) → ok (elsewhere_said log l) ≡ true
+elsewhere_ok log None = refl
+elsewhere_ok log (Some l) =
+    ok_joined (codes ", in the log out of order, as number " ∷ decimal l.0.number ∷ codes " of era " ∷ decimal l.0.era ∷ codes ", line " ∷ decimal (line_of l.1.start log) ∷ [])
+    (refl, (decimal_ok l.0.number, (refl, (decimal_ok l.0.era, (refl, (decimal_ok (line_of l.1.start log), tt))))))
+
+listed_is : (log : List ℕ) (at many : ℕ) (o : Owed) (l : Option Logged) → is_line (owed_said log at many o l) ≡ true
+listed_is log at many o l =
+    let text = o.text.items in
+    is_one (codes "    " ∷ decimal (at + 1) ∷ codes " of " ∷ decimal many ∷ codes ", row " ∷ decimal o.row ∷ report_said text ∷ codes ", " ∷ what_said text ∷ elsewhere_said log l ∷ codes ": " ∷ readable text ∷ [])
+    (refl, (decimal_ok (at + 1), (refl, (decimal_ok many, (refl, (decimal_ok o.row, (report_ok (field (codes "17=") text), (refl, (what_ok text, (elsewhere_ok log l, (refl, (readable_ok text, tt))))))))))))
+
 pub texts_are_lines : TextsAreLines
-texts_are_lines = (logged_is, text_is, owed_is, missing_is)
+texts_are_lines = (logged_is, text_is, owed_is, missing_is, listed_is)

@@ -6,8 +6,10 @@ pub mod Numbered
 pub mod Once
 pub mod Comparing
 pub mod Missing
+pub mod Absent
 pub mod Parts
 pub mod Naming
+pub mod Listing
 pub mod Report
 pub mod Lines
 pub mod Reading

@@ -4,6 +4,7 @@ use Rattle.std.specs.Prelude.{◌≡◌, ℕ, ◌==◌, ◌&&◌, ◌||◌, Bool
 use Rattle.desk_log.specs.declared.frames.Span.{Span}
 use Rattle.desk_log.specs.declared.missing.Missing.{Missing}
 use Rattle.desk_log.specs.declared.owed.Owed.{Owed}
+use Rattle.desk_log.specs.Listing.{owed_said}
 use Rattle.desk_log.specs.Numbered.{Logged}
 use Rattle.desk_log.specs.Report.{logged_line, missing_line, owed_row, text_line}
 
@@ -21,3 +22,4 @@ TextsAreLines = ((log : List ℕ) (l : Logged) → is_line (logged_line log l) �
     × ((log : List ℕ) (s : Span) → is_line (text_line log s) ≡ true)
     × ((o : Owed) → is_line (owed_row o) ≡ true)
     × ((owed : Bool) (m : Missing) (o : Option Owed) → is_line (missing_line owed m o) ≡ true)
+    × ((log : List ℕ) (at many : ℕ) (o : Owed) (l : Option Logged) → is_line (owed_said log at many o l) ≡ true)

@@ -38,6 +38,7 @@ use Rattle.desk_log.specs.declared.owed.Owed.{Owed}
 use Rattle.desk_log.specs.declared.reading.Reading.{Reading}
 use Rattle.desk_log.specs.Frames.{line_of}
 use Rattle.desk_log.specs.Comparing.{is_owed}
+use Rattle.desk_log.specs.Listing.{listing}
 use Rattle.desk_log.specs.Missing.{gaps_between, is_era, place_from}
 use Rattle.desk_log.specs.Naming.{field, kind_words, named_of}
 use Rattle.desk_log.specs.Numbered.{Logged, text_at}
@@ -210,8 +211,8 @@ messages_said logged once passed =
 abbrev pub counts_line : (from to : List ℕ) → Reading → List ℕ
 counts_line from to r = frames_said from to r.bodies (length r.frames.items) ++ messages_said (length r.logged.items) (length r.once.items) r.outside
 
--- the comparison, and below it what was read
+-- the comparison, what is owed and not in the log, and below it what was read
 abbrev pub report : (from to log : List ℕ) → Compared → List Owed → Reading → List ℕ
 report from to log c owed r =
     said c.comparison r.conflict c.count log to owed r.frames.items r.once.items
-    ++ (counts_line from to r ++ broken_line log r.broken)
+    ++ (listing c.comparison log r.once.items owed ++ (counts_line from to r ++ broken_line log r.broken))

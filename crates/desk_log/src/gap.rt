@@ -210,7 +210,7 @@ fn append_missing(
     }
 }
 
-fn rest_of(owed: &[Owed], count: usize) -> &[Owed]
+pub(crate) fn rest_of(owed: &[Owed], count: usize) -> &[Owed]
     ensures { result.now ≡ drop count owed.now }
 {
     match owed.get(count..) {

@@ -1,5 +1,6 @@
 //! What every reading of a log keeps.
 
+ghost use Rattle.desk_log.specs.Absent.{FoundAreThere, NoneIsLeft, PartIsFound};
 ghost use Rattle.desk_log.specs.Lines.{TextsAreLines};
 ghost use Rattle.desk_log.specs.Missing.{GapsAreMissing, MissingAreMissing};
 
@@ -13,4 +14,12 @@ pub fn missing_are_missing()
 /// What is printed of the bytes of a log, and of a message that is owed, is one line, whatever these bytes are.
 pub fn texts_are_lines()
     ensures { TextsAreLines }
+{}
+
+/// What is said to be in a log is there, in order, and each message of the log is one of these or left over: all are,
+/// where the log has nothing else. Where no message that is left over is named, none has the text.
+pub fn found_are_there()
+    ensures found { FoundAreThere }
+    ensures part { PartIsFound }
+    ensures left { NoneIsLeft }
 {}

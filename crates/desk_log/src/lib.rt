@@ -1,12 +1,14 @@
 //! A desk's own FIX log against what the rows of a trail owe it.
 #![tactic(auto)]
 
+mod absent;
 mod bodies;
 mod comparing;
 mod fault;
 mod frames;
 mod gap;
 mod laws;
+mod listing;
 mod missing;
 mod naming;
 mod numbered;
@@ -23,5 +25,5 @@ mod times;
 pub use comparing::Comparison;
 pub use fault::{LogFault, NoLog};
 pub use frames::FrameFault;
-pub use laws::{missing_are_missing, texts_are_lines};
+pub use laws::{found_are_there, missing_are_missing, texts_are_lines};
 pub use printing::print_comparison;

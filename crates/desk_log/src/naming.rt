@@ -5,7 +5,8 @@ ghost use Rattle.desk_log.specs.Naming as specs;
 
 use fix_pieces::first_value;
 
-fn field<'a>(prefix: &[u8], text: &'a [u8]) -> &'a [u8]
+/// The value of a field of a text, or nothing.
+pub(crate) fn field<'a>(prefix: &[u8], text: &'a [u8]) -> &'a [u8]
     ensures { result.now ≡ specs.field prefix.now text.now }
 {
     match first_value(prefix, text) {

@@ -8,6 +8,7 @@ ghost use Rattle.desk_log.specs.Report as specs;
 use crate::comparing::{Compared, Comparison};
 use crate::frames::{BrokenFrame, FrameFault, Span, line_of};
 use crate::gap::{append_gaps, message_at};
+use crate::listing::append_listing;
 use crate::numbered::{Ends, Place, text_at};
 use crate::once::Conflict;
 use crate::owed::Owed;
@@ -510,6 +511,14 @@ pub(crate) fn report(
 {
     let mut text = Vec::new(alloc);
     append_said(alloc, &mut text, compared, log, ends.to, owed, reading)?;
+    append_listing(
+        alloc,
+        &mut text,
+        compared.comparison,
+        log,
+        &reading.once,
+        owed,
+    )?;
     append_counts(&mut text, ends, reading)?;
     append_broken(&mut text, log, &reading.broken)?;
     Ok(text)

@@ -84,3 +84,12 @@ sent_words (Some fault) said = []
 abbrev pub words_of_body : Result (List Entry) FieldFault → List ℕ
 words_of_body (Ok fields) = sent_words (fault_in fields) (message_in fields).body
 words_of_body (Err fault) = []
+
+-- the fault of a body, by the tables or for a piece that is no field
+abbrev pub first_fault : Option DictFault → List ℕ
+first_fault None = []
+first_fault (Some fault) = fault_line fault
+
+abbrev pub body_fault : Result (List Entry) FieldFault → List ℕ
+body_fault (Ok fields) = first_fault (fault_in fields)
+body_fault (Err fault) = piece_line fault

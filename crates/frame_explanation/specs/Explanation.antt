@@ -13,6 +13,7 @@ use Rattle.frame_explanation.specs.declared.log_items.Heard.{Heard}
 use Rattle.frame_explanation.specs.Frames.{found_in, separated}
 use Rattle.frame_explanation.specs.Hearing.{HearsAll, item_of}
 use Rattle.frame_explanation.specs.Listing.{items, seen}
+use Rattle.frame_explanation.specs.Summary.{summary}
 use Rattle.frame_explanation.specs.Text.{head, heard_text}
 
 -- A new world of this market heard what is listed, one after another; each session's answer and what each participant
@@ -32,7 +33,7 @@ pub record IsOf (m : Market) (names : ParticipantFile) (log : List ℕ) (heard :
 
 -- the text of it
 abbrev pub explanation : Reader → ParticipantFile → List ℕ → List Heard → List ℕ
-explanation r names log heard = head (length log) (found_in log) ++ flat_map (heard_text r names) heard
+explanation r names log heard = head (length log) (found_in log) ++ (summary r names heard ++ flat_map (heard_text r names) heard)
 
 -- the text explains the log
 pub record Explains (m : Market) (names : ParticipantFile) (log text : List ℕ) : Type 0 where

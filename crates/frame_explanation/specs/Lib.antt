@@ -2,6 +2,9 @@
 pub mod Explanation
 -- its text
 pub mod Text
+pub mod Summary
+pub mod Falls
+pub mod Ignored
 pub mod Bodies
 pub mod Broken
 pub mod Names

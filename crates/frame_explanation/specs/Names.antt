@@ -16,3 +16,18 @@ kind_name code = or_else (name_among session_types code) (or_else (name_among ap
 
 abbrev pub field_name : ℕ → List ℕ
 field_name tag = or_else (name_of tag) (codes "no field of the venue")
+
+-- the names of fields that change what an order means, and that the venue does not read
+abbrev pub order_name : ℕ → List ℕ
+order_name tag =
+    if tag == 1 then codes "Account" else (
+    if tag == 18 then codes "ExecInst" else (
+    if tag == 110 then codes "MinQty" else (
+    if tag == 111 then codes "MaxFloor" else (
+    if tag == 210 then codes "MaxShow" else (
+    if tag == 432 then codes "ExpireDate" else (
+    if tag == 582 then codes "CustOrderCapacity" else (
+    if tag == 1138 then codes "DisplayQty" else [])))))))
+
+abbrev pub ignored_name : ℕ → List ℕ
+ignored_name tag = or_else (order_name tag) (field_name tag)

@@ -56,6 +56,7 @@ why_words why.PeerLogout = codes "the participant logs out"
 why_words why.Silent = codes "a TestRequest was not answered"
 why_words why.NumbersSpent = codes "the sequence numbers are used up"
 why_words why.Reset = codes "141=Y with 43=Y, with a 34 other than 1, or for one era too many"
+why_words why.NumbersRestarted = codes "the venue's process numbers this session from 1, and 34 is above: log on with 141=Y"
 
 -- the CompIDs of a line
 abbrev pub ids_line : ParticipantFile → ℕ → List ℕ
@@ -71,6 +72,7 @@ ids_if names who why.PeerLogout = []
 ids_if names who why.Silent = []
 ids_if names who why.NumbersSpent = []
 ids_if names who why.Reset = []
+ids_if names who why.NumbersRestarted = []
 
 -- why nothing is read: the length of the body, or the connection's end
 abbrev pub unread_line : ℕ → List ℕ

@@ -232,6 +232,46 @@ pub(crate) fn append_body(
     }
 }
 
+fn line_of_fault(alloc: Global, fault: DictFault) -> Result<Vec<u8>, AllocError>
+    ensures line { IfOk result (λ text. text.items ≡ bodies.fault_line fault) }
+    ensures real { OnOk result (fault ≢ DictFault.NoMemory) }
+{
+    let mut line = Vec::new(alloc);
+    append_fault(&mut line, fault)?;
+    Ok(line)
+}
+
+fn line_of_piece(alloc: Global, fault: FieldFault) -> Result<Vec<u8>, AllocError>
+    ensures line { IfOk result (λ text. text.items ≡ bodies.piece_line fault) }
+    ensures real { OnOk result (fault ≢ FieldFault.NoMemory) }
+{
+    let mut line = Vec::new(alloc);
+    append_piece_fault(&mut line, fault)?;
+    Ok(line)
+}
+
+fn fault_of_fields(alloc: Global, fields: &Fields) -> Result<Vec<u8>, AllocError>
+    ensures { IfOk result (λ text. text.items ≡ bodies.first_fault (fault_in fields.now)) }
+{
+    match read_body(alloc, fields) {
+        Ok(_body) => Ok(Vec::new(alloc)),
+        Err(fault) => line_of_fault(alloc, fault),
+    }
+}
+
+/// The line of the fault of a body, if it has one.
+pub(crate) fn body_fault(alloc: Global, body: &[u8]) -> Result<Vec<u8>, AllocError>
+    ensures { (r : Reader) → IfOk result (λ text. text.items ≡ bodies.body_fault (r.fields body.now)) }
+{
+    one_list();
+    one_fault();
+    let mut fields = Fields::new(alloc);
+    match fields.read(body) {
+        Ok(()) => fault_of_fields(alloc, &fields),
+        Err(fault) => line_of_piece(alloc, fault),
+    }
+}
+
 fn no_words(alloc: Global, fault: DictFault) -> Result<Vec<u8>, AllocError>
     ensures empty { IfOk result (λ text. text.items ≡ []) }
     ensures real { OnOk result (fault ≢ DictFault.NoMemory) }

@@ -11,6 +11,7 @@ use crate::frames::{found_in, separated};
 use crate::hearing::hear_all;
 use crate::listing::list_log;
 use crate::log_items::{Heard, LogItem};
+use crate::summary::append_summary;
 use crate::text::{append_all_heard, append_head};
 use instruments::Instruments;
 use participants::Participants;
@@ -64,6 +65,7 @@ fn text_of(
     let mut text = Vec::new(alloc);
     let found = found_in(alloc, log)?;
     append_head(&mut text, log, &found)?;
+    append_summary(alloc, &mut text, names, heard)?;
     append_all_heard(alloc, &mut text, names, heard)?;
     Ok(text)
 }

@@ -4,14 +4,17 @@
 mod bodies;
 mod broken;
 mod explaining;
+mod falls;
 mod fault;
 mod frames;
 mod hearing;
+mod ignored;
 mod listing;
 mod log_items;
 mod names;
 mod parts;
 mod pieces;
+mod summary;
 mod text;
 
 pub use bodies::Direction;

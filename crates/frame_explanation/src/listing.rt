@@ -83,7 +83,7 @@ fn moment_in(body: &[u8], last: Moment) -> Moment
 }
 
 /// MsgSeqNum (34); 0 where there is none.
-fn number_in(body: &[u8]) -> u64
+pub(crate) fn number_in(body: &[u8]) -> u64
     ensures { result ≡ listing.number_in body.now }
 {
     match read_integer(value_in(b"34=", body), 1, GREATEST_NUMBER) {
@@ -108,13 +108,13 @@ fn is_logon(body: &[u8]) -> bool
     value_in(b"35=", body) == b"A".as_slice()
 }
 
-fn is_repeat(body: &[u8]) -> bool
+pub(crate) fn is_repeat(body: &[u8]) -> bool
     ensures { result ≡ listing.is_repeat body.now }
 {
     value_in(b"43=", body) == b"Y".as_slice()
 }
 
-fn is_reset(body: &[u8]) -> bool
+pub(crate) fn is_reset(body: &[u8]) -> bool
     ensures { result ≡ listing.is_reset body.now }
 {
     value_in(b"35=", body) == b"4".as_slice()

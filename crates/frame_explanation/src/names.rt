@@ -45,3 +45,32 @@ pub(crate) fn field_name(tag: u32) -> &'static [u8]
         name
     }
 }
+
+/// The FIX name of a field that changes what an order means, and that the venue does not read; else empty.
+fn order_name(tag: u32) -> &'static [u8]
+    ensures { result.now ≡ names.order_name tag }
+{
+    match tag {
+        1 => b"Account",
+        18 => b"ExecInst",
+        110 => b"MinQty",
+        111 => b"MaxFloor",
+        210 => b"MaxShow",
+        432 => b"ExpireDate",
+        582 => b"CustOrderCapacity",
+        1138 => b"DisplayQty",
+        _ => b"",
+    }
+}
+
+/// The FIX name of a field that the venue does not read.
+pub(crate) fn ignored_name(tag: u32) -> &'static [u8]
+    ensures { result.now ≡ names.ignored_name tag }
+{
+    let name = order_name(tag);
+    if name.is_empty() {
+        field_name(tag)
+    } else {
+        name
+    }
+}

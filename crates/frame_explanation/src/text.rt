@@ -75,6 +75,9 @@ fn why_words(why: Why) -> &'static [u8]
         Why::Silent => b"a TestRequest was not answered",
         Why::NumbersSpent => b"the sequence numbers are used up",
         Why::Reset => b"141=Y with 43=Y, with a 34 other than 1, or for one era too many",
+        Why::NumbersRestarted => {
+            b"the venue's process numbers this session from 1, and 34 is above: log on with 141=Y"
+        }
     }
 }
 
@@ -106,6 +109,7 @@ fn append_ids_if(
         Why::Silent => Ok(()),
         Why::NumbersSpent => Ok(()),
         Why::Reset => Ok(()),
+        Why::NumbersRestarted => Ok(()),
     }
 }
 
@@ -129,7 +133,7 @@ fn append_unread(out: &mut Vec<u8>, size: usize) -> Result<(), AllocError>
 }
 
 /// Appends what the session of a participant does with a frame whose body has this number of bytes.
-fn append_step(
+pub(crate) fn append_step(
     out: &mut Vec<u8>,
     names: &Participants,
     who: Who,
@@ -408,7 +412,11 @@ fn append_heading(
 }
 
 /// Appends that 49 names nobody, where it does not.
-fn append_stranger(out: &mut Vec<u8>, names: &Participants, body: &[u8]) -> Result<(), AllocError>
+pub(crate) fn append_stranger(
+    out: &mut Vec<u8>,
+    names: &Participants,
+    body: &[u8],
+) -> Result<(), AllocError>
     ensures { OnOk result (out.new.items ≡ out.old.items ++ text.stranger names.now body.now) }
 {
     match names.find(value_in(b"49=", body)) {

@@ -77,13 +77,24 @@ entry_name c = if c == 48 then codes "; bid" else (if c == 49 then codes "; offe
 
 -- Orders.
 
--- the number of an order (37), if it has one: a refused order and a held side have none
+-- the number of an order (37), if it has one: a held side has none
 abbrev pub order_number : List ℕ → Option (List ℕ)
 order_number number = if bytes_eq number (codes "NONE") then None else Some number
 
 -- what stands before its own identifier (11)
 abbrev pub order_known_as : List ℕ → List ℕ
 order_known_as number = if bytes_eq number (codes "NONE") then codes ": order " else codes " as "
+
+-- A report that refuses an order (150=8) is on none of the book: a number in it is that of the order that has its
+-- identifier.
+abbrev pub report_number : ℕ → List ℕ → Option (List ℕ)
+report_number kind number = if kind == 56 then None else order_number number
+
+abbrev pub report_known_as : ℕ → List ℕ → List ℕ
+report_known_as kind number = if kind == 56 then codes ": order " else order_known_as number
+
+abbrev pub holder : ℕ → List ℕ → Option (List ℕ)
+holder kind number = if kind == 56 then order_number number else None
 
 abbrev pub order_parts : NewOrderSingle → List Part
 order_parts d =
@@ -245,8 +256,8 @@ request_refused_parts d =
 abbrev pub report_parts : ExecutionReport → List Part
 report_parts d =
     (codes "report ", Some d.execution_id)
-    ∷ (codes ": ", order_number d.venue_order_id)
-    ∷ (order_known_as d.venue_order_id, d.order_id)
+    ∷ (codes ": ", report_number d.execution_type d.venue_order_id)
+    ∷ (report_known_as d.execution_type d.venue_order_id, d.order_id)
     ∷ (to_side d.side, Some d.symbol)
     ∷ (codes " ", Some (report_kind d.execution_type))
     ∷ (codes " ", given decimal d.last_quantity)
@@ -258,6 +269,7 @@ report_parts d =
     ∷ (codes ", to response ", d.response_id)
     ∷ (codes ", 103=", given decimal d.reject_reason)
     ∷ (codes " ", d.text)
+    ∷ (codes " of ", holder d.execution_type d.venue_order_id)
     ∷ []
 
 abbrev pub change_refused_parts : OrderCancelReject → List Part

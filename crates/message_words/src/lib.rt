@@ -25,5 +25,5 @@ pub use parts::{
 pub use row_lines::{
     append_came_lines, append_clock_line, append_reply_lines, clock_words, sender_name,
 };
-pub use visible::{fix_text, readable_text, visible_text};
+pub use visible::{fix_text, message_text, readable_text};
 pub use words::{append_words, came_words_of, words_of};

@@ -1,9 +1,9 @@
 //! What codes of messages stand for, in words.
-ghost use Rattle.std.specs.Prelude.{◌≡◌, bytes_eq, codes};
+ghost use Rattle.std.specs.Prelude.{◌≡◌, ◌==◌, bytes_eq, codes};
 ghost use Rattle.fix_dictionary.specs.Text.{given};
 ghost use Rattle.message_words.specs.Kinds.{report_kind};
 ghost use Rattle.message_words.specs.Parts.{shown_option};
-ghost use Rattle.message_words.specs.Words.{response_name, outcome_name, asked_side, change_name, entry_name, life_name, order_known_as, order_number, other_type, side_name, status_name, to_side, withdrawal_name};
+ghost use Rattle.message_words.specs.Words.{response_name, outcome_name, asked_side, change_name, entry_name, holder, life_name, order_known_as, order_number, other_type, report_known_as, report_number, side_name, status_name, to_side, withdrawal_name};
 
 use crate::parts::Value;
 use fix_dictionary::{FixChar, FixInt, Identifier, Side};
@@ -201,12 +201,55 @@ pub(crate) fn order_number<'a>(number: &'a Identifier) -> Option<Value<'a>>
     }
 }
 
-pub(crate) fn order_known_as(number: &Identifier) -> &'static [u8]
+fn order_known_as(number: &Identifier) -> &'static [u8]
     ensures { result.now ≡ order_known_as number.now }
 {
     if has_no_number(number) {
         b": order "
     } else {
         b" as "
+    }
+}
+
+/// Whether a report refuses an order.
+fn is_refusal(execution_type: FixChar) -> bool
+    ensures { result ≡ (execution_type == 56) }
+{
+    execution_type.get() == b'8'
+}
+
+/// The number of the order that a report is on.
+pub(crate) fn report_number<'a>(
+    execution_type: FixChar,
+    number: &'a Identifier,
+) -> Option<Value<'a>>
+    ensures { shown_option result ≡ report_number execution_type number.now }
+{
+    if is_refusal(execution_type) {
+        None
+    } else {
+        order_number(number)
+    }
+}
+
+/// What stands before the identifier in a report.
+pub(crate) fn report_known_as(execution_type: FixChar, number: &Identifier) -> &'static [u8]
+    ensures { result.now ≡ report_known_as execution_type number.now }
+{
+    if is_refusal(execution_type) {
+        b": order "
+    } else {
+        order_known_as(number)
+    }
+}
+
+/// The number of the order that has the identifier of one that is refused.
+pub(crate) fn holder<'a>(execution_type: FixChar, number: &'a Identifier) -> Option<Value<'a>>
+    ensures { shown_option result ≡ holder execution_type number.now }
+{
+    if is_refusal(execution_type) {
+        order_number(number)
+    } else {
+        None
     }
 }

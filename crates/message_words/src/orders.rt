@@ -4,7 +4,8 @@ ghost use Rattle.message_words.specs.Parts.{parts_text};
 ghost use Rattle.message_words.specs.Words.{cancel_parts, change_refused_parts, cross_parts, order_parts, replacement_parts, report_parts};
 
 use crate::names::{
-    change_name, life_value, order_known_as, order_number, other_type, report_kind, to_side,
+    change_name, holder, life_value, order_number, other_type, report_kind, report_known_as,
+    report_number, to_side,
 };
 use crate::parts::{
     Part, append_parts, bytes, identifier_value, number, number_value, price_value, quantity_value,
@@ -121,9 +122,9 @@ pub(crate) fn append_report(
         text,
         &[
             part!(b"report ", bytes(d.execution_id.as_slice())),
-            part!(b": ", order_number(&d.venue_order_id)),
+            part!(b": ", report_number(d.execution_type, &d.venue_order_id)),
             part!(
-                order_known_as(&d.venue_order_id),
+                report_known_as(d.execution_type, &d.venue_order_id),
                 identifier_value(&d.order_id)
             ),
             part!(to_side(d.side), bytes(d.symbol.as_slice())),
@@ -137,6 +138,7 @@ pub(crate) fn append_report(
             part!(b", to response ", identifier_value(&d.response_id)),
             part!(b", 103=", number_value(d.reject_reason)),
             part!(b" ", text_value(&d.text)),
+            part!(b" of ", holder(d.execution_type, &d.venue_order_id)),
         ],
     )
 }

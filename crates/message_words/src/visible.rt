@@ -1,5 +1,6 @@
 //! A message as FIX has it, so that one can see it.
 ghost use Rattle.std.specs.Prelude.{◌≡◌, ◌++◌, OnOk, IfOk};
+ghost use Rattle.fix_dictionary.specs.Text.{app_text};
 ghost use Rattle.message_words.specs.Visible.{fix_text, readable, readable_byte, visible, visible_byte};
 
 use crate::json::hex_digit;
@@ -26,7 +27,7 @@ fn append_visible(out: &mut Vec<u8>, text: &[u8]) -> Result<(), AllocError>
 }
 
 /// A text of FIX with | for the byte 1.
-pub fn visible_text(alloc: Global, text: &[u8]) -> Result<Vec<u8>, AllocError>
+fn visible_text(alloc: Global, text: &[u8]) -> Result<Vec<u8>, AllocError>
     ensures { IfOk result (λ out. out.items ≡ visible text.now) }
 {
     let mut out = Vec::with_capacity(alloc, text.len())?;
@@ -67,11 +68,19 @@ pub fn readable_text(alloc: Global, text: &[u8]) -> Result<Vec<u8>, AllocError>
     Ok(out)
 }
 
+/// A message as FIX has it, byte by byte.
+pub fn message_text(alloc: Global, app: &App) -> Result<Vec<u8>, AllocError>
+    ensures { IfOk result (λ text. text.items ≡ app_text app.now) }
+{
+    let mut text = Vec::new(alloc);
+    print_app(app, &mut text)?;
+    Ok(text)
+}
+
 /// A message as FIX has it, with | for the byte 1.
 pub fn fix_text(alloc: Global, app: &App) -> Result<Vec<u8>, AllocError>
     ensures { IfOk result (λ text. text.items ≡ fix_text app.now) }
 {
-    let mut text = Vec::new(alloc);
-    print_app(app, &mut text)?;
+    let text = message_text(alloc, app)?;
     visible_text(alloc, &text)
 }

@@ -7,9 +7,6 @@ mod laws;
 mod page;
 mod spot;
 
-pub use laws::{parts_follow_parts, values_are_read_back, values_leave_tags_alone};
+pub use laws::{parts_follow_parts, values_are_read_back, values_leave_tags_alone, worked_page};
 pub use page::Page;
 pub use spot::{Reading, Spot};
-
-#[cfg(test)]
-mod tests;

@@ -111,6 +111,8 @@ enum Misfit {
     Astray(Word),
     /// Two forms.
     Forms,
+    /// Rows by their sender, and replies by their recipient.
+    BothWays,
     /// A log without the name of its desk.
     NoDesk,
     /// One trail alone is to be compared.
@@ -207,6 +209,14 @@ fn misfit_refused(alloc: Global, misfit: Misfit) -> Refused {
             "--compare goes with two trails: --compare A B",
         ),
         Misfit::Forms => Refused::of_two(alloc, "--csv", "--json", "one form at a time"),
+        Misfit::BothWays => {
+            Refused::of_two(
+                alloc,
+                "--from",
+                "--to",
+                "each alone: --from NAME prints what NAME sent, with each reply; --to NAME what NAME is owed",
+            )
+        }
     }
 }
 
@@ -327,6 +337,11 @@ fn option<'a>(alloc: Global, name: &'a str, value: &'a str, help: &'a str) -> Ar
         .action(ArgAction::Set)
 }
 
+/// An argument with a name as its value, which may begin with a hyphen.
+fn name_option<'a>(alloc: Global, name: &'a str, value: &'a str, help: &'a str) -> Arg<'a> {
+    option(alloc, name, value, help).allow_hyphen_values(true)
+}
+
 fn with_why<'a>(alloc: Global, command: Command<'a>) -> Result<Command<'a>, AllocError> {
     command.arg(option(
         alloc,
@@ -345,7 +360,7 @@ fn with_answers<'a>(alloc: Global, command: Command<'a>) -> Result<Command<'a>, 
 }
 
 fn with_to<'a>(alloc: Global, command: Command<'a>) -> Result<Command<'a>, AllocError> {
-    command.arg(option(
+    command.arg(name_option(
         alloc,
         "to",
         "NAME",
@@ -354,7 +369,7 @@ fn with_to<'a>(alloc: Global, command: Command<'a>) -> Result<Command<'a>, Alloc
 }
 
 fn with_from<'a>(alloc: Global, command: Command<'a>) -> Result<Command<'a>, AllocError> {
-    command.arg(option(
+    command.arg(name_option(
         alloc,
         "from",
         "NAME",
@@ -381,7 +396,7 @@ fn with_order<'a>(alloc: Global, command: Command<'a>) -> Result<Command<'a>, Al
 }
 
 fn with_book<'a>(alloc: Global, command: Command<'a>) -> Result<Command<'a>, AllocError> {
-    command.arg(option(
+    command.arg(name_option(
         alloc,
         "book",
         "SYMBOL",
@@ -396,7 +411,7 @@ fn with_against<'a>(alloc: Global, command: Command<'a>) -> Result<Command<'a>, 
         "FILE",
         "Compares a desk's own log of FIX messages with what it was owed",
     ))?;
-    command.arg(option(
+    command.arg(name_option(
         alloc,
         "desk",
         "NAME",
@@ -411,7 +426,7 @@ fn with_other_runs<'a>(alloc: Global, command: Command<'a>) -> Result<Command<'a
         "FILE",
         "Answers the rows by the participants or the instruments of this file, and prints what differs",
     ))?;
-    command.arg(option(
+    command.arg(name_option(
         alloc,
         "without",
         "NAME",
@@ -556,6 +571,15 @@ fn astray(is_given: bool, word: Word, mode: Mode) -> Option<Misfit> {
     }
 }
 
+/// The misfit of a sender and a recipient, each of which is asked for alone.
+fn both_ways(given: &ArgMatches<'_>) -> Option<Misfit> {
+    if given.get_str("from").is_some() && given.get_str("to").is_some() {
+        Some(Misfit::BothWays)
+    } else {
+        None
+    }
+}
+
 fn misfit_of(given: &ArgMatches<'_>, mode: Mode) -> Option<Misfit> {
     let csv = given.get_flag("csv");
     let json = given.get_flag("json");
@@ -582,6 +606,7 @@ fn misfit_of(given: &ArgMatches<'_>, mode: Mode) -> Option<Misfit> {
         .or(astray(csv, Word::Csv, mode))
         .or(astray(json, Word::Json, mode))
         .or(astray(given.get_str("other").is_some(), Word::Other, mode))
+        .or(both_ways(given))
 }
 
 fn task_at(

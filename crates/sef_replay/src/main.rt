@@ -36,7 +36,7 @@ use program_shell::is_database;
 pub use reading::{ReadDay, read_day};
 use refused::{Refused, absent_in, misspelt_in, nobody_named};
 pub use report::print_wanted;
-use sqlite::{Alter, Connection};
+use sqlite::{Alter, Connection, File, FileStore};
 use std::alloc::Global;
 use std::io::Write;
 use std::process::ExitCode;
@@ -265,19 +265,33 @@ fn answer_without(rt: &HostRuntime, path: &str, name: &str) -> Result<(), Refuse
 }
 
 // Generic over the store, so that the contracts of `print_migrated` are passed on in one call.
-fn migrate_and_close<S: Alter + Drop, W: Write>(
+fn migrated<S: Alter + Drop, W: Write>(
     alloc: Global,
     conn: Connection<S>,
     form: Form,
     writer: &mut W,
+) -> Result<Connection<S>, (Failure, Connection<S>)> {
+    print_migrated(alloc, conn, form, writer)
+}
+
+/// Closes a database as a venue does: its log is copied into the file, which then has all alone.
+fn closed(conn: Connection<FileStore<File>>) -> Result<(), Failure> {
+    match conn.close() {
+        Ok(()) => Ok(()),
+        Err(error) => Err(Failure::from(error)),
+    }
+}
+
+fn migrate_and_close(
+    rt: &HostRuntime,
+    conn: Connection<FileStore<File>>,
+    form: Form,
 ) -> Result<(), Failure> {
-    match print_migrated(alloc, conn, form, writer) {
-        Ok(conn) => {
-            drop(conn);
-            Ok(())
-        }
+    match migrated(rt.alloc(), conn, form, &mut rt.stdout()) {
+        Ok(conn) => closed(conn),
         Err((failure, conn)) => {
-            drop(conn);
+            // The failure that came first is the one to report.
+            let _ = closed(conn);
             Err(failure)
         }
     }
@@ -288,7 +302,7 @@ fn migrate_and_close<S: Alter + Drop, W: Write>(
 fn migrate(rt: &HostRuntime, path: &str, form: Form) -> Result<(), Refused> {
     drop(trail_at(rt, path)?);
     let printed = match Connection::open(rt, path) {
-        Ok(conn) => migrate_and_close(rt.alloc(), conn, form, &mut rt.stdout()),
+        Ok(conn) => migrate_and_close(rt, conn, form),
         Err(error) => Err(Failure::from(error)),
     };
     match printed {

@@ -16,6 +16,8 @@ pub data Said : Type 0 where
   Leaves : Option ℕ → Said
   IsUnfilled : Option ℕ → Said
   IsKept : Option OrderStatus → Said
+  -- another is refused, which has its identifier
+  IsNamed : Option ℕ → Said
   Silent : Said
 
 abbrev pub said_what : ReplyBody → Said
@@ -25,6 +27,8 @@ said_what (what.OrderUnfilled r) = IsUnfilled r.order
 said_what (what.OrderCancelled r) = Leaves r.order.order
 said_what (what.OrderReplaced r) = Replaces r.order.order r.order.id r.original_id
 said_what (what.ChangeRefused r) = IsKept r.standing
+said_what (what.OrderRefused r) = IsNamed r.order.order
+said_what (what.CrossRefused r) = IsNamed r.order.order
 said_what _ = Silent
 
 abbrev pub said : Reply → Said
@@ -37,6 +41,7 @@ reports_said l (Fills n) = is_its_number l n
 reports_said l (Leaves n) = is_its_number l n
 reports_said l (IsUnfilled n) = is_its_number l n
 reports_said l (IsKept s) = is_standing l s
+reports_said l (IsNamed n) = is_its_number l n
 reports_said l Silent = false
 
 abbrev pub replaces_said : Life → ℕ → Said → Bool

@@ -28,7 +28,7 @@ use Rattle.trail_answers.specs.Sought.{Seen, seen_after, unseen}
 use Rattle.venue_rules.proofs.Members.{In, In-append_cases, In-filter_map, picked_from}
 use Rattle.trade_blotter.proofs.Lists.{same_some}
 use Rattle.trail_answers.proofs.Members.{any_cases, any_in, any_left, any_right, from_flat, in_any, in_flat, or_cases, or_left, or_right}
-use Rattle.trail_answers.proofs.Said.{Said, Enters, Replaces, Fills, Leaves, IsUnfilled, IsKept, Silent, about_is, about_said, names_are, names_said, numbers_are, numbers_said, replaces_said, reports_said, said}
+use Rattle.trail_answers.proofs.Said.{Said, Enters, Replaces, Fills, Leaves, IsUnfilled, IsKept, IsNamed, Silent, about_is, about_said, names_are, names_said, numbers_are, numbers_said, replaces_said, reports_said, said}
 use Rattle.trail_answers.proofs.Stating.{Event, HasEntered, HasTraded, IsCancelled, IsNext, IsReplaced, IsStated, happened, input_stated, removal_in, removals, stated, stated_said, traded_at}
 
 -- A life grows: what is known of an order stays known.
@@ -74,6 +74,7 @@ reports_grow l l' g (Fills n) e = its_grows l l' g n e
 reports_grow l l' g (Leaves n) e = its_grows l l' g n e
 reports_grow l l' g (IsUnfilled n) e = its_grows l l' g n e
 reports_grow l l' g (IsKept s) e = standing_grows l l' g s e
+reports_grow l l' g (IsNamed n) e = its_grows l l' g n e
 reports_grow l l' g Silent e = e
 
 replaces_grow : (l l' : Life) → Grows l l' → (who : ℕ) (s : Said) → replaces_said l who s ≡ true → replaces_said l' who s ≡ true
@@ -83,6 +84,7 @@ replaces_grow l l' g who (Fills n) e = e
 replaces_grow l l' g who (Leaves n) e = e
 replaces_grow l l' g who (IsUnfilled n) e = e
 replaces_grow l l' g who (IsKept s) e = e
+replaces_grow l l' g who (IsNamed n) e = e
 replaces_grow l l' g who Silent e = e
 
 about_grows : (l l' : Life) → Grows l l' → (who : ℕ) (s : Said) → about_said l who s ≡ true → about_said l' who s ≡ true
@@ -168,6 +170,7 @@ stated_about l who (Fills (Some n)) event e i = numbered_at l n (event_number ev
 stated_about l who (Leaves n) event e i = absurd (cc)
 stated_about l who (IsUnfilled n) event e i = absurd (cc)
 stated_about l who (IsKept s) event e i = absurd (cc)
+stated_about l who (IsNamed n) event e i = absurd (cc)
 stated_about l who Silent event e i = absurd (cc)
 
 is_itself : (who : ℕ) (id : List ℕ) (who' : ℕ) (id' : List ℕ) → who ≡ who' → id ≡ id' → list_any (is_name_of who' id') (record { who = who; id = id } ∷ []) ≡ true
@@ -183,6 +186,7 @@ stated_names who (Fills (Some k)) n who' id' e = absurd (cc)
 stated_names who (Leaves k) n who' id' e = absurd (cc)
 stated_names who (IsUnfilled k) n who' id' e = absurd (cc)
 stated_names who (IsKept s) n who' id' e = absurd (cc)
+stated_names who (IsNamed k) n who' id' e = absurd (cc)
 stated_names who Silent n who' id' e = absurd (cc)
 
 -- a number that a reply adds is that of an order that it states of
@@ -198,6 +202,7 @@ number_stated who (Fills n) k e = absurd (true≢false (sym e))
 number_stated who (Leaves n) k e = absurd (true≢false (sym e))
 number_stated who (IsUnfilled n) k e = absurd (true≢false (sym e))
 number_stated who (IsKept s) k e = absurd (true≢false (sym e))
+number_stated who (IsNamed n) k e = absurd (true≢false (sym e))
 number_stated who Silent k e = absurd (true≢false (sym e))
 
 -- the entry of an event

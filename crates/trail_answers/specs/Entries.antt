@@ -9,13 +9,15 @@
 --   As a row of a table for a spreadsheet (RFC 4180):
 --       12,20250303-14:30:40.999,,,,BETA,refused,35=8|37=NONE|..,report E18: ..
 --   As an object of JSON (RFC 8259) on a line of its own, whose members are named as the fields of the table, and are
---   null where the field is empty:
+--   null where the field is empty. The text is the message's own, byte by byte: the byte 1 ends each field of it, and
+--   no value has one.
 --       {"row":12,"moment_utc":"20250303-14:30:40.999","from":null,"number":null,"era":null,"to":"BETA",
---       "kind":"refused","text":"35=8|..","words":"report E18: .."}
+--       "kind":"refused","text":"35=8\u0001..","words":"report E18: .."}
 use Rattle.std.specs.Prelude.{ℕ, ◌==◌, List, [], ◌∷◌, ◌++◌, Option, Some, None, codes, decimal, if◌then◌else◌}
 use Rattle.std.specs.List.{flat_map}
 use Rattle.csv.specs.Writing.{row_text}
 use Rattle.sef_moment.specs.Utc.{utc_text}
+use Rattle.fix_dictionary.specs.Text.{app_text}
 use Rattle.fix_dictionary.specs.declared.messages.App.{App}
 use Rattle.participants.specs.ParticipantFile.{ParticipantFile}
 use Rattle.participants.specs.Relations.{name_of}
@@ -30,7 +32,7 @@ use Rattle.message_words.specs.Json.{Member, json_null, json_number, json_text, 
 use Rattle.message_words.specs.Kinds.{kind_of}
 use Rattle.message_words.specs.Parts.{parts_text}
 use Rattle.message_words.specs.RowLines.{came_parts, clock_parts, clock_words, reply_parts, sender_name}
-use Rattle.message_words.specs.Visible.{fix_text, readable, visible}
+use Rattle.message_words.specs.Visible.{fix_text, readable}
 use Rattle.message_words.specs.Words.{came_words, words}
 
 -- a number of what was sent: none at a row of the clock
@@ -90,13 +92,13 @@ members r from number era to kind text words =
     ∷ []
 
 abbrev pub came_members : ParticipantFile → TrailRow → App → List Member
-came_members file r a = members r (sender_json file r.who) (sent_json r.who r.number) (sent_json r.who r.era) json_null (json_text (kind_of a)) (json_text (visible r.text)) (json_text (came_words a))
+came_members file r a = members r (sender_json file r.who) (sent_json r.who r.number) (sent_json r.who r.era) json_null (json_text (kind_of a)) (json_text r.text) (json_text (came_words a))
 
 abbrev pub clock_members : ParticipantFile → TrailRow → List Member
 clock_members file r = members r (sender_json file r.who) (sent_json r.who r.number) (sent_json r.who r.era) json_null (json_text (codes "clock")) json_null (json_text clock_words)
 
 abbrev pub reply_members : ParticipantFile → TrailRow → ℕ → App → List Member
-reply_members file r to a = members r json_null json_null json_null (json_text (name_of file to)) (json_text (kind_of a)) (json_text (fix_text a)) (json_text (words a))
+reply_members file r to a = members r json_null json_null json_null (json_text (name_of file to)) (json_text (kind_of a)) (json_text (app_text a)) (json_text (words a))
 
 -- In the form that is asked for.
 

@@ -50,7 +50,8 @@ is_standing l (Some s) = is_numbered l s.order
 abbrev pub is_named : Life → ℕ → List ℕ → Bool
 is_named l who id = list_any (λ n. (n.who == who) && bytes_eq n.id id) l.names
 
--- a report on an order with one of its numbers
+-- A report on an order with one of its numbers. A refusal of an order, or of a side of a cross, names the one that
+-- rests under its identifier (11).
 unfoldable pub reports_on : Life → ReplyBody → Bool
 reports_on l (what.OrderEntered r) = is_its_number l r.order
 reports_on l (what.OrderFilled r) = is_its_number l r.order.order
@@ -58,6 +59,8 @@ reports_on l (what.OrderUnfilled r) = is_its_number l r.order
 reports_on l (what.OrderCancelled r) = is_its_number l r.order.order
 reports_on l (what.OrderReplaced r) = is_its_number l r.order.order
 reports_on l (what.ChangeRefused r) = is_standing l r.standing
+reports_on l (what.OrderRefused r) = is_its_number l r.order.order
+reports_on l (what.CrossRefused r) = is_its_number l r.order.order
 reports_on l _ = false
 
 -- the report of an order that replaces it

@@ -95,7 +95,7 @@ fn is_named(life: &Life, who: Who, id: &Identifier) -> bool
     false
 }
 
-/// Whether a reply reports on an order with one of its numbers.
+/// Whether a reply reports on an order with one of its numbers, or refuses one that has its identifier.
 #[tactic(auto, unfolding(crate::specs::Life::reports_on))]
 fn reports_on(life: &Life, what: &ReplyBody) -> bool
     ensures { result ≡ reports_on (life_of life.now) what.now }
@@ -107,6 +107,8 @@ fn reports_on(life: &Life, what: &ReplyBody) -> bool
         ReplyBody::OrderCancelled(report) => is_its_number(life, report.order.order),
         ReplyBody::OrderReplaced(report) => is_its_number(life, report.order.order),
         ReplyBody::ChangeRefused(refused) => is_standing(life, &refused.standing),
+        ReplyBody::OrderRefused(refused) => is_its_number(life, refused.order.order),
+        ReplyBody::CrossRefused(refused) => is_its_number(life, refused.order.order),
         _ => false,
     }
 }

@@ -5,8 +5,8 @@ ghost use Rattle.trail_answers.specs.Entries.{came_members, clock_members, membe
 
 use fix_dictionary::App;
 use message_words::{
-    JsonMember, JsonValue, append_object, came_words_of, clock_words, fix_text, kind_of,
-    sender_name, visible_text, words_of,
+    JsonMember, JsonValue, append_object, came_words_of, clock_words, kind_of, message_text,
+    sender_name, words_of,
 };
 use participants::{Participants, Who};
 use sef_moment::print_utc;
@@ -24,7 +24,7 @@ macro_rules! member {
 }
 
 /// What an object says of a message, but for its row: who sent it, its sequence number and era, to whom it is, its
-/// kind, and its text as FIX has it and in words.
+/// kind, and its text, byte by byte, and in words.
 #[derive(Clone, Copy)]
 pub struct Said<'a> {
     pub from: JsonValue<'a>,
@@ -87,7 +87,6 @@ pub(crate) fn append_came_object(
 ) -> Result<(), AllocError>
     ensures { OnOk result (out.new.items ≡ out.old.items ++ object_line (came_members participants.now row.now app.now)) }
 {
-    let kept = visible_text(alloc, row.text.as_slice())?;
     let words = came_words_of(alloc, app)?;
     append_said(
         out,
@@ -98,7 +97,7 @@ pub(crate) fn append_came_object(
             era: sent_value(row.who, row.era),
             to: JsonValue::Null,
             kind: JsonValue::Text(kind_of(app)),
-            text: JsonValue::Text(&kept),
+            text: JsonValue::Text(row.text.as_slice()),
             words: JsonValue::Text(&words),
         },
     )
@@ -136,7 +135,7 @@ pub(crate) fn append_reply_object(
 ) -> Result<(), AllocError>
     ensures { OnOk result (out.new.items ≡ out.old.items ++ object_line (reply_members participants.now row.now to app.now)) }
 {
-    let fix = fix_text(alloc, app)?;
+    let text = message_text(alloc, app)?;
     let words = words_of(alloc, app)?;
     append_said(
         out,
@@ -147,7 +146,7 @@ pub(crate) fn append_reply_object(
             era: JsonValue::Null,
             to: JsonValue::Text(name_at(participants, to)),
             kind: JsonValue::Text(kind_of(app)),
-            text: JsonValue::Text(&fix),
+            text: JsonValue::Text(&text),
             words: JsonValue::Text(&words),
         },
     )

@@ -17,6 +17,3 @@ pub use contents::Contents;
 pub use fault::DigestFault;
 pub use head::{HeadForm, append_head, print_digest, print_head};
 pub use laws::{beginning_has_its_digest, one_digest_is_one_trail, worked_digest};
-
-#[cfg(test)]
-mod tests;
