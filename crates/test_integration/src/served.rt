@@ -9,6 +9,7 @@ mod fixture;
 mod lines_of_a_day;
 mod over_tcp;
 mod pace;
+mod restarted;
 mod scripted;
 mod scripts;
 mod side_by_side;

@@ -56,6 +56,7 @@ fn reason(why: Why) -> &'static str {
         Why::Silent => "silent",
         Why::NumbersSpent => "numbers spent",
         Why::Reset => "reset",
+        Why::NumbersRestarted => "numbers restarted",
     }
 }
 

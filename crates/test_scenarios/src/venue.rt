@@ -6,3 +6,4 @@ mod market;
 mod message;
 mod reading;
 mod stage;
+mod standing;

@@ -61,8 +61,8 @@ pub fn both<T: Drop>(alloc: Global, first: T, second: T) -> Result<Vec<T>, Alloc
     Ok(list)
 }
 
-// The venue SEF with ALPHA and BETA, who are not related.
-fn two_participants(alloc: Global) -> Result<Participants, AllocError> {
+/// The venue SEF with ALPHA and BETA, who are not related.
+pub fn two_participants(alloc: Global) -> Result<Participants, AllocError> {
     let venue = Name::from_slice(alloc, b"SEF")?;
     let names = vec![in alloc;
         Name::from_slice(alloc, b"ALPHA")?,
@@ -71,8 +71,8 @@ fn two_participants(alloc: Global) -> Result<Participants, AllocError> {
     Participants::from_rows(alloc, venue, names, Vec::new(alloc))
 }
 
-// A venue of these participants and the two instruments of the worked rows, on which nothing has happened.
-fn new_venue(alloc: Global, participants: Participants) -> Result<Venue, AllocError>
+/// A venue of these participants and the two instruments of the worked rows, on which nothing has happened.
+pub fn new_venue(alloc: Global, participants: Participants) -> Result<Venue, AllocError>
     ensures participants { IfOk result (λ venue. venue.market.participants ≡ participants) }
     ensures history { IfOk result (λ venue. IsHistory venue no_history) }
     ensures items { IfOk result (λ venue. venue.items ≡ 0) }

@@ -3,7 +3,7 @@
 use crate::emitting::{emit_again, emit_once};
 use crate::lines::Part;
 use crate::refusals::Refusals;
-use crate::session::running::{answer_to, new_session};
+use crate::session::running::{answer_to, new_session, restarted_session};
 use crate::texts::{times_in, write_again};
 use anyhow::Result;
 use fix_session::Session;
@@ -18,11 +18,9 @@ fn names_in(line: &str) -> Option<(&str, &str)> {
     line.strip_prefix("new ")?.split_once(' ')
 }
 
-// A new session in the place of this one.
-fn renew(alloc: Global, session: &mut Session, own: &str, peer: &str) -> Result<()> {
-    let begun = new_session(alloc, own, peer)?;
-    drop(mem::replace(session, begun));
-    Ok(())
+// The names of both sides, where a line begins a restarted session.
+fn restarted_in(line: &str) -> Option<(&str, &str)> {
+    line.strip_prefix("restarted ")?.split_once(' ')
 }
 
 // Makes the call of a line, and appends what the session answers.
@@ -37,7 +35,12 @@ fn answer(
         return Ok(());
     }
     if let Some((own, peer)) = names_in(line) {
-        return renew(alloc, session, own, peer);
+        drop(mem::replace(session, new_session(alloc, own, peer)?));
+        return Ok(());
+    }
+    if let Some((own, peer)) = restarted_in(line) {
+        drop(mem::replace(session, restarted_session(alloc, own, peer)?));
+        return Ok(());
     }
     let answer = answer_to(alloc, session, line, refusals)?;
     let is_emitted = emit_again(alloc, &answer, emitted, refusals);

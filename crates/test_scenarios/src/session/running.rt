@@ -138,3 +138,10 @@ pub fn new_session(alloc: Global, own: &str, peer: &str) -> Result<Session> {
     let peer = identifier_in(peer)?;
     Ok(Session::new(alloc, &own, &peer)?)
 }
+
+/// A session whose messages an earlier process may have numbered.
+pub fn restarted_session(alloc: Global, own: &str, peer: &str) -> Result<Session> {
+    let own = identifier_in(own)?;
+    let peer = identifier_in(peer)?;
+    Ok(Session::restarted(alloc, &own, &peer)?)
+}

@@ -9,6 +9,7 @@ use crate::venue::market::Market;
 use crate::venue::message::Sent;
 use crate::venue::reading::{emit_room, emit_trades};
 use crate::venue::stage::Stage;
+use crate::venue::standing::{emit_facts, emit_held, emit_quotes, emit_requests, emit_resting};
 use anyhow::Result;
 use sef_moment::Moment;
 use std::alloc::{AllocError, Global};
@@ -144,6 +145,44 @@ fn emit_numbered(
     Ok(())
 }
 
+// The resting order of a number.
+fn emit_order(
+    alloc: Global,
+    scenario: &Scenario,
+    number: &str,
+    emitted: &mut Vec<u8>,
+) -> Result<(), Trouble> {
+    let Ok(number) = number.parse::<u64>() else {
+        return Err(Trouble::NoCall);
+    };
+    emit_resting(alloc, scenario.stage.venue(), number, emitted)?;
+    Ok(())
+}
+
+// The requests, open or over at a moment.
+fn emit_requests_at(
+    alloc: Global,
+    scenario: &Scenario,
+    after: &str,
+    emitted: &mut Vec<u8>,
+) -> Result<(), Trouble> {
+    let moment = moment_after(after).ok_or(Trouble::NoCall)?;
+    emit_requests(alloc, scenario.stage.venue(), moment, emitted)?;
+    Ok(())
+}
+
+// The quotes, live or over at a moment.
+fn emit_quotes_at(
+    alloc: Global,
+    scenario: &Scenario,
+    after: &str,
+    emitted: &mut Vec<u8>,
+) -> Result<(), Trouble> {
+    let moment = moment_after(after).ok_or(Trouble::NoCall)?;
+    emit_quotes(alloc, scenario.stage.venue(), moment, emitted)?;
+    Ok(())
+}
+
 // Makes the call of a line, and appends what is answered.
 fn call(
     alloc: Global,
@@ -163,6 +202,11 @@ fn call(
         "due" => emit_due(scenario, rest, emitted),
         "trades" => Ok(emit_trades(alloc, scenario.stage.venue(), emitted)?),
         "room" => emit_numbered(alloc, scenario, rest, emitted),
+        "resting" => emit_order(alloc, scenario, rest, emitted),
+        "held" => Ok(emit_held(alloc, scenario.stage.venue(), emitted)?),
+        "requests" => emit_requests_at(alloc, scenario, rest, emitted),
+        "quotes" => emit_quotes_at(alloc, scenario, rest, emitted),
+        "facts" => Ok(emit_facts(alloc, scenario.stage.facts(), emitted)?),
         "times" => take_many(alloc, scenario, rest, emitted, refusals),
         _ => take(alloc, scenario, word, rest, emitted),
     }

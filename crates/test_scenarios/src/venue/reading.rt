@@ -8,8 +8,8 @@ use std::alloc::{AllocError, Global};
 use venue_core::Venue;
 use venue_rules::{RoomFact, ShownOrder, TradeFact};
 
-// Appends a word and a number.
-fn append_number(
+/// Appends a word and a number.
+pub fn append_number(
     alloc: Global,
     word: &[u8],
     number: u64,
@@ -20,8 +20,12 @@ fn append_number(
     emitted.extend_from_slice(digits.as_bytes())
 }
 
-// Appends a price as a message has it, without the tag and what ends the field.
-fn append_bare_price(alloc: Global, price: Price, emitted: &mut Vec<u8>) -> Result<(), AllocError> {
+/// Appends a price as a message has it, without the tag and what ends the field.
+pub fn append_bare_price(
+    alloc: Global,
+    price: Price,
+    emitted: &mut Vec<u8>,
+) -> Result<(), AllocError> {
     let mut field = Vec::new(alloc);
     append_price(&mut field, 1, price.get())?;
     match field.as_slice() {
@@ -30,7 +34,8 @@ fn append_bare_price(alloc: Global, price: Price, emitted: &mut Vec<u8>) -> Resu
     }
 }
 
-fn symbol_of(instruments: &Instruments, instrument: u32) -> &[u8] {
+/// An instrument's symbol.
+pub fn symbol_of(instruments: &Instruments, instrument: u32) -> &[u8] {
     if (instrument as usize) < instruments.len() {
         instruments.get(instrument).symbol.as_slice()
     } else {

@@ -7,6 +7,7 @@ use crate::venue::emitting::emit_replies;
 use crate::venue::line::Trouble;
 use crate::venue::market::Market;
 use crate::venue::message::{Sent, taken};
+use crate::venue::standing::Counted;
 use sef_moment::Moment;
 use std::alloc::{AllocError, Global};
 use venue_core::{Plan, Venue};
@@ -37,13 +38,13 @@ fn plan(venue: &mut Venue, input: &Input) -> Result<Plan, AllocError>
     }
 }
 
-// Appends the venue's replies, and applies its plan; where an allocation failed, the plan is dropped.
+// Appends the venue's replies, applies its plan and counts its facts; where an allocation failed, the plan is dropped.
 fn step(
     alloc: Global,
     venue: &mut Venue,
     input: &Input,
     emitted: &mut Vec<u8>,
-) -> Result<(), AllocError>
+) -> Result<Counted, AllocError>
     requires { venue.old.items ≤ 1_000_000 }
     ensures { venue.new.items ≤ venue.old.items + 1 }
 {
@@ -52,16 +53,19 @@ fn step(
         drop(plan);
         return Err(fault);
     }
+    let (first, last) = plan.facts();
+    let counted = Counted::NONE.with_all(first).with_all(last);
     venue.apply(plan);
-    Ok(())
+    Ok(counted)
 }
 
-/// A venue, how many items it may have taken, and the number of the next message.
+/// A venue, how many items it may have taken, the number of the next message, and the facts of the last plan.
 #[derive(Drop)]
 pub struct Stage {
     venue: Venue,
     items: u32,
     number: u32,
+    facts: Counted,
     ghost counted: { venue.items ≤ items },
 }
 
@@ -74,6 +78,7 @@ impl Stage {
             venue,
             items: 0,
             number: FIRST_NUMBER,
+            facts: Counted::NONE,
         }
     }
 
@@ -97,6 +102,11 @@ impl Stage {
         &self.venue
     }
 
+    /// How many facts the last plan had.
+    pub fn facts(&self) -> Counted {
+        self.facts
+    }
+
     /// Gives the next message this number.
     pub fn number_from(&mut self, text: &str) -> Result<(), Trouble> {
         let Ok(number) = text.parse::<u32>() else {
@@ -111,7 +121,7 @@ impl Stage {
             return Err(Trouble::NoCall);
         }
         self.items += 1;
-        step(alloc, &mut self.venue, input, emitted)?;
+        self.facts = step(alloc, &mut self.venue, input, emitted)?;
         Ok(())
     }
 
