@@ -9,6 +9,14 @@ and `case`:
                                 others, each in the order in which it comes to them
     wait SECONDS                what comes in this time is below
 
+In a case of the recovery the connection ends, or the venue's process, and the participant logs on again:
+
+    WHO disconnects             the connection ends
+    WHO loses BODY              it ends before this message has arrived
+    venue restarts              the process ends (SIGKILL), and begins again from its trail
+    WHO logs on                 with the next number; what it lacks is requested, and comes again (43=Y)
+    WHO resets                  tries that, and is answered below; then logs on with 141=Y
+
 In a case of the session a body begins with 35 and 34, an answer has its 34, and there are two lines more:
 
     WHO disconnects
@@ -21,21 +29,23 @@ answer is the number of the message that is answered, * any value. Other header 
 
 import calendar
 import concurrent.futures
+import contextlib
 import os
 import re
 import socket
 import sys
+import tempfile
 import time
 
 HERE = os.path.dirname(os.path.abspath(__file__))
 sys.path.insert(0, os.path.join(HERE, "..", "lib"))
 sys.dont_write_bytecode = True
 from fix import ANSWER_SECONDS, ROOT, Client, Files, Venue, field, fields_of  # noqa: E402
-from fix import first_frame, frame, free_ports, timestamp, wire  # noqa: E402
+from fix import first_frame, frame, free_ports, message, timestamp, wire  # noqa: E402
 
 CASES = os.path.join(HERE, "cases")
 MARKETS = os.path.join(HERE, "markets")
-FOLDERS = "order cancel replace snapshot request response quote withdrawal cross due reply session".split()
+FOLDERS = "order cancel replace snapshot request response quote withdrawal cross due reply recovery session".split()
 HEADER = {"8", "9", "10", "35", "49", "56", "34", "52"}
 SLOW_SECONDS = 60  # for the answers to a thousand messages
 LATE = 2.5  # seconds by which a moment may differ from a case's
@@ -67,7 +77,7 @@ def step_of(line):
     who, _, rest = line.partition(" ")
     if who == "wait":
         return Step("", "wait", rest)
-    found = re.fullmatch(r"(sends|disconnects)(?: ([0-9]+) times)? ?(.*)", rest)
+    found = re.fullmatch(r"(sends|loses|disconnects|logs on|resets|restarts)(?: ([0-9]+) times)? ?(.*)", rest)
     if not found:
         raise SystemExit(f"tests/certify: no such step: {line}")
     return Step(who, found[1], found[3], int(found[2] or 1))
@@ -84,12 +94,24 @@ class Case:
     def is_session(self):
         return self.name.startswith("session/")
 
+    def is_recovery(self):
+        return self.name.startswith("recovery/")
+
     def is_timed(self):
         """Whether time passes in it."""
         return any(step.verb == "wait" for step in self.all_steps())
 
     def all_steps(self):
         return self.setup + self.steps
+
+    def rules_steps(self):
+        """The steps as the rules see them: nothing is lost, and what comes again came at the message before."""
+        found = []
+        for step in self.all_steps():
+            if step.verb in ("sends", "loses", "wait"):
+                found.append(Step(step.who, step.verb.replace("loses", "sends"), step.text, step.times))
+            found[-1].answers += [re.sub(r"\|43=Y\|122=\*\|", "|", it) for it in step.answers if " gets 35=5|" not in it]
+        return found
 
     def text(self):
         lines = [self.sentence, *(f"shows: {it}" for it in self.shows), *(f"rule: {it}" for it in self.rule)]
@@ -146,14 +168,16 @@ def script_of(cases, name="ALPHA"):
     for case in cases:
         yield f"# {case.name}"
         for step in case.all_steps():
-            if step.who == "ALPHA":
+            if step.who == "ALPHA" and step.verb in ("sends", "loses"):
                 yield f"{name} send {step.text.replace('ALPHA', name)}"
             for it in step.answers:
                 who, _, text = it.partition(" gets ")
                 # (the client takes 35=AI for a Logon, 35=A, and waits for the session)
-                fields = re.sub(r"^35=A[IG]\||\|45=[^|]*|\|62=[^|]*", "", text).rstrip("|")
+                fields = re.sub(r"^35=A[IG]\||\|(45|62|122)=[^|]*", "", text).rstrip("|")
                 if who == "ALPHA":
                     yield f"{name} hears {fields.replace('ALPHA', name)}"
+            if step.verb == "resets":
+                yield f"{name} resets yes\n{name} hears 35=A|34=1|141=Y\n{name} resets no"
     yield f"{name} ends"
 
 
@@ -227,13 +251,56 @@ def first_difference(wanted, found, number, began):
 class Participant(Client):
     """One of the participants on a served market."""
 
-    def log_on_quietly(self):
-        self.send("A", "98=0|108=30|1137=9|", quietly=True)
-        self.await_field("35=A", quietly=True)
+    received = 0  # the number of the last message in order
+    lost = None  # the message that did not arrive
+
+    def log_on_quietly(self, fields=""):
+        self.send("A", f"98=0|108=30|1137=9|{fields}", quietly=True)
+        return self.await_field("35=A", quietly=True)
+
+    def next_message(self):
+        found = super().next_message()
+        if field(found, 43) is None:
+            self.received = int(field(found, 34))
+        return found
 
     def send_body(self, body):
         kind, _, fields = body.partition("|")
         self.send(kind.partition("=")[2], with_moments(fields, time.time()), quietly=True)
+
+    def logged_on_again(self, port):
+        """The participant on another connection, and what it received again."""
+        other = Participant(self.name, port, SLOW_SECONDS)
+        other.number, expected = self.number, self.received + 1
+        number = int(field(other.log_on_quietly(), 34))
+        if self.lost:
+            other.send_again(self.lost)
+        found = []
+        if number > expected:
+            other.send("2", f"7={expected}|16={number - 1}|", quietly=True)
+            while len(found) < number - expected:
+                found.append(other.await_field("43=Y", quietly=True))
+        return other, found
+
+    def send_again(self, body):
+        """Answers the venue's request for what was lost: the message, and a gap fill over the Logon."""
+        self.await_field("35=2", quietly=True)
+        kind, _, fields = body.partition("|")
+        again = f"43=Y|122={timestamp()}|"
+        lost = message(kind.partition("=")[2], self.name, self.number - 1, fields, timestamp(), again)
+        self.connection.sendall(lost + message("4", self.name, self.number, f"123=Y|36={self.number + 1}|", timestamp(), again))
+
+    def tried_to_log_on(self, port):
+        """What answers a Logon with the next number, up to the end of the connection."""
+        other = Participant(self.name, port, SLOW_SECONDS)
+        other.number = self.number
+        other.send("A", "98=0|108=30|1137=9|", quietly=True)
+        found = []
+        with contextlib.suppress(SystemExit, ConnectionError):
+            while True:
+                found.append(other.next_message())
+        other.close()
+        return found
 
     def flush(self, label):
         """Asks for a book that is not there. The answer comes after all that the venue owed before."""
@@ -255,10 +322,11 @@ class Participant(Client):
 class RulesRun:
     """The steps of a case of the rules on a venue: what each participant is answered."""
 
-    def __init__(self, port, names):
-        self.people = {}
-        for place, name in enumerate(names):
-            self.people[name] = Participant(name, port + place, SLOW_SECONDS)
+    def __init__(self, port, names, restart=None):
+        self.restart = restart
+        self.ports = {name: port + place for place, name in enumerate(names)}
+        self.people = {name: Participant(name, it, SLOW_SECONDS) for name, it in self.ports.items()}
+        self.away = {}
         for it in self.people.values():
             it.log_on_quietly()
         self.began = time.time()
@@ -280,11 +348,50 @@ class RulesRun:
             found[name] = self.people[name].received_before(label)
         return [f"{name} gets {answer_text(it, ())}" for name in order for it in found[name]]
 
+    def leave(self, who):
+        self.away[who] = self.people.pop(who)
+        self.away[who].close()
+        time.sleep(0.1)  # (so that the venue sees the end before another connection)
+
+    def begin_again(self):
+        """The venue's process is killed, and begins again; the others log on with 141=Y."""
+        self.restart()
+        for name, it in self.people.items():
+            it.close()
+            self.people[name] = Participant(name, self.ports[name], SLOW_SECONDS)
+            self.people[name].log_on_quietly("141=Y|")
+
+    def recover(self, step):
+        """A step of a case of the recovery."""
+        who = step.who
+        if step.verb == "disconnects":
+            self.leave(who)
+        elif step.verb == "loses":
+            self.people[who].number += 1
+            self.people[who].lost = step.text
+            self.leave(who)
+        elif step.verb == "restarts":
+            self.leave("ALPHA")
+            self.begin_again()
+        elif step.verb == "logs on":
+            lost = self.away[who].lost
+            self.people[who], found = self.away.pop(who).logged_on_again(self.ports[who])
+            self.number = self.people[who].number - bool(lost)
+            return [f"{who} gets {answer_text(it, ())}" for it in found] + self.collected(who)
+        elif step.verb == "resets":
+            found = self.away.pop(who).tried_to_log_on(self.ports[who])
+            self.people[who] = Participant(who, self.ports[who], SLOW_SECONDS)
+            self.people[who].log_on_quietly("141=Y|")
+            return [f"{who} gets {answer_text(it, ())}" for it in found]
+        return []
+
     def run(self, step):
         """The answers to a step."""
         if step.verb == "wait":
             time.sleep(float(step.text))
             return self.collected(None)
+        if step.verb != "sends":
+            return self.recover(step)
         sender = self.people[step.who]
         for k in range(step.times - 1):
             sender.send_body(step.text.replace("*", str(k)))
@@ -302,7 +409,8 @@ class RulesRun:
 class SessionRun:
     """The steps of a case of the session on a venue."""
 
-    def __init__(self, port, names):
+    def __init__(self, port, names, restart=None):
+        self.restart = restart
         self.port, self.names = port, names
         self.lines = {}
         self.unread = {}
@@ -389,10 +497,10 @@ def raw_frame(who, text):
     return frame(wire("".join(f"{tag}={value}|" for tag, value in head + pieces if value != "-")))
 
 
-def run_case(case, port, compare):
+def run_case(case, port, compare, restart=None):
     """Runs a case on the venue at this port. `compare(step, found, number, began)` is called after each step."""
     names = files_of(case.market).names
-    run = (SessionRun if case.is_session() else RulesRun)(port, names)
+    run = (SessionRun if case.is_session() else RulesRun)(port, names, restart)
     try:
         for step in case.all_steps():
             if case.is_session() and compare is not record:
@@ -404,17 +512,41 @@ def run_case(case, port, compare):
         run.close()
 
 
+@contextlib.contextmanager
+def served(program, case, port):
+    """A venue for a case, with a trail in a case of the recovery. Gives what restarts it, and what fails where it has
+    ended."""
+    venue = None
+
+    def begin():
+        nonlocal venue
+        if venue:
+            venue.stop()
+        venue = Venue(program, files_of(case.market), port, *options)
+        venue.await_start()
+
+    def check_up():
+        if not venue.is_up():
+            raise Failure(f"the venue ended: {venue.log()}")
+
+    with tempfile.TemporaryDirectory() as folder:
+        options = ["--trail", os.path.join(folder, "trail")] if case.is_recovery() else []
+        try:
+            begin()
+            yield begin, check_up
+        finally:
+            venue.stop()
+
+
 def run_all(program, cases, check, workers):
     """Runs each case on a venue of its own; what failed, by the case's name."""
     ports = [free_ports(PORTS * workers, FIRST_PORT) + PORTS * k for k in range(workers)]
 
     def fault(case, port):
         try:
-            with Venue(program, files_of(case.market), port) as venue:
-                venue.await_start()
-                run_case(case, port, check)
-                if not venue.is_up():
-                    raise Failure(f"the venue ended: {venue.log()}")
+            with served(program, case, port) as (restart, check_up):
+                run_case(case, port, check, restart)
+                check_up()
         except (Failure, OSError, SystemExit) as failure:
             return case.name, str(failure) or type(failure).__name__
         return None

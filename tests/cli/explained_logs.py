@@ -34,6 +34,36 @@ lines = [
     message("A", 9, "98=0|108=30|1137=9|", at="20250303-14:30:23"),
     message("D", 10, "11=a15||" + order, at="20250303-14:30:24"),
 ]
+logon = "98=0|108=30|1137=9|"
+report = "37=O1|17=E1|150=0|39=0|55=IRS5Y|54=1|151=100|14=0|11=a1|"
+
+
+def by_venue(kind, number, rest, target="ALPHA", **how):
+    return message(kind, number, rest, sender="SEF", target=target, **how)
+
+
+fallen = [
+    message("A", 1, logon),
+    by_venue("A", 1, logon),
+    message("D", 2, "11=a1|18=o|1138=5|" + order),
+    by_venue("8", 2, report),
+    by_venue("8", 9, report),
+    message("D", 3, "11=a2|1138=5|1138=6|453=1|" + order),
+    message("D", 4, "11=a3|9999=x|1138=5|" + order),
+    message("H", 5, "11=a1|37=O1|790=q|"),
+    # neither a repeat, nor a SequenceReset, nor the venue's number to another is below its last one
+    by_venue("8", 2, "43=Y|122=20250303-14:30:00|" + report),
+    by_venue("4", 3, "123=Y|36=9|"),
+    by_venue("A", 1, logon, target="BETA"),
+    by_venue("0", 9, ""),
+    # the venue was started again, and ALPHA resets
+    by_venue("A", 1, logon),
+    by_venue("2", 2, "7=1|16=0|"),
+    message("5", 6, "58=too low|"),
+    message("A", 1, logon + "141=Y|"),
+    by_venue("A", 1, logon + "141=Y|"),
+    by_venue("3", 2, "45=2|"),
+]
 logs = {
     "bars": "".join(f"20250303-14:30:00.000 : {line}\n" for line in lines),
     "alone": message("F", 57, "11=d2|41=d1|", sender="DELTA").replace("|", chr(1)),
@@ -46,6 +76,8 @@ logs = {
     "first": message("D", 1, "11=a1|" + order).replace("|", chr(1)),
     "below": (lines[0] + lines[1] + message("D", 2, "11=a2|" + order)).replace("|", chr(1)),
     "long": (lines[0] + message("D", 2, f"11=a1|58={'x' * 8192}|{order}") + message("0", 2, "")).replace("|", chr(1)),
+    # a venue that was started again, and resets: what numbers fall, and which fields are not read
+    "fallen": "".join(fallen).replace("|", chr(1)),
     "large": "x" * 1_048_577,
 }
 for name, log in logs.items():

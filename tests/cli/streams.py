@@ -88,7 +88,7 @@ def rows(program, folder, streams):
     once = [program, "once", *files("participants.toml", "instruments.toml"), "--at", "20250303-14:30:00"]
     for name in ("other_types", "number_too_low"):
         stream, answers = streams[name]
-        for fails, stderr, status in ((False, "", 0), (True, STOPPED.format("input"), 1)):
+        for fails, stderr, status in ((False, "", 0), (True, STOPPED.format("input") + "  standard input\n", 1)):
             yield f"{name}, byte by byte{', and a read that fails' if fails else ''}", fed(once, folder, bytes_of(stream), fails), (answers, stderr, status)
     stream, answers = streams["linked_orders"]
     orders = stream.index(b"8=FIXT", 1)

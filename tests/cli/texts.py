@@ -45,7 +45,7 @@ def checks(program, folder):
 
 def lengths(program, folder):
     """A text of as many bytes as it may have has no name; one that has one more is not read."""
-    for count, fault, status in ((MOST_BYTES, "participants refused 2\n  venue is missing", 3), (MOST_BYTES + 1, "stopped: input", 1)):
+    for count, fault, status in ((MOST_BYTES, "participants refused 2\n  venue is missing", 3), (MOST_BYTES + 1, "stopped: input\n  long: more than 1048576 bytes", 1)):
         long = write(folder, "long", count * "#")
         words = [program, "check", "--participants", long, "--instruments", "instruments.toml"]
         yield f"check of a text of {count} bytes", ran(words, folder), ("", f"venue_main: {fault}\n", status)

@@ -3,7 +3,7 @@
 
 usage: operator_day.py PORT VENUE_MAIN [PART..]
 
-PORT and the next 159 are used. The parts, all of them or those that are named, run in parallel, each on venues of its
+PORT and the next 169 are used. The parts, all of them or those that are named, run in parallel, each on venues of its
 own, and at last `turns` and `pace` alone:
 
 stop        a venue ends by its stop file while five clients send all they can: each message that it took was answered,
@@ -12,12 +12,15 @@ eof         the same by the end of standard input
 worker      the worker's turns are spent: the sessions end at once
 session     a session's turns are spent: its port is closed, and the others trade on
 refusals    a connection that is refused or dropped is reported with its cause
+restarted   over its trail a venue refuses a Logon above 1, each time under number 1, and takes one at 1; without a
+            trail it requests what is missing
 gaps        a gap is reported; one that is not filled ends the connection after 2.2 heartbeat intervals
-hour        the same after 60 seconds without heartbeats; and the metrics of each minute and of the end
+hour        the same after 60 seconds without heartbeats; and the metrics of each ten seconds and of the end
 troubles    a connection that breaks, bytes that come as a line ends, counters that cannot be written and lines that are
             left out are reported
 places      a second connection is closed, or takes the place of one that is silent
 newcomers   one that sends nothing takes no place and is closed; a client that comes after it is served at once
+reconnects  a client that ends its connection, even behind a message, and comes back at once is served
 stalls      a stalled venue ends no line for which bytes waited, nor gives its place away
 logouts     a Logout arrives, and no reset with it, also where its receiver goes on sending; who comes next is served
 clock       a clock that steps by an hour is reported (with a C compiler alone)
@@ -80,7 +83,7 @@ from fix import (  # noqa: E402
 from trail import items_of, snapshot  # noqa: E402
 
 NAME = "tests/e2e/operator_day"
-PORTS = 160
+PORTS = 170
 EVENT_SECONDS = 20.0  # for an event
 IDLE_SECONDS = 10.0
 QUIET_SECONDS = 11.0  # past the ten seconds of each bound
@@ -97,6 +100,8 @@ FLOOD_SECONDS = 2.0
 UNANSWERED = 500  # of a flood, so that none of its answers waits for room at its socket
 ERAS = 900
 GAPS = 1000
+RECONNECTS = 30
+LOOKED_AFTER = 0.3  # seconds; a connection's thread looks for another each quarter of a second
 TRIPS = 100  # round trips
 MOST_TRIP = 0.04  # seconds; a thread that nobody wakes waits a tenth of a second
 TOGETHER = 100  # orders in one write
@@ -482,6 +487,40 @@ def refusals(part):
         part.end(venue, 0)
 
 
+def old_numbers(venue):
+    return [event for event in venue.events() if is_of(event, "refused", {"cause": "numbers_restarted"})]
+
+
+def restarted(part):
+    port = part.ports.pop(0)
+    logon = "49=BETA|56=SEF|34=3|98=0|108=30|1137=9|"
+    with tempfile.TemporaryDirectory() as folder:
+        kept = "--trail", os.path.join(folder, "trail")
+        with Venue(part.program, part.files, port, *kept) as venue:
+            beta = logged_on(venue.await_start(), "BETA")
+            beta.send("D", limit_order("b1", 1, 1), quietly=True)
+            beta.await_field("150=0", quietly=True)
+        with Venue(part.program, part.files, port, *kept) as venue:
+            venue.await_start()
+            for _ in range(3):
+                came = refused(part, venue, "BETA", "A", logon, cause="numbers_restarted")
+                found = [field(came, tag) for tag in (35, 34, 58)], came.count(b"8=FIXT.1.1")
+                expect("a Logon above 1", found, ([b"5", b"1", b"Sequence numbers began anew, reset (141=Y)"], 1))
+            wait_until(lambda: len(old_numbers(venue)) == 3, 5, lambda: f"refusals: {len(old_numbers(venue))}", 0.02)
+            beta = client_of(venue, "BETA")
+            beta.send("A", "98=0|108=30|1137=9|", quietly=True)
+            part.compare("a Logon at 1", field(beta.await_field("35=A", quietly=True), 34), b"1")
+            beta.send("F", "11=b2|41=b1|", quietly=True)
+            beta.await_field("150=4", quietly=True)
+            part.end(venue, 2)
+    with Venue(part.program, part.files, port) as venue:
+        beta = client_of(venue.await_start(), "BETA")
+        beta.number = 2
+        log_on(beta)
+        part.compare("without a trail is requested", field(beta.await_field("35=2", quietly=True), 7), b"1")
+        part.end(venue, 0)
+
+
 def ahead(client, number):
     """A Heartbeat under this number."""
     client.number = number - 1
@@ -547,9 +586,13 @@ def hour(part):
             beta.await_field("150=0", quietly=True)
             alpha = logged_on(venue, "ALPHA", heartbeat=0)
             ended_by_a_gap(part, venue, alpha, 60.0, 5.0)
-            # (the file of the first minute is that of the start)
-            wait_until(lambda: taken_of(metrics, "BETA") == 1, 20, "no metrics after a minute", 0.1)
-            part.print(f"after a minute: {len(metrics_of(metrics))} metrics")
+            wait_until(lambda: stands_of(metrics_of(metrics), "ALPHA") == (0, 2, 3, 0), 15, "no metrics after a minute", 0.1)
+            found = metrics_of(metrics)
+            part.print(f"after a minute: {len(found)} metrics")
+            part.compare("taken of BETA", taken_of(metrics, "BETA"), 1)
+            for name, stands in (("BETA", (1, 3, 3, 0)), ("DELTA", (0, 1, 1, 0))):
+                part.compare(f"how {name} stands", stands_of(found, name), stands)
+            part.compare("figures of a trail", [metric for metric in found if metric.startswith("sef_rows")], [])
             beta.send("F", "11=b2|41=b1|", quietly=True)
             beta.await_field("150=4", quietly=True)
             # (a request has no reply to who sent it)
@@ -575,6 +618,12 @@ def taken_of(metrics, name):
     return metrics_of(metrics).get(f'sef_messages_taken_total{{participant="{name}"}}')
 
 
+def stands_of(found, name):
+    """Whether a participant is logged on, its next numbers, and the replies that wait for it."""
+    gauges = ("sef_logged_on", "sef_next_in", "sef_next_out", "sef_replies_waiting")
+    return tuple(found.get(f'{gauge}{{participant="{name}"}}') for gauge in gauges)
+
+
 def metrics_of(path):
     """The values of a file in Prometheus's text format, by name and labels."""
     found = {}
@@ -592,6 +641,8 @@ def compare_metrics(part, found, ends):
         for metric, key in {**keys, "sef_turns_left": "turns_left"}.items():
             value = found.get(f'{metric}{{participant="{name}"}}')
             part.compare(f"{metric} of {name}", value, float(ends[name][key]))
+        numbers = (float(ends[name]["next_in"]), float(ends[name]["next_out"]))
+        part.compare(f"how {name} stands", stands_of(found, name), (0, *numbers, 0))
     part.compare("turns of the worker", found.get("sef_worker_turns_left"), float(ends["worker"]["turns_left"]))
 
 
@@ -691,6 +742,41 @@ def newcomers(part):
         took = seconds_until_end(held, since, 20)
         if took > 5:
             raise SystemExit(f"a probe of a line that is heard was closed after {took:.1f} s")
+        part.end(venue, 0)
+
+
+def come_back(venue, name):
+    """Sends a message, ends the connection and opens the next one at once, again and again."""
+    client = logged_on(venue, name)
+    for _ in range(RECONNECTS):
+        time.sleep(LOOKED_AFTER)
+        client.send("1", "112=last|", quietly=True)
+        client.close()
+        number = client.number
+        try:
+            client = at_number(venue, name, number)
+        except (SystemExit, ConnectionError):
+            client = at_number(venue, name, number)
+
+
+def at_number(venue, name, number):
+    """A client on another connection that goes on behind this number."""
+    client = client_of(venue, name)
+    client.number = number
+    log_on(client)
+    return client
+
+
+def reconnects(part):
+    with part.venue() as venue:
+        venue.await_start()
+        with concurrent.futures.ThreadPoolExecutor(len(PARTICIPANTS)) as pool:
+            for done in [pool.submit(come_back, venue, name) for name in PARTICIPANTS]:
+                done.result()
+        closed_seconds = [event for event in venue.events() if event["event"] == "second_closed"]
+        # (a busy machine may handle the end of a connection behind the beginning of the next)
+        part.print(f"of {RECONNECTS * len(PARTICIPANTS)} connections {len(closed_seconds)} were closed")
+        expect("more than one was closed", closed_seconds[1:], [])
         part.end(venue, 0)
 
 
@@ -1203,8 +1289,8 @@ def pace(part):
 
 
 PARTS = [
-    stop, eof, worker, session, refusals, gaps, hour, troubles, places, newcomers, stalls, logouts, clock, eras, slow,
-    failing, starts, unread, lost, ports, moments, again, full,
+    stop, eof, worker, session, refusals, restarted, gaps, hour, troubles, places, newcomers, reconnects, stalls, logouts, clock,
+    eras, slow, failing, starts, unread, lost, ports, moments, again, full,
 ]  # fmt: skip
 ALONE = [turns, pace]
 

@@ -224,6 +224,25 @@ def ends(market):
     print("a quote ends with its request or before", flush=True)
 
 
+def two_sided(market):
+    """Prices of a maker in the book: the far side moves first; a related participant's order in front."""
+    epsilon = market.clients["EPSILON"]
+
+    def moved(own, old, price):
+        return epsilon.answers("G", f"11={own}|41={old}|38=10|40=2|44={price}|")[0]
+
+    for own, side, price in (("bid", 1, "2.4"), ("offer", 2, "2.4025")):
+        expect(own, "|150=0|" in epsilon.answers("D", f"11={own}|55=IRS5Y|54={side}|38=10|40=2|44={price}|")[0], True)
+    expect("the bid first", moved("bid2", "bid", "2.4025").endswith("|102=99|58=Linked order too recent|"), True)
+    expect("the offer first", "|150=5|" in moved("offer2", "offer", "2.405"), True)
+    expect("the old bid then", "|150=5|" in moved("bid2", "bid", "2.4025"), True)
+    for name, quantity in (("GAMMA", 1), ("DELTA", 10)):
+        market.clients[name].answers("D", f"11=front|55=SHORT|54=2|38={quantity}|40=2|44=2.5|")
+    came = market.clients["BETA"].answers("D", "11=back|55=SHORT|54=1|38=5|40=2|44=2.5|")
+    expect("a related order in front", [it.endswith("|103=99|58=Linked order too recent|") for it in came], [True])
+    print("prices in the book move with the far side first", flush=True)
+
+
 def outlived(market):
     """A connection, an era, the venue's process: the quote is hit after each."""
     room = market.ask()
@@ -260,7 +279,7 @@ def main():
         market = Market(sys.argv[2], Files(folder, SHORT), int(sys.argv[1]), trail)
         with market.venue:
             conversation(market)
-            for part in (others, sides, replaced, equal_prices, ends):
+            for part in (others, sides, replaced, equal_prices, ends, two_sided):
                 part(market)
             outlived(market)
             market.end()

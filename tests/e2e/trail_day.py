@@ -10,8 +10,8 @@ read back.
    reports that it is held; sef_replay reads the trade, and a copy of the file and its log has it. The venue closes, and
    the file alone has all rows.
 2. A venue begins again from the file. Its sessions' numbers begin at 1. ALPHA's order, sent again, is refused as a
-   duplicate; its leaves quantity rests, and DELTA trades with it. The venue closes, and its closing line counts the
-   rows of both runs.
+   duplicate, with its number; its leaves quantity rests, and DELTA trades with it. The venue closes, and its closing
+   line counts the rows of both runs.
 3. A venue is killed (SIGKILL) while ALPHA sends orders. Each answered order has its row, and a venue begins from them.
 4. A venue whose log may not grow past some size ends its sessions, prints `stopped: trail` and stops. Each answered
    order has its row.
@@ -126,7 +126,7 @@ def second_run(day):
     alpha.log_on()
     # The session's numbers begin at 1 again, and a1 was used on this day.
     alpha.send("D", limit_order("a1", 1, 100))
-    alpha.await_field("103=6")
+    compared("the order that rests", field(alpha.await_field("103=6"), 37), b"O1")
     delta = Client("DELTA", venue.port + 3)
     delta.log_on()
     delta.send("D", limit_order("d2", 2, 60))

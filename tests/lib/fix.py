@@ -32,7 +32,7 @@ Served venues
         with Venue(..) as venue:    killed at the end where it is still up
         .await_start()              waits until each port listens, and returns the venue
         .log()                      all that it wrote to standard error so far
-        .events(), .faults()        its events so far (below); the lines that are neither an event nor name a port
+        .events(), .faults()        its events so far (below); the other lines, but for those of its start
         .is_up(), .stop()           stop: SIGKILL, and its end is awaited
         .end()                      ends it by its stop file, and returns its output
         .process, .port             the Popen; the first of its ports, one for each participant
@@ -64,6 +64,8 @@ ENDLESS = 1_000_000_000  # turns of a venue
 ANSWER_SECONDS = 10.0  # for an answer
 START_SECONDS = 60.0  # until a venue listens
 END_SECONDS = 150.0  # until a venue that is stopped has ended: it may wait two minutes for a slow disk
+# What a venue without a trail says at its start.
+NO_TRAIL = "venue_main: no trail: "
 # An event of a venue behind its fixed lines, with the moment in RFC 3339 UTC.
 EVENT = re.compile(r"(?:venue_main: )?([0-9]{4}-[0-9]{2}-[0-9]{2}T[0-9:.]+Z) (.*)")
 CHECKSUM = re.compile(rb"\x0110=[0-9]{3}\x01")
@@ -255,7 +257,7 @@ class Venue:
         return events_of(self.log())
 
     def faults(self):
-        return "".join(line for line in without_events(self.log()).splitlines(True) if " at 127.0.0.1:" not in line)
+        return "".join(line for line in without_events(self.log()).splitlines(True) if not is_of_start(line))
 
     def is_up(self):
         return self.process.poll() is None
@@ -286,6 +288,10 @@ class Venue:
         if self.is_up():
             self.process.kill()
         self.process.wait()
+
+
+def is_of_start(line):
+    return " at 127.0.0.1:" in line or line.startswith(NO_TRAIL)
 
 
 def serve_command(program, files, port, *options, turns=ENDLESS):

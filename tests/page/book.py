@@ -32,8 +32,8 @@ class Book:
         before = {}
         for reply in row.replies:
             report = dict(reversed(reply.fields))
-            # (a trade in a request has the number of its room in the place of an order's)
-            if report["35"] == "8" and report["37"].startswith("O"):
+            # (a trade in a request has the number of its room in the place of an order's; a refusal may name an order)
+            if report["35"] == "8" and report["150"] != "8" and report["37"].startswith("O"):
                 before.setdefault(report["55"], self.top(report["55"]))
                 self.report(reply.to, row.message, report)
         return [(symbol, *self.top(symbol)) for symbol in before if self.top(symbol) != before[symbol]]

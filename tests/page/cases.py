@@ -30,8 +30,9 @@ CROSSES = [
     (1, 4000, cross("k3", "I2", 2.5, 10, "a5", "a6", "2", "21")), (4, 4100, order("d1", "I2", 1, 6, 2.5)),
     (5, 4200, order("e1", "I2", 2, 8, 2.5)), (0, 5001, ""), (5, 5100, cancel("e2", "e1")),
     (1, 5200, cross("k4", "I2", 2.5, 10, "a7", "a8", "2")), (0, 6300, ""),
-    # it meets nobody: the first was cancelled; then it is cancelled as the order that it is
-    (1, 7000, cross("k5", "I2", 2.4, 10, "a9", "a10")), (1, 7100, cancel("a11", "a9")), (0, 8000, ""),
+    # it meets nobody: the first was cancelled, after a duplicate was refused that named it; then it is cancelled itself
+    (1, 7000, cross("k5", "I2", 2.4, 10, "a9", "a10")), (1, 7050, order("a9", "I2", 1, 10, 2.4)),
+    (1, 7100, cancel("a11", "a9")), (0, 8000, ""),
     (1, 8100, cancel("a12", "a10")), (1, 8200, cancel("a13", "a10")),
     # of three that are held, with the identifiers of another's, the second and then the first are cancelled
     (1, 9000, cross("k6", "I2", 2.4, 10, "a14", "a15")), (1, 9001, cross("k7", "I2", 2.4, 10, "a16", "a17")),

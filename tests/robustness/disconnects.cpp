@@ -8,7 +8,8 @@
 // Expected: each message is answered once, in order; each report of the venue (17) is received once by one of the
 // two, and none is missing; each trade (880) is received once by both, for the same quantity; the book is empty in
 // the end. Prints one line of words and numbers. The venue may close a connection CLOSES (0) times; one that it closes
-// unanswered, as it takes the one before for alive, is tried again. Where nobody listens any more, or nothing comes for
+// unanswered, as it takes the one before for alive, is tried again; where that lost its first Logon, a venue with a
+// trail refuses the next number, and it begins at 1 again. Where nobody listens any more, or nothing comes for
 // PATIENCE (10) seconds, the status is 3; else, where anything is not as expected, it is 1.
 #include <algorithm>
 #include <arpa/inet.h>
@@ -33,6 +34,7 @@ namespace {
 constexpr long WINDOW = 256; // messages that may wait for their answers
 constexpr int TRIES = 5000;  // of a connection, one each millisecond
 constexpr const char *AT = "20250303-14:30:00";
+constexpr const char *RESET = "Sequence numbers began anew, reset (141=Y)";
 
 std::string fields(std::string text) {
     std::replace(text.begin(), text.end(), '|', '\x01');
@@ -99,6 +101,7 @@ struct Client {
     Seen &seen;
     int line = -1;
     bool on = false;               // the venue answered the Logon
+    bool is_refused = false;       // by a Logout: the numbers have to begin at 1
     int tries = 0;                 // connections that were closed unanswered, since one was answered
     std::vector<std::string> sent{}; // by number from 1: an application message without its header, or nothing
     long due = 1;                  // the venue's next number
@@ -223,6 +226,10 @@ struct Client {
             over = true;
             return;
         }
+        if (type == "5" && begun == 0 && value(message, "58=") == RESET) {
+            is_refused = true;
+            return;
+        }
         if (type != "A" && type != "2" && type != "4" && type != "8" && type != "9" && type != "W") fail(name, "not expected", message);
         if (type == "A") {
             on = true;
@@ -255,6 +262,8 @@ struct Client {
             fail(name, "the venue closed the connection");
         }
         close(line);
+        if (is_refused) sent.clear();
+        is_refused = false;
         open();
     }
 

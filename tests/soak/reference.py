@@ -199,8 +199,11 @@ class Reference:
         )
 
     def refuse_order(self, who, name, symbol, side, cause):
+        """The report of a refusal; that of a duplicate names the order that rests under its 11."""
         self.causes[cause[1]] += 1
-        self.report(who, "NONE", "88", symbol, side, 0, 0, f"11={name}|103={cause[0]}|58={cause[1]}|")
+        _, order = self.resting.get((who, name), (None, None)) if cause[0] == 6 else (None, None)
+        number = "NONE" if order is None else f"O{order.number}"
+        self.report(who, number, "88", symbol, side, 0, 0, f"11={name}|103={cause[0]}|58={cause[1]}|")
 
     def refuse_change(self, who, kind, fields, found, cause):
         self.causes[cause[1]] += 1

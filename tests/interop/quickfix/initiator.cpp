@@ -7,6 +7,9 @@
 //   NAME send BODY                   an application message: 35=..| and its fields, without the header; <+30> in it is
 //                                    the moment 30 seconds from now
 //   NAME resets yes | no             whether its next Logons reset the numbers (141=Y)
+//   NAME repeats yes | no            whether it sends again what the venue requests (no: DoNotSend in toApp for 43=Y)
+//   NAME numbers OUT IN              its store's next numbers, while it is not connected
+//   NAME empties                     its store begins at 1 again
 //   NAME resend FIRST LAST           asks the venue to send these numbers again
 //   NAME hears FIELDS                waits for a message with all these fields, after those that were awaited before
 //   NAME ends                        waits until a session that was logged on has lost its connection, after those ends
@@ -28,6 +31,7 @@
 #include <iostream>
 #include <map>
 #include <mutex>
+#include <set>
 #include <sstream>
 #include <stdexcept>
 #include <string>
@@ -125,12 +129,25 @@ struct Logs : FIX::LogFactory {
 
 struct Client : FIX::Application {
     Received &received;
+    std::mutex lock;
+    std::set<std::string> without_repeats;
     explicit Client(Received &received) : received(received) {}
+
+    void repeats(const std::string &name, bool is_wanted) {
+        std::lock_guard<std::mutex> held(lock);
+        is_wanted ? (void)without_repeats.erase(name) : (void)without_repeats.insert(name);
+    }
+
     void onCreate(const FIX::SessionID &) override {}
     void onLogon(const FIX::SessionID &) override {}
     void onLogout(const FIX::SessionID &session) override { received.end(session.getSenderCompID().getValue()); }
     void toAdmin(FIX::Message &, const FIX::SessionID &) override {}
-    void toApp(FIX::Message &, const FIX::SessionID &) throw(FIX::DoNotSend) override {}
+    void toApp(FIX::Message &message, const FIX::SessionID &session) throw(FIX::DoNotSend) override {
+        FIX::PossDupFlag is_repeat(false);
+        message.getHeader().getFieldIfSet(is_repeat);
+        std::lock_guard<std::mutex> held(lock);
+        if (is_repeat && without_repeats.count(session.getSenderCompID().getValue())) throw FIX::DoNotSend();
+    }
     void fromAdmin(const FIX::Message &, const FIX::SessionID &) throw(FIX::FieldNotFound, FIX::IncorrectDataFormat, FIX::IncorrectTagValue, FIX::RejectLogon) override {}
     void fromApp(const FIX::Message &, const FIX::SessionID &) throw(FIX::FieldNotFound, FIX::IncorrectDataFormat, FIX::IncorrectTagValue, FIX::UnsupportedMessageType) override {}
 };
@@ -162,6 +179,7 @@ FIX::Message message_of(std::string body, const FIX::DataDictionary &transport, 
 
 struct Runner {
     Received &received;
+    Client &client;
     std::map<std::string, FIX::SessionID> sessions;
     FIX::DataDictionary transport, application;
 
@@ -183,15 +201,22 @@ struct Runner {
         if (verb == "logout") return session.logout();
         if (verb == "break") return session.disconnect();
         if (verb == "resets") return session.setResetOnLogon(rest == "yes");
+        if (verb == "repeats") return client.repeats(name, rest == "yes");
+        if (verb == "empties") return session.reset();
         if (verb == "send") {
             FIX::Message message = message_of(with_moments(rest), transport, application);
             FIX::Session::sendToTarget(message, sessions[name]);
+            return;
+        }
+        std::istringstream numbers(rest);
+        int first, last;
+        numbers >> first >> last;
+        if (verb == "numbers") {
+            session.setNextSenderMsgSeqNum(first);
+            session.setNextTargetMsgSeqNum(last);
         } else if (verb == "resend") {
             FIX::Message message;
             message.getHeader().setField(FIX::MsgType("2"));
-            std::istringstream numbers(rest);
-            int first, last;
-            numbers >> first >> last;
             message.setField(FIX::BeginSeqNo(first));
             message.setField(FIX::EndSeqNo(last));
             FIX::Session::sendToTarget(message, sessions[name]);
@@ -214,7 +239,7 @@ int main(int count, char **words) {
         FIX::SessionSettings settings(words[1]);
         FIX::FileStoreFactory stores(settings);
         const FIX::Dictionary &all = settings.get();
-        Runner runner{received, {}, FIX::DataDictionary(all.getString("TransportDataDictionary")), FIX::DataDictionary(all.getString("AppDataDictionary"))};
+        Runner runner{received, client, {}, FIX::DataDictionary(all.getString("TransportDataDictionary")), FIX::DataDictionary(all.getString("AppDataDictionary"))};
         for (const FIX::SessionID &session : settings.getSessions()) runner.sessions[session.getSenderCompID().getValue()] = session;
         FIX::ThreadedSocketInitiator initiator(client, stores, settings, logs);
         // none logs on before the script says so
