@@ -11,10 +11,14 @@ usage: copies.py VENUE_MAIN [SEF_REPLAY]
 3. Refused are a copy with a changed byte, one whose digest was changed too, one without its log, an older copy under
    the moment of a newer one, and the signature of another key.
 4. With SEF_REPLAY the trades of the day are kept and signed with its last copy.
+5. A trail and its log are deleted under a venue that trades. The next copy fails. What the process has still is saved:
+   with SEF_REPLAY its digest is that of the venue's last head, and a venue starts from it.
 """
 
 import os
+import re
 import shutil
+import socket
 import subprocess
 import sys
 import tempfile
@@ -162,6 +166,43 @@ class Copies:
         lines = content(os.path.join(day, "trades")).count("\n")
         print(f"the day's {lines} trades are signed with its last copy", flush=True)
 
+    def save(self):
+        """A trail that is deleted under its venue is saved from the process."""
+        folder, gone = os.path.join(self.folder, "third"), os.path.join(self.folder, "third", "day.trail")
+        os.mkdir(folder)
+        port = free_ports(5, 28200)
+        heads = os.path.join(folder, "heads")
+        with Venue(self.venue_main, self.files, port, "--trail", gone, "--heads", heads) as venue:
+            venue.await_start()
+            senders = [Sender("ALPHA", port, 1, 0), Sender("DELTA", port + 3, 2, 0)]
+            for sender in senders:
+                sender.start()
+            await_answers(senders)
+            for name in ("day.trail", "day.trail-wal"):
+                os.remove(os.path.join(folder, name))
+            await_answers(senders)
+            status, output = fails(os.path.join(DEPLOY, "keep_copy"), gone, self.kept, env=self.env)
+            expect("a copy of a deleted trail", (status, "there is no trail" in output), (1, True))
+            for sender in senders:
+                sender.client.connection.shutdown(socket.SHUT_RDWR)
+                sender.join(30)
+            time.sleep(3)  # (a line of the heads a second)
+            before = answered(senders)
+            saved = script("save_deleted", str(venue.process.pid), os.path.join(self.folder, "saved"), env=self.env).strip()
+            expect("answered, and not in what was saved", sorted({*before} - ids_in(saved, self.folder))[:5], [])
+            venue.end()
+        head = content(heads).splitlines()[-1].split()
+        if os.path.exists(os.path.join(saved, "digest")):
+            expect("the digest of the last head", content(os.path.join(saved, "digest")).split(), [head[0], head[-1]])
+        script("restore_copy", os.path.join(self.folder, "saved"), gone, env=self.env)
+        with Venue(self.venue_main, self.files, port, "--trail", gone) as venue:
+            venue.await_start()
+            found = dict(re.findall(r"(closed sessions \d+ taken) (\d+)", venue.end()))
+        expect("rows in the venue that starts again", [*found.values()], [head[0]])
+        status, output = fails(os.path.join(DEPLOY, "save_deleted"), str(os.getpid()), os.path.join(self.folder, "saved"), env=self.env)
+        expect("a process without a trail", (status, "no deleted trail" in output), (1, True))
+        print(f"a trail that was deleted is saved from the process: {head[0]} rows", flush=True)
+
 
 def change_byte(copy):
     path = os.path.join(copy, "day.trail")
@@ -188,6 +229,7 @@ def main():
         copies.refuse(copy)
         if len(sys.argv) == 3:
             copies.keep_trades()
+        copies.save()
     print("what was answered before a copy began is in it")
 
 
