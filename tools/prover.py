@@ -4,11 +4,13 @@ import re
 import shutil
 import subprocess
 import tempfile
+import time
 
 from repository import PARTS, crates_below, folder_of, library_of, text_of
 
-# What antt prints where a proof file names something that the crate no longer has.
-NAME_IS_GONE = re.compile(r"has no field|is not in scope|has no `|was not admitted")
+# What antt prints where a proof file does not fit the crate by its mere shape: it names something that the crate no
+# longer has, or it is of another form than what it has to prove.
+OF_ANOTHER_SHAPE = re.compile(r"has no field|is not in scope|has no `|was not admitted|the two types first differ")
 # What antt prints where it cannot read a text at all, so that nothing was tried. (rt goes by the same words for
 # must-fail edits.)
 CANNOT_READ = re.compile(r"is not in scope|has no field|is no name|operand is missing|expected the end|cannot continue")
@@ -52,15 +54,39 @@ class Killed(Exception):
     """The prover was killed, most likely for lack of memory."""
 
 
-def ask(crate, uses, kept, edits, only=()):
-    """The prover's answer about the crate with these edits, or about these functions of it alone."""
+class OutOfTime(Exception):
+    """The time was over before the prover had answered."""
+
+
+def ask(crate, uses, kept, ends, edits, only=()):
+    """The prover's answer about the crate with these edits, or about these functions of it alone, until the moment
+    `ends`."""
     with tempfile.TemporaryDirectory(prefix="mutants-") as folder:
         write_edited_copy(crate, edits, folder)
         how = {"cwd": folder, "stdin": subprocess.DEVNULL, "stdout": subprocess.PIPE, "stderr": subprocess.STDOUT}
-        ran = subprocess.run(command(crate, uses, kept, only), errors="replace", check=False, **how)
+        seconds = None if ends == float("inf") else max(0, ends - time.monotonic())
+        try:
+            words = command(crate, uses, kept, only)
+            ran = subprocess.run(words, errors="replace", timeout=seconds, check=False, **how)
+        except subprocess.TimeoutExpired:
+            raise OutOfTime from None
     if ran.returncode < 0:
         raise Killed(f"{crate}: NOT TRIED: the prover was killed by signal {-ran.returncode}")
     return Answer(ran.returncode, ran.stdout)
+
+
+def errors_of(output):
+    """The errors that the prover prints, each with its file. A long one goes on in lines that are indented."""
+    found = []
+    for line in output.split("\n"):
+        begins = re.match(r"(?:\./)?(\S+?):\d+:\d+: error: (.*)$", line)
+        if begins:
+            found.append([begins[1], begins[2]])
+        elif found and found[-1] and line.startswith("  "):
+            found[-1][1] += f" {line.strip()}"
+        else:
+            found.append(None)
+    return [(file, error) for file, error in filter(None, found)]
 
 
 class Answer:
@@ -69,14 +95,14 @@ class Answer:
     is_proved    the crate is proved, or these functions
     was_read     it is not, and all of it was read; where neither holds, `stopped` is the line with the reason
     refused      the functions that it refuses for more than that functions which they call are not proved
-    at_goals     those of them that it refuses at a goal, and not only since a proof file names what is gone, or lacks
+    at_goals     those of them that it refuses at a goal, and not only since a proof file is of another shape, or lacks
                  what is new
     goals        these, and the errors of a law, a definition or a lemma on definitions that is refused
     first        the first line of the output to show
     """
 
     def __init__(self, status, output):
-        self.errors = re.findall(r"(?m)^(?:\./)?(\S+?):\d+:\d+: error: (.*)$", output)
+        self.errors = errors_of(output)
         last = output.rstrip("\n").rpartition("\n")[2]
         unread = [f"{file}: {error}" for file, error in self.errors if is_unread(file, error)]
         stale = ["the kept work of a library could not be used"] if STALE.search(output) else []
@@ -93,12 +119,12 @@ class Answer:
 
     def is_at_goal(self, name, reasons):
         """Whether the function, refused for these reasons, is refused at a goal. Errors in its proof files that are all
-        about names count as none, even where `search` then fails too: an invariant that cannot be read leaves its loop
-        without one."""
+        about their shape count as none, even where `search` then fails too: an invariant that cannot be read leaves its
+        loop without one."""
         folder = f"proofs/{'/'.join(name.split('::')[1:])}/"
         errors = [error for file, error in self.errors if file.startswith(folder)]
         if errors:
-            return any(not NAME_IS_GONE.search(error) for error in errors)
+            return any(not OF_ANOTHER_SHAPE.search(error) for error in errors)
         return any("did not prove" in reason for reason in reasons)
 
 
@@ -119,7 +145,7 @@ def is_false_lemma(file, error):
     """Whether antt refuses a lemma of a file of lemmas for what it states, as where a definition that it cites is
     changed."""
     is_of_lemma = re.match(r"proofs/[^/]*\.antt$", file) and re.match("`[^`]*`: ", error)
-    return bool(is_of_lemma) and not NAME_IS_GONE.search(error)
+    return bool(is_of_lemma) and not OF_ANOTHER_SHAPE.search(error)
 
 
 def is_unread(file, error):

@@ -34,6 +34,10 @@ class Edit:
     fault: str = None
     refuser: str = None
 
+    @property
+    def name(self):
+        return re.sub(r"\.edit$", "", self.label.partition("/")[2])
+
     def goes_with(self, others):
         """Whether it can be tried together with these: each in a function of its own, and none in the text of
         another."""

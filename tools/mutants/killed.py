@@ -1,13 +1,16 @@
-"""The killed-mutants cache, tools/mutants/killed.txt: a fingerprint for each crate whose mutants were all killed in its
-present text.
+"""The killed-mutants cache, tools/mutants/killed.txt: a line for each crate of which no mutant survived in the text of
+this fingerprint. It has the kit that refused them, the day, and the mutants that it refused at no goal, if any.
 
 A mutant is killed by its crate's own text and by what the crates below state: their definitions, their types and their
 contracts. The prover does not read their bodies and proofs, so a fingerprint does not depend on these. It depends on
-the crate, its mutants, what is stated below, the mutation runner, and the toolchain."""
+the crate, its mutants, what is stated below, and the mutation runner. Under another kit an entry is not void, but old:
+those mutants are tried in turn (order.py)."""
+import datetime
 import functools
 import hashlib
 import os
 import subprocess
+from dataclasses import dataclass
 
 from edits import FOLDER
 from functions import bodies_of
@@ -15,7 +18,20 @@ from repository import PARTS, ROOT, crates_below, folder_of, text_of
 
 FILE = f"{ROOT}/tools/mutants/killed.txt"
 RUNNER = ("mutants/edits.py", "mutants/functions.py", "mutants/runner.py", "prover.py", "repository.py")
-HEAD = "# The mutants of these crates were all killed in the text with this fingerprint (tools/mutants/killed.py).\n"
+HEAD = """\
+# Of these crates no mutant survived in the text with this fingerprint (tools/mutants/killed.py): crate, fingerprint, kit,
+# day, and the mutants that were refused at no goal, which shows nothing.
+"""
+
+
+@dataclass(frozen=True)
+class Entry:
+    """What the cache has of a crate."""
+
+    fingerprint: str
+    kit: str
+    day: str
+    at_no_goal: tuple = ()
 
 
 def files_below(folder):
@@ -53,10 +69,16 @@ def stated(crate):
 
 
 @functools.cache
+def kit():
+    """The kit, as one word: its name and the sum of its logic."""
+    version = subprocess.run(["rt", "version"], stdout=subprocess.PIPE, text=True, check=True).stdout
+    return "-".join(word for word in version.split() if word != "logic")
+
+
+@functools.cache
 def runner():
-    """A sum of the mutation runner and the toolchain."""
-    kit = subprocess.run(["rt", "version"], stdout=subprocess.PIPE, text=True, check=True).stdout
-    return sum_of([("kit", kit), *((name, text_of(f"{ROOT}/tools/{name}")) for name in RUNNER)])
+    """A sum of the mutation runner."""
+    return sum_of((name, text_of(f"{ROOT}/tools/{name}")) for name in RUNNER)
 
 
 def fingerprint(crate, uses):
@@ -72,14 +94,20 @@ def fingerprint(crate, uses):
     )
 
 
+def today():
+    return datetime.datetime.now(datetime.timezone.utc).strftime("%Y-%m-%d")
+
+
 def killed():
-    """The fingerprints of the cache, by crate."""
+    """The entries of the cache, by crate."""
     lines = text_of(FILE).split("\n") if os.path.isfile(FILE) else []
-    return dict(line.split() for line in lines if line and not line.startswith("#"))
+    rows = [line.split() for line in lines if line and not line.startswith("#")]
+    return {name: Entry(*row[:3], tuple(row[3:])) for name, *row in rows if len(row) >= 3}
 
 
-def keep(crate, sum_of_it):
-    """Puts a crate's fingerprint into the cache."""
-    kept = {**killed(), crate: sum_of_it}
+def keep(crate, entry):
+    """Puts a crate's entry into the cache."""
+    kept = {**killed(), crate: entry}
+    rows = ([name, it.fingerprint, it.kit, it.day, *it.at_no_goal] for name, it in sorted(kept.items()))
     with open(FILE, "w", encoding="utf-8") as it:
-        it.write(HEAD + "".join(f"{name} {kept[name]}\n" for name in sorted(kept)))
+        it.write(HEAD + "".join(f"{' '.join(row)}\n" for row in rows))
