@@ -7,7 +7,7 @@ The program, and the library of tests/faults/step_clock.c. PORT and the next fou
 
 1. Under a running venue the trail is removed, moved away, or another file is put in its place: the event trail_gone
    and the metric sef_trail_gone say so, messages are answered as before, and the close is done, but ends with
-   `stopped: trail`. Where the file is back at its place before the close, the status is 0.
+   `stopped: trail`. Where the file is back at its place before the close, or its log alone was removed, the status is 0.
 2. A venue whose trail has a row that is an hour ahead of the clock is stopped before a port listens, with both
    moments; of one that is a second ahead it waits, and serves.
 """
@@ -35,6 +35,10 @@ BEHIND = re.compile(
 
 def removed(trail, _aside):
     os.remove(trail)
+    os.remove(trail + "-wal")
+
+
+def log_removed(trail, _aside):
     os.remove(trail + "-wal")
 
 
@@ -71,7 +75,7 @@ def gone(venue):
     return [event["event"] for event in venue.events()].count("trail_gone")
 
 
-def lost(program, port, loses, returns=None):
+def lost(program, port, loses, returns=None, kept=False):
     with tempfile.TemporaryDirectory() as folder:
         trail, metrics, aside = (os.path.join(folder, name) for name in ("day.trail", "day.prom", "aside"))
         with Venue(program, Files(), port, "--trail", trail, "--metrics", metrics) as venue:
@@ -91,7 +95,7 @@ def lost(program, port, loses, returns=None):
                 returns(trail, aside)
             printed = venue.end()
             ended = (venue.process.returncode, printed, venue.faults(), gone(venue))
-            status, faults = (0, "") if returns else (1, STOPPED)
+            status, faults = (0, "") if returns or kept else (1, STOPPED)
             expect(f"how the venue ended ({loses.__name__})", ended, (status, CLOSED.format(ORDERS), faults, 1))
 
 
@@ -131,6 +135,8 @@ def main():
     for loses, returns in ((removed, None), (moved, None), (replaced, None), (moved, moved_back)):
         lost(program, port, loses, returns)
         print(f"{loses.__name__}{' and put back' if returns else ''}: seen")
+    lost(program, port, log_removed, kept=True)
+    print("log_removed: seen, and all rows in the file at the close")
     status, printed, faults = ahead(program, port, library, 3600)
     found = BEHIND.fullmatch(faults)
     if (status, printed) != (1, "") or not found or not found[1] > found[2]:

@@ -1,4 +1,4 @@
-//! The place of a trail: its path, and the file that stood there as it was opened.
+//! The place of a trail: its path, the file that stood there as it was opened, and the log beside it.
 
 ghost use Rattle.std.specs.Prelude.{◌≡◌, IfOk};
 
@@ -14,19 +14,26 @@ struct Node {
     number: u64,
 }
 
-/// A path, and the file there; none where nothing stood there.
+/// A path, and the file there; none where nothing stood there. The log has what was written since the file was opened: it
+/// is there from the first write on.
 #[derive(Drop)]
 pub struct TrailPlace {
     path: String,
     node: Option<Node>,
+    log_path: String,
+    log: Option<Node>,
 }
 
 impl TrailPlace {
     /// The place of a file that is open.
     pub fn of<R: Files>(rt: &R, alloc: Global, path: &str) -> Result<TrailPlace, AllocError> {
+        let mut log_path = String::from_str(alloc, path)?;
+        log_path.push_str("-wal")?;
         Ok(TrailPlace {
             path: String::from_str(alloc, path)?,
             node: node_at(rt, path),
+            log_path,
+            log: None,
         })
     }
 
@@ -35,6 +42,8 @@ impl TrailPlace {
         Ok(TrailPlace {
             path: String::from_str(alloc, &self.path)?,
             node: self.node,
+            log_path: String::from_str(alloc, &self.log_path)?,
+            log: self.log,
         })
     }
 
@@ -45,6 +54,15 @@ impl TrailPlace {
     /// Whether the file that was opened is no longer at its path: it was removed or moved, or another took its place.
     pub fn is_left<R: Files>(&self, rt: &R) -> bool {
         self.node.is_none() || node_at(rt, &self.path) != self.node
+    }
+
+    /// Whether a row could be lost with the process: the file is left, or its log is no longer where it was seen first.
+    pub fn is_at_risk<R: Files>(&mut self, rt: &R) -> bool {
+        let log = node_at(rt, &self.log_path);
+        if self.log.is_none() {
+            self.log = log;
+        }
+        log != self.log || self.is_left(rt)
     }
 }
 

@@ -14,8 +14,8 @@ pub trait VenueFiles {
     /// Replaces the counters that were written before. Whether they were written.
     fn replace_metrics(&mut self, text: &[u8]) -> bool;
 
-    /// Whether there is a trail, and its file is no longer at its path.
-    fn has_lost_trail(&self) -> bool;
+    /// Whether there is a trail, and its file, or the log beside it, is no longer at its path.
+    fn has_lost_trail(&mut self) -> bool;
 }
 
 /// The files on a disk. The one of counters is replaced as a whole: written to another one in its folder, which then
@@ -68,10 +68,10 @@ impl<R: Files + Drop> VenueFiles for WrittenFiles<R> {
         }
     }
 
-    fn has_lost_trail(&self) -> bool {
-        match &self.trail {
+    fn has_lost_trail(&mut self) -> bool {
+        match &mut self.trail {
             None => false,
-            Some(trail) => trail.is_left(&self.rt),
+            Some(trail) => trail.is_at_risk(&self.rt),
         }
     }
 }
