@@ -7,7 +7,7 @@ The program, and the library of tests/faults/step_clock.c. PORT and the next fou
 
 1. Under a running venue the trail is removed, moved away, or another file is put in its place: the event trail_gone
    and the metric sef_trail_gone say so, messages are answered as before, and the close is done, but ends with
-   `stopped: trail`. Where the file is back at its place before the close, or its log alone was removed, the status is 0.
+   `stopped: trail`. Status 0 where the file is back at its place before the close, or its log alone was removed.
 2. A venue whose trail has a row that is an hour ahead of the clock is stopped before a port listens, with both
    moments; of one that is a second ahead it waits, and serves.
 """

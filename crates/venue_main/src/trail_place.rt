@@ -1,4 +1,4 @@
-//! The place of a trail: its path, the file that stood there as it was opened, and the log beside it.
+//! The place of a trail: its path, the file that stood there as it was opened, and that file's log.
 
 ghost use Rattle.std.specs.Prelude.{◌≡◌, IfOk};
 
@@ -14,8 +14,7 @@ struct Node {
     number: u64,
 }
 
-/// A path, and the file there; none where nothing stood there. The log has what was written since the file was opened: it
-/// is there from the first write on.
+/// A path, and the file there; none where nothing stood there. The log has what was written since the file was opened.
 #[derive(Drop)]
 pub struct TrailPlace {
     path: String,

@@ -14,7 +14,7 @@ pub trait VenueFiles {
     /// Replaces the counters that were written before. Whether they were written.
     fn replace_metrics(&mut self, text: &[u8]) -> bool;
 
-    /// Whether there is a trail, and its file, or the log beside it, is no longer at its path.
+    /// Whether there is a trail, and its file, or the log of that, is no longer at its path.
     fn has_lost_trail(&mut self) -> bool;
 }
 
