@@ -2,8 +2,9 @@
 """tools/compile_program.py PROGRAM..: compiles programs as their sources stand, in parallel, by rt try: nothing is
 proved.
 
-A program goes to out/unproved/PROGRAM, with checks of memory compiled in. One that was compiled from this very text
-stays as it is. The status is 1 where a program is not compiled; out/unproved/PROGRAM.log then says why."""
+A program goes to out/unproved/PROGRAM, with checks of memory compiled in, and a line on its build (build_line.py) next
+to it. One that was compiled from this very text stays as it is. The status is 1 where a program is not compiled;
+out/unproved/PROGRAM.log then says why."""
 import functools
 import os
 import subprocess
@@ -12,6 +13,7 @@ import tempfile
 import time
 from concurrent.futures import ThreadPoolExecutor
 
+import build_line
 import prove_program
 import repository
 
@@ -72,15 +74,17 @@ def stamp(program):
 
 def compile_stamped(program, text):
     """Compiles a program, whose text has this sum, where it is not up to date, and returns whether it is compiled."""
-    files = f"{OUT}/{program}", stamp(program)
-    if all(map(os.path.isfile, files)) and repository.text_of(stamp(program)) == text:
-        return True
-    if not compile_program(program):
-        return False
-    # (a text that was edited in the meantime is not the one that was compiled)
-    if prove_program.text_sum(program) == text:
+    built = f"{OUT}/{program}"
+    if not all(map(os.path.isfile, (built, stamp(program)))) or repository.text_of(stamp(program)) != text:
+        build_line.remove(built)
+        if not compile_program(program):
+            return False
+        # (a text that was edited in the meantime is not the one that was compiled)
+        if prove_program.text_sum(program) != text:
+            return True
         with open(stamp(program), "w", encoding="utf-8") as it:
             it.write(text)
+    build_line.write(built, is_proved=False)
     return True
 
 

@@ -5,8 +5,8 @@ time.)
 
 Prints a line for each crate when it is proved: the share of the whole that is proved, by the bytes that the prover
 reads, and, after the first tenth, an estimate of the time that is left. What was built of this very text stays as it
-is. The prover's output goes to out/proving.log. The status is 1 where a crate is refused; then the checks that run are
-completed, and no more are started.
+is. Next to each program comes a line on its build (build_line.py). The prover's output goes to out/proving.log. The
+status is 1 where a crate is refused; then the checks that run are completed, and no more are started.
 """
 import contextlib
 import functools
@@ -16,6 +16,7 @@ import subprocess
 import sys
 import time
 
+import build_line
 import host
 import prover
 import repository
@@ -150,6 +151,7 @@ class Proving:
             os.makedirs(os.path.dirname(built(crate)), exist_ok=True)
             with contextlib.suppress(FileNotFoundError):
                 os.remove(stamp(crate))
+            build_line.remove(built(crate))
             self.sums[crate] = text_sum(crate)
             streams = {"stdin": subprocess.DEVNULL, "stdout": self.log, "stderr": self.log}
             words = build_words(crate, jobs)
@@ -197,6 +199,9 @@ def main(programs):
     if proving.failed:
         print(f"refused: {', '.join(proving.failed)}; the reason is in out/proving.log", file=sys.stderr)
         return 1
+    for program in programs:
+        if is_up_to_date(program, own_sum):
+            build_line.write(built(program), is_proved=True)
     print(f"all is proved, in {minutes(time.monotonic() - proving.began)}")
     return 0
 
