@@ -71,6 +71,15 @@ def order(client, name):
     client.await_field("150=0", quietly=True)
 
 
+def first_order(port):
+    """A client that has logged on and has an order in the book."""
+    client = Client("ALPHA", port)
+    client.send("A", "98=0|108=0|1137=9|141=Y|", quietly=True)
+    client.await_field("35=A", quietly=True)
+    order(client, "a0")
+    return client
+
+
 def gone(venue):
     return [event["event"] for event in venue.events()].count("trail_gone")
 
@@ -80,10 +89,7 @@ def lost(program, port, loses, returns=None, kept=False):
         trail, metrics, aside = (os.path.join(folder, name) for name in ("day.trail", "day.prom", "aside"))
         with Venue(program, Files(), port, "--trail", trail, "--metrics", metrics) as venue:
             venue.await_start()
-            client = Client("ALPHA", port)
-            client.send("A", "98=0|108=0|1137=9|141=Y|", quietly=True)
-            client.await_field("35=A", quietly=True)
-            order(client, "a0")
+            client = first_order(port)
             wait_until(lambda: gone_in(metrics) == "0", WRITTEN_SECONDS, "no metric says that the trail is there")
             expect("events trail_gone before", gone(venue), 0)
             loses(trail, aside)
@@ -109,11 +115,7 @@ def ahead(program, port, library, seconds):
         files = Files()
         with Venue(program, files, port, "--trail", trail, env={**os.environ, "LD_PRELOAD": library, "SHIFT": shift}) as venue:
             venue.await_start()
-            client = Client("ALPHA", port)
-            client.send("A", "98=0|108=0|1137=9|141=Y|", quietly=True)
-            client.await_field("35=A", quietly=True)
-            order(client, "a0")
-            client.close()
+            first_order(port).close()
             expect("the venue ahead", (venue.end(), venue.process.returncode), (CLOSED.format(1), 0))
         if seconds > 2:
             ran = subprocess.run(
