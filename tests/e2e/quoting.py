@@ -243,8 +243,16 @@ def two_sided(market):
     print("prices in the book move with the far side first", flush=True)
 
 
+def begin_again(market):
+    """The venue's process ends and another begins over its trail; all log on again."""
+    market.end()
+    market.venue = Venue(*market.words).await_start()
+    market.clients = {name: Participant(name, market.venue) for name in PARTICIPANTS}
+
+
 def outlived(market):
-    """A connection, an era, the venue's process: the quote is hit after each."""
+    """A connection, an era, the venue's process: the quote is hit after each. A hit while its maker is away is not
+    reported by the next process."""
     room = market.ask()
     number, _ = market.accepted(room, "133=2.5|")
     market.clients["EPSILON"].close()
@@ -253,11 +261,14 @@ def outlived(market):
     market.fill(room)
     room = market.ask()
     number, _ = market.accepted(room, "133=2.5|")
-    market.end()
-    market.venue = Venue(*market.words).await_start()
-    market.clients = {name: Participant(name, market.venue) for name in PARTICIPANTS}
+    begin_again(market)
     market.respond(number)
     market.fill(room)
+    number, _ = market.accepted(market.ask(), "133=2.5|")
+    market.clients["EPSILON"].close()
+    market.respond(number)
+    begin_again(market)
+    expect("of a hit before a restart", market.clients["EPSILON"].sent(), [])
     print("it outlives a connection, a reset and a restart", flush=True)
 
 
