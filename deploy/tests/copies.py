@@ -11,8 +11,9 @@ usage: copies.py VENUE_MAIN [SEF_REPLAY]
 3. Refused are a copy with a changed byte, one whose digest was changed too, one without its log, an older copy under
    the moment of a newer one, and the signature of another key.
 4. With SEF_REPLAY the trades of the day are kept and signed with its last copy.
-5. A trail and its log are deleted under a venue that trades. The next copy fails. What the process has still is saved:
-   with SEF_REPLAY its digest is that of the venue's last head, and a venue starts from it.
+5. A trail and its log, the trail alone, and its log alone are deleted under a venue that trades. The next copy fails, of
+   a lost log by SEF_REPLAY and the heads. What the process has still is saved: with SEF_REPLAY its digest is that of
+   the venue's last head, and a venue starts from it.
 """
 
 import os
@@ -166,42 +167,54 @@ class Copies:
         lines = content(os.path.join(day, "trades")).count("\n")
         print(f"the day's {lines} trades are signed with its last copy", flush=True)
 
-    def save(self):
-        """A trail that is deleted under its venue is saved from the process."""
-        folder, gone = os.path.join(self.folder, "third"), os.path.join(self.folder, "third", "day.trail")
-        os.mkdir(folder)
+    def save(self, *names):
+        """A trail of which these files are deleted under its venue is saved from the process."""
+        folder = tempfile.mkdtemp(dir=self.folder)
+        gone, heads, kept, saved = (os.path.join(folder, name) for name in ("day.trail", "day.heads", "kept", "saved"))
         port = free_ports(5, 28200)
-        heads = os.path.join(folder, "heads")
         with Venue(self.venue_main, self.files, port, "--trail", gone, "--heads", heads) as venue:
             venue.await_start()
             senders = [Sender("ALPHA", port, 1, 0), Sender("DELTA", port + 3, 2, 0)]
             for sender in senders:
                 sender.start()
             await_answers(senders)
-            for name in ("day.trail", "day.trail-wal"):
+            wait_until(lambda: content(heads), LOAD_SECONDS, "no head")
+            for name in names:
                 os.remove(os.path.join(folder, name))
             await_answers(senders)
-            status, output = fails(os.path.join(DEPLOY, "keep_copy"), gone, self.kept, env=self.env)
-            expect("a copy of a deleted trail", (status, "there is no trail" in output), (1, True))
+            self.refuse_lost(gone, kept, "there is no trail" if "day.trail" in names else f"has 0 rows, and {heads} ")
             for sender in senders:
                 sender.client.connection.shutdown(socket.SHUT_RDWR)
                 sender.join(30)
             time.sleep(3)  # (a line of the heads a second)
             before = answered(senders)
-            saved = script("save_deleted", str(venue.process.pid), os.path.join(self.folder, "saved"), env=self.env).strip()
-            expect("answered, and not in what was saved", sorted({*before} - ids_in(saved, self.folder))[:5], [])
+            copy = script("save_deleted", str(venue.process.pid), saved, env=self.env).strip()
+            expect("answered, and not in what was saved", sorted({*before} - ids_in(copy, self.folder))[:5], [])
             venue.end()
         head = content(heads).splitlines()[-1].split()
-        if os.path.exists(os.path.join(saved, "digest")):
-            expect("the digest of the last head", content(os.path.join(saved, "digest")).split(), [head[0], head[-1]])
-        script("restore_copy", os.path.join(self.folder, "saved"), gone, env=self.env)
+        if os.path.exists(os.path.join(copy, "digest")):
+            expect("the digest of the last head", content(os.path.join(copy, "digest")).split(), [head[0], head[-1]])
+        for name in os.listdir(folder):
+            if name.startswith("day.trail"):
+                os.remove(os.path.join(folder, name))
+        script("restore_copy", saved, gone, env=self.env)
         with Venue(self.venue_main, self.files, port, "--trail", gone) as venue:
             venue.await_start()
             found = dict(re.findall(r"(closed sessions \d+ taken) (\d+)", venue.end()))
         expect("rows in the venue that starts again", [*found.values()], [head[0]])
-        status, output = fails(os.path.join(DEPLOY, "save_deleted"), str(os.getpid()), os.path.join(self.folder, "saved"), env=self.env)
+        print(f"deleted and saved from the process: {', '.join(names)}: {head[0]} rows", flush=True)
+
+    def refuse_lost(self, trail, kept, why):
+        """No copy of a trail is kept that lacks what was deleted: without sef_replay one that lacks its file alone."""
+        if os.path.exists(trail) and not os.path.exists(self.env["SEF_REPLAY"]):
+            return
+        status, output = fails(os.path.join(DEPLOY, "keep_copy"), trail, kept, env=self.env)
+        expect(f"a copy of a trail that was deleted: {output}", (status, why in output), (1, True))
+
+    def save_none(self):
+        saved = os.path.join(self.folder, "saved")
+        status, output = fails(os.path.join(DEPLOY, "save_deleted"), str(os.getpid()), saved, env=self.env)
         expect("a process without a trail", (status, "no deleted trail" in output), (1, True))
-        print(f"a trail that was deleted is saved from the process: {head[0]} rows", flush=True)
 
 
 def change_byte(copy):
@@ -229,7 +242,9 @@ def main():
         copies.refuse(copy)
         if len(sys.argv) == 3:
             copies.keep_trades()
-        copies.save()
+        for names in (("day.trail", "day.trail-wal"), ("day.trail",), ("day.trail-wal",)):
+            copies.save(*names)
+        copies.save_none()
     print("what was answered before a copy began is in it")
 
 
