@@ -11,9 +11,9 @@ usage: copies.py VENUE_MAIN [SEF_REPLAY]
 3. Refused are a copy with a changed byte, one whose digest was changed too, one without its log, an older copy under
    the moment of a newer one, and the signature of another key.
 4. With SEF_REPLAY the trades of the day are kept and signed with its last copy.
-5. A trail and its log, the trail alone, and its log alone are deleted under a venue that trades. The next copy fails, of
-   a lost log by SEF_REPLAY and the heads. What the process has still is saved: with SEF_REPLAY its digest is that of
-   the venue's last head, and a venue starts from it.
+5. A trail and its log, the trail alone, and its log alone are deleted under a venue that trades. The next copy fails,
+   of a lost log by SEF_REPLAY and the heads. What the process has still is saved: with SEF_REPLAY its digest is that
+   of the venue's last head, and a venue starts from it.
 """
 
 import os
