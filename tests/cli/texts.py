@@ -1,4 +1,4 @@
-"""Texts that are refused, those of participants before those of instruments; the longest text; trails."""
+"""Texts that are refused, those of participants before those of instruments; the longest text; trails; a stop file."""
 import contextlib
 import os
 import shutil
@@ -63,18 +63,41 @@ def most_rows(program, folder):
 
 
 def trails(program, folder, day):
-    """`serve` with a trail in which a row is missing, and with one that somebody has open."""
-    words = [program, "serve", "--participants", "of_the_day", "--instruments", "rows_of_the_day", "--port", "25960", "--turns", "1", "--trail", "day"]
+    """`check` with a trail of these files and of others; `serve` with one in which a row is missing, and with one that
+    somebody has open."""
+    files = ["--participants", "of_the_day", "--instruments", "rows_of_the_day"]
+    words = [program, "serve", *files, "--port", "25960", "--turns", "1", "--trail", "day"]
     shutil.copy(day, os.path.join(folder, "day"))
     with contextlib.closing(sqlite3.connect(os.path.join(folder, "day"), isolation_level=None)) as database:
         for name, column in (("of_the_day", "participants"), ("rows_of_the_day", "instruments")):
             write(folder, name, bytes(database.execute(f"SELECT {column} FROM head").fetchone()[0]).decode())
         database.execute("UPDATE delay SET ms = 15000")
+    yield from checks_of_a_trail(program, folder, files)
+    with contextlib.closing(sqlite3.connect(os.path.join(folder, "day"), isolation_level=None)) as database:
         database.execute("BEGIN EXCLUSIVE")
         yield "serve with a trail that somebody has open", ran(words, folder), ("", "venue_main: stopped: trail\n", 1)
         database.execute("DELETE FROM item WHERE n = 2")
         database.execute("COMMIT")
     yield "serve with a trail in which a row is missing", ran(words, folder), ("", "venue_main: trail refused 3\n", 3)
+
+
+def checks_of_a_trail(program, folder, files):
+    counts = "participants 5 related 1 instruments 2\n"
+    yield "check of a trail of these files", ran([program, "check", *files, "--trail", "day"], folder), (counts, "", 0)
+    with open(os.path.join(folder, "of_the_day"), encoding="utf-8") as it:
+        commented = write(folder, "commented", "# a comment\n" + it.read())
+    words = [program, "check", "--participants", commented, *files[2:], "--trail", "day"]
+    line = "the trail keeps another participant file: line 1 is the first that differs"
+    yield "check of a trail of other files", ran(words, folder), (counts, f"venue_main: trail refused 2\n  {line}\n", 3)
+
+
+def stops(program, folder):
+    """`serve` with a stop file from before ends, and says why."""
+    words = [program, "serve", "--participants", "participants.toml", "--instruments", "instruments.toml"]
+    words += ["--port", "25970", "--turns", "1000000000", "--stop-file", write(folder, "stop", "")]
+    printed, faults, status = ran(words, folder)
+    line = "venue_main: the stop file stop is there already"
+    yield "serve with a stop file from before", (printed, faults.split("\n")[0], status), ("closed sessions 5 taken 0\n", line, 0)
 
 
 def rows(program, folder, day):
@@ -83,3 +106,4 @@ def rows(program, folder, day):
     yield from lengths(program, folder)
     yield from most_rows(program, folder)
     yield from trails(program, folder, day)
+    yield from stops(program, folder)

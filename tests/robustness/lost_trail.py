@@ -6,8 +6,9 @@ usage: lost_trail.py PORT VENUE_MAIN STEP_CLOCK
 The program, and the library of tests/faults/step_clock.c. PORT and the next four are used.
 
 1. Under a running venue the trail is removed, moved away, or another file is put in its place: the event trail_gone
-   and the metric sef_trail_gone say so, messages are answered as before, and the close is done, but ends with
-   `stopped: trail`. Status 0 where the file is back at its place before the close, or its log alone was removed.
+   and the metric sef_trail_gone say so, messages are answered as before, the figures of the rows are those of the
+   orders, and the close is done, but ends with `stopped: trail`. Status 0 where the file is back at its place before
+   the close, or its log alone was removed.
 2. A venue whose trail has a row that is an hour ahead of the clock is stopped before a port listens, with both
    moments; of one that is a second ahead it waits, and serves.
 """
@@ -56,14 +57,26 @@ def moved_back(trail, aside):
     os.rename(aside, trail)
 
 
-def gone_in(metrics):
-    """The value of sef_trail_gone in the file of counters, where that is written."""
+def figure_in(metrics, name):
+    """The value of a figure in the file of counters, where that is written."""
     try:
         with open(metrics, encoding="utf-8") as file:
-            found = re.search(r"^sef_trail_gone ([01])$", file.read(), re.MULTILINE)
+            found = re.search(rf"^{name} ([0-9.]+)$", file.read(), re.MULTILINE)
     except FileNotFoundError:
         return None
     return found and found[1]
+
+
+def gone_in(metrics):
+    return figure_in(metrics, "sef_trail_gone")
+
+
+def compare_figures(metrics, began):
+    """The figures of a trail whose last row is of an order sent since `began`, of time.monotonic()."""
+    age, commit = (float(figure_in(metrics, f"sef_{name}_seconds")) for name in ("last_row_age", "greatest_commit"))
+    expect("sef_rows", figure_in(metrics, "sef_rows"), str(ORDERS))
+    most = time.monotonic() - began + 1
+    expect(f"0 <= the last row's age {age} < {most}, 0 <= the greatest commit {commit}", 0 <= age < most and commit >= 0, True)
 
 
 def order(client, name):
@@ -94,9 +107,12 @@ def lost(program, port, loses, returns=None, kept=False):
             expect("events trail_gone before", gone(venue), 0)
             loses(trail, aside)
             wait_until(lambda: gone(venue) == 1, SEEN_SECONDS, lambda: f"no event trail_gone: {venue.log()}")
+            began = time.monotonic()
             for k in range(1, ORDERS):
                 order(client, f"a{k}")
             wait_until(lambda: gone_in(metrics) == "1", WRITTEN_SECONDS, "no metric says that the trail is gone")
+            wait_until(lambda: figure_in(metrics, "sef_rows") == str(ORDERS), WRITTEN_SECONDS, "no metric has all rows")
+            compare_figures(metrics, began)
             if returns:
                 returns(trail, aside)
             printed = venue.end()
