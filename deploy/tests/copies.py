@@ -182,7 +182,7 @@ class Copies:
             for name in names:
                 os.remove(os.path.join(folder, name))
             await_answers(senders)
-            self.refuse_lost(gone, kept, "there is no trail" if "day.trail" in names else f"has 0 rows, and {heads} ")
+            self.refuse_lost(gone, kept, "there is no trail" if "day.trail" in names else f" rows, and {heads} ")
             for sender in senders:
                 sender.client.connection.shutdown(socket.SHUT_RDWR)
                 sender.join(30)
@@ -208,8 +208,15 @@ class Copies:
         """No copy of a trail is kept that lacks what was deleted: without sef_replay one that lacks its file alone."""
         if os.path.exists(trail) and not os.path.exists(self.env["SEF_REPLAY"]):
             return
-        status, output = fails(os.path.join(DEPLOY, "keep_copy"), trail, kept, env=self.env)
-        expect(f"a copy of a trail that was deleted: {output}", (status, why in output), (1, True))
+        command = [os.path.join(DEPLOY, "keep_copy"), trail, kept]
+        # (a file into which the log was copied right before has as many rows as the newest head, until the next one)
+        deadline = time.monotonic() + LOAD_SECONDS
+        while True:
+            ran = subprocess.run(command, env=self.env, capture_output=True, text=True, check=False)
+            if ran.returncode or time.monotonic() > deadline:
+                break
+            time.sleep(0.2)
+        expect(f"a copy of a trail that was deleted: {ran.stderr}", (ran.returncode, why in ran.stderr), (1, True))
 
     def save_none(self):
         saved = os.path.join(self.folder, "saved")
